@@ -1,0 +1,61 @@
+-- Question 14: what a call gives where the rectangles pass it, and where they do not.
+use Prim.Native.Nat.{ℕ}
+use mathlib.Core.Path.{_≡_, refl, ap}
+use mathlib.Core.Bool.{Bool, true, false, cond}
+use mathlib.Core.List.{[]}
+use mathlib.Core.Option.{Option, some, none}
+use Rattle.geom.specs.declared.Rect.{Rect}
+use Rattle.geom.specs.declared.Tested.{Tested}
+use Rattle.geom.specs.declared.United.{United}
+use Rattle.geom.specs.declared.NotIntersect.{NotIntersect}
+use Rattle.geom.specs.Geom.{rect, meets, common, intersect, union, pieces}
+use Rattle.geom.specs.Inner.{Fits, Holds}
+use Rattle.geom.specs.Bare.{bothFit, tested, bareUnion, Met, bareIntersect, barePieces, BareNotIntersect}
+use Rattle.geom.proofs.basics.Tests.{says-and}
+use Rattle.geom.proofs.geometry.Facts.{says-fits}
+
+pub both-fits : (a b : Rect) → bothFit a b ≡ true → Fits a × Fits b
+both-fits a b = says-and (says-fits a) (says-fits b) .fact
+
+-- Tests --------------------------------------------------------------------------------------------------------------
+
+abbrev answered : ℕ → Bool → Tested
+answered n t = record { answer = n; yes = t }
+
+pub tested-yes : (fit t v : Bool) → fit ≡ true → v ≡ t → answered 0 v ≡ tested fit t
+tested-yes fit t v f e = rw f (ap (answered 0) e)
+
+pub tested-no : (fit t : Bool) → fit ≡ false → answered 14 false ≡ tested fit t
+tested-no fit t f = rw f
+
+-- Two rectangles -----------------------------------------------------------------------------------------------------
+
+abbrev united : ℕ → Rect → United
+united n r = record { answer = n; rect = r }
+
+abbrev here : ℕ → Option Rect → Met
+here n r = record { answer = n; common = r }
+
+module _ (a b : Rect) where
+  pub united-yes : (u : Rect) → bothFit a b ≡ true → u ≡ union a b → united 0 u ≡ bareUnion a b
+  united-yes u f e = rw f (ap (united 0) e)
+
+  pub united-no : (u : Rect) → bothFit a b ≡ false → u ≡ rect 0 0 0 0 → united 14 u ≡ bareUnion a b
+  united-no u f e = rw f (ap (united 14) e)
+
+  pub met-common : (i : Rect) → bothFit a b ≡ true → meets a b ≡ true → i ≡ common a b → here 0 (some i) ≡ bareIntersect a b
+  unfolding intersect
+  met-common i f m e = rw (f, m, e)
+
+  pub met-apart : bothFit a b ≡ true → meets a b ≡ false → here 0 none ≡ bareIntersect a b
+  unfolding intersect
+  met-apart f m = rw (f, m)
+
+  pub met-refused : bothFit a b ≡ false → here 14 none ≡ bareIntersect a b
+  met-refused f = rw f
+
+  pub pieces-yes : (r : NotIntersect) → bothFit a b ≡ true → r .answer ≡ 0 → Holds (r .pieces) (pieces a b) → BareNotIntersect a b r
+  pieces-yes r f n h = record { answer = rw f n; pieces = rw f h }
+
+  pub pieces-no : (r : NotIntersect) → bothFit a b ≡ false → r .answer ≡ 14 → Holds (r .pieces) [] → BareNotIntersect a b r
+  pieces-no r f n h = record { answer = rw f n; pieces = rw f h }

@@ -1,0 +1,181 @@
+-- What an accepted call that is no redraw keeps, if it leaves no full redraw owed: the order, and of each shown window its place,
+-- its damage, and its mark where it owes none.
+use Prim.Native.Nat.{ℕ, _<_}
+use mathlib.Core.Bool.{Bool, true, false, cond}
+use mathlib.Core.Path.{_≡_, refl, sym, ap}
+use mathlib.Core.List.{List, [], _∷_}
+use mathlib.Core.Option.{none, some}
+use mathlib.Core.Logic.{_⊎_, inl, inr, _≢_}
+use lib.Dec.{eqb}
+use lib.Seq.{getD-set-other}
+use borrow.Author.Tests.{eq-eqb, ne-eqb}
+use Rattle.geom.specs.declared.Rect.{Rect}
+use Rattle.geom.specs.Geom.{width, height}
+use Rattle.geom.specs.Lists.{anyHas}
+use Rattle.geom.proofs.basics.Tests.{clash, on-cond, cond-yes}
+use Rattle.geom.proofs.basics.Lists.{set-in}
+use Rattle.window.specs.declared.Event.{Event}
+use Rattle.window.specs.Window.{Win}
+use Rattle.window.proofs.laws.Damage.{addDirty-old}
+use Rattle.rules.specs.Group as Group
+use Rattle.rules.specs.Store as Store
+use Rattle.rules.specs.Events as Events
+use Rattle.rules.specs.Group.{Group, win, setWin, theWin}
+use Rattle.rules.specs.Order.{shown}
+use Rattle.rules.specs.Events.{topmost, afterPop}
+use Rattle.rules.specs.Calls.{Call, Create, Show, Hide, Drop, Mark, Pop, Move, Resize, Fill, Blit, Route, Redraw, does, accepted}
+use Rattle.rules.specs.Conditions.{owesMark, isRedraw}
+use Rattle.rules.proofs.group.Topmost.{topmost-same}
+use Rattle.rules.proofs.group.Steps.{on-create, on-show, on-hide, on-drop, on-move, on-pop, on-key, on-pointer, on-pointed, on-route, on-resize, on-fill, on-blit}
+use Rattle.rules.proofs.group.Invariant.{Ok, used-below, free-place}
+
+-- What is kept -------------------------------------------------------------------------------------------------------
+
+-- of a window that was v: its place, its damage and more, and its mark where it owes none; f is what becomes of owing one
+pub record Keeps (v v′ : Win) (f : Bool → Bool) : Type 0 where
+  pub at : v′ .at ≡ v .at
+  pub damage : (col row : ℕ) → col < width (v .at) → row < height (v .at) → anyHas (v .damage) col row ≡ true → anyHas (v′ .damage) col row ≡ true
+  pub marks : (u : Bool) → f u ≡ false → ((u ≡ false) × (v′ .marked ≡ v .marked) × (v′ .damage ≡ v .damage)) ⊎ (v′ .marked ≡ true)
+
+-- each window of the order keeps so much
+pub record Calm (g g′ : Group) (f : ℕ → Bool → Bool) : Type 0 where
+  pub c : g′ .c ≡ g .c
+  pub order : g′ .order ≡ g .order
+  pub owed : g′ .owed ≡ g .owed
+  pub each : (id : ℕ) → shown g id ≡ true → Keeps (win g id) (win g′ id) (f id)
+
+-- the topmost window is the same
+pub calm-topmost : (g g′ : Group) (f : ℕ → Bool → Bool) → Calm g g′ f → (px py : ℕ) → topmost g′ px py ≡ topmost g px py
+calm-topmost g g′ f k px py = topmost-same g g′ px py (k .order) (λ id h. k .each id h .at)
+
+-- Changes ------------------------------------------------------------------------------------------------------------
+
+-- who owes no mark afterwards owed none before
+abbrev Keen : (Bool → Bool) → Type 0
+Keen f = (u : Bool) → f u ≡ false → u ≡ false
+
+keeps-same : (v v′ : Win) (f : Bool → Bool) → v′ .at ≡ v .at → v′ .marked ≡ v .marked → v′ .damage ≡ v .damage → Keen f → Keeps v v′ f
+keeps-same v v′ f a m d k = record { at = a; damage = λ col row x y h. rw d h; marks = λ u e. inl (k u e, m, d) }
+
+-- nothing changes
+calm-refl : (g : Group) (f : ℕ → Bool → Bool) → ((id : ℕ) → Keen (f id)) → Calm g g f
+calm-refl g f k = record { c = refl; order = refl; owed = refl; each = λ id h. keeps-same (win g id) (win g id) (f id) refl refl refl (k id) }
+
+-- a window is set
+calm-set : (g : Group) → Ok g → (i : ℕ) (v : Win) (f : ℕ → Bool → Bool) → (shown g i ≡ true → Keeps (win g i) v (f i))
+    → ((id : ℕ) → id ≢ i → Keen (f id)) → Calm g (setWin i (some v) g) f
+calm-set g ok i v f h k = record {
+  c = refl;
+  order = refl;
+  owed = refl;
+  each = λ id s.
+      set-in (λ o. Keeps (win g id) (theWin o) (f id)) (g .windows) i id (some v) none (λ e. rw e at (used-below g id (ok .shown-used id s)))
+      (λ e. rw e (h (rw e at s))) (λ ne. keeps-same (win g id) (win g id) (f id) refl refl refl (k id ne));
+}
+
+-- a window that is not shown goes
+calm-free : (g : Group) (i : ℕ) (f : ℕ → Bool → Bool) → shown g i ≡ false → ((id : ℕ) → Keen (f id)) → Calm g (setWin i none g) f
+calm-free g i f h k = record {
+  c = refl;
+  order = refl;
+  owed = refl;
+  each = λ id s.
+      let e = getD-set-other (g .windows) i id none none (λ q. clash (rw q at s) h) in
+      keeps-same (win g id) (win (setWin i none g) id) (f id) (ap (λ w. theWin w .at) e) (ap (λ w. theWin w .marked) e) (ap (λ w. theWin w .damage) e) (k id);
+}
+
+-- Calls --------------------------------------------------------------------------------------------------------------
+
+-- what becomes of owing a mark
+abbrev pub flag : Group → Call → ℕ → Bool → Bool
+flag g k id u = owesMark id (does g k .id) u k
+
+-- a call leaves a full redraw owed, or keeps that much
+abbrev pub Stays : Group → Call → Group → Type 0
+Stays g k g′ = (g′ .owed ≡ true) ⊎ Calm g g′ (flag g k)
+
+module _ (g : Group) (ok : Ok g) where
+  -- most calls leave it as it was who owes a mark
+  abbrev as-was : ℕ → Bool → Bool
+  as-was id u = u
+
+  as-it-was : Calm g g as-was
+  as-it-was = calm-refl g as-was (λ id u e. e)
+
+  -- a window's queue or cursor changes
+  calm-alike : (i : ℕ) (v : Win) → v .at ≡ win g i .at → v .marked ≡ win g i .marked → v .damage ≡ win g i .damage → Calm g (setWin i (some v) g) as-was
+  calm-alike i v a m d = calm-set g ok i v as-was (λ s. keeps-same (win g i) v (as-was i) a m d (λ u e. e)) (λ id ne u e. e)
+
+  calm-pop : (i : ℕ) (q : List Event) (d : Bool) → Calm g (setWin i (some (afterPop (win g i) q d)) g) as-was
+  calm-pop i [] true = calm-alike i _ refl refl refl
+  calm-pop i [] false = calm-alike i _ refl refl refl
+  calm-pop i (e ∷ q) d = calm-alike i _ refl refl refl
+
+  calm-route : (e : Event) → Calm g (Events.route g e .group) as-was
+  calm-route =
+      on-route P g as-it-was (λ e. on-key P g e (λ u. calm-alike _ _ refl refl refl) (λ u. as-it-was))
+      (λ x y. on-pointed P g x y (λ id t u. calm-alike _ _ refl refl refl) (λ id t u. as-it-was) (λ t. as-it-was))
+      (λ x y e. on-pointer P g x y e (λ id t u. calm-alike _ _ refl refl refl) (λ id t u. as-it-was) (λ t. as-it-was))
+    where
+      P : Group → Type 0
+      P r = Calm g r as-was
+
+  -- a write leaves a mark owed
+  abbrev written : ℕ → ℕ → Bool → Bool
+  written i id u = cond (eqb i id) true u
+
+  written-keen : (i id : ℕ) → Keen (written i id)
+  written-keen i id u e = go (eqb i id) e
+    where
+      go : (q : Bool) → cond q true u ≡ false → u ≡ false
+      go true e = clash refl e
+      go false e = e
+
+  calm-damage : (i : ℕ) (a : Rect) → Calm g (Store.damaged g i a) (written i)
+  calm-damage i a =
+      calm-set g ok i _ (written i)
+      (λ s. record {
+        at = refl;
+        damage = λ col row x y h. addDirty-old _ _ (win g i .damage) a col row x y h;
+        marks = λ u e. clash (ap (λ q. cond q true u) (eq-eqb i i refl)) e;
+      })
+      (λ id ne. written-keen i id)
+
+  calm-write : (i : ℕ) → Calm g g (written i)
+  calm-write i = calm-refl g (written i) (written-keen i)
+
+  stays-create : accepted g Create ≡ true → Stays g Create (does g Create .group)
+  unfolding does Group.create
+  stays-create e =
+      on-create (Stays g Create) g
+      (λ n f. inr (calm-set g ok n Group.newWin (flag g Create)
+      (λ s. clash (ok .shown-used n s) (free-place g n f .1)) (λ id ne u q. rw (f, ne-eqb n id (λ k. ne (sym k))) at q)))
+      (λ f. clash e (rw f))
+
+  stays-mark : (i : ℕ) → accepted g (Mark i) ≡ true → Stays g (Mark i) (does g (Mark i) .group)
+  unfolding does Group.mark
+  stays-mark i e =
+      cond-yes (Stays g (Mark i)) _ _ _ e
+      (inr (calm-set g ok i _ (flag g (Mark i)) (λ s. record { at = refl; damage = λ col row x y h. h; marks = λ u e. inr refl })
+      (λ id ne u e. rw (ne-eqb i id (λ k. ne (sym k))) at e)))
+
+  pub stays : (k : Call) → isRedraw k ≡ false → accepted g k ≡ true → Stays g k (does g k .group)
+  unfolding does
+  stays Create r e = stays-create e
+  stays (Show i) r e = on-show (Stays g (Show i)) g i (λ u. inl refl) (λ u. inr as-it-was)
+  stays (Hide i) r e =
+      on-hide (Stays g (Hide i)) g i (λ u. on-cond (Stays g (Hide i)) (shown g i) _ _ (λ s. inl refl) (λ s. inr as-it-was)) (λ u. inr as-it-was)
+  stays (Drop i) r e =
+      on-drop (Stays g (Drop i)) g i
+      (λ u. on-cond (λ x. Stays g (Drop i) (setWin i none x)) (shown g i) _ _ (λ s. inl refl) (λ s. inr (calm-free g i as-was s (λ id u e. e))))
+      (λ u. inr as-it-was)
+  stays (Mark i) r e = stays-mark i e
+  stays (Pop i) r e = on-pop (Stays g (Pop i)) g i (λ u. inr (calm-pop i (win g i .queue) (win g i .cursor .«is_dirty»))) (λ u. inr as-it-was)
+  stays (Move i x y) r e = on-move (Stays g (Move i x y)) g i x y (λ u. inl refl) (λ u. inr as-it-was)
+  stays (Resize i w h s) r e = on-resize (λ x t. Stays g (Resize i w h s) x) g i w h s (λ u. inl refl) (λ u. inr as-it-was)
+  stays (Fill i a v s) r e =
+      on-fill (λ x t. Stays g (Fill i a v s) x) g i a v s (λ u m. inr (calm-damage i _)) (λ u m. inr (calm-write i)) (λ u. inr (calm-write i))
+  stays (Blit i a d stride s) r e =
+      on-blit (λ x t. Stays g (Blit i a d stride s) x) g i a d stride s (λ u m. inr (calm-write i)) (λ u m. inr (calm-damage i _)) (λ u. inr (calm-write i))
+  stays (Route v) r e = inr (calm-route v)
+  stays (Redraw told w h s screen) r e = clash refl r

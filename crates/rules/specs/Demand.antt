@@ -1,0 +1,123 @@
+-- Demand 3: "a single statement over the list, not one for each call", for every list of calls from a fresh session on.
+use Prim.Native.Nat.{ℕ, _+_, _-_, _*_, _≤_, _<_}
+use mathlib.Core.Path.{_≡_}
+use mathlib.Core.Bool.{Bool, false, not, _&&_, _||_}
+use mathlib.Core.List.{List, [], _∷_, _++_}
+use mathlib.Core.Option.{Option, none, some}
+use mathlib.Core.Logic.{_≢_}
+use lib.Dec.{T, ltb}
+use lib.ListN.{length, getD}
+use Rattle.geom.specs.declared.Rect.{Rect}
+use Rattle.geom.specs.Geom.{left, top, width, height, contains}
+use Rattle.geom.specs.Lists.{anyHas, Disjoint, most}
+use Rattle.window.specs.declared.Event.{Event}
+use Rattle.window.specs.declared.Event.the-variants as Event
+use Rattle.rules.specs.Group.{Group, start, win}
+use Rattle.rules.specs.Order.{isIn, above}
+use Rattle.rules.specs.Visible.{visibleList, rectsOf}
+use Rattle.rules.specs.Events.{route}
+use Rattle.rules.specs.Calls.{Call, does, accepted, after}
+use Rattle.rules.specs.Book.{Book, page, bookOf, topmost}
+use Rattle.rules.specs.Ledger.{waiting, ledgerOf}
+use Rattle.rules.specs.Conditions.{Quiet, Sized, isRedraw, noRedraw, unmarked}
+
+-- Pixels ----------------------------------------------------------------------------------------------------------------
+
+-- the pixel in column px and row py of a screen w wide
+abbrev pub pixelAt : List ℕ → ℕ → ℕ → ℕ → ℕ
+pixelAt screen w px py = getD screen (py * w + px) 0
+
+-- "every pixel under a shown window as the topmost window there has it, and every other pixel as the first left it"; "at (px,py) a
+-- window has its pixel (px−x,py−y)"
+abbrev pub expected : Book → Option ℕ → ℕ → ℕ → ℕ → ℕ
+expected b none px py first = first
+expected b (some id) px py first = page b id .pixel (px - left (page b id .at)) (py - top (page b id .at))
+
+-- "any two accepted redraws in it with no accepted redraw between them": r₁ after the calls ks₁, and r₂ after ks₂ more, under the
+-- conditions
+pub record Two (c : ℕ) (w h : ℕ) (ks₁ : List Call) (r₁ : Call) (ks₂ : List Call) (r₂ : Call) : Type 0 where
+  pub first : T (isRedraw r₁ && accepted (after c ks₁) r₁)
+  pub second : T (isRedraw r₂ && accepted (after c (ks₁ ++ (r₁ ∷ ks₂))) r₂)
+  pub between : T (noRedraw (after c (ks₁ ++ (r₁ ∷ []))) ks₂)
+  pub quiet : Quiet (start c .group) none none (ks₁ ++ (r₁ ∷ (ks₂ ++ (r₂ ∷ []))))
+  pub sized : Sized w h (start c .group) (ks₁ ++ (r₁ ∷ (ks₂ ++ (r₂ ∷ []))))
+  pub marked : (id : ℕ) → T (isIn id (bookOf c (ks₁ ++ (r₁ ∷ ks₂)) .order)) → unmarked id (start c .group) false (ks₁ ++ (r₁ ∷ ks₂)) ≡ false
+
+-- "the second leaves every pixel …": `Shown, above … and topmost at a point … are the book's at the second redraw`
+unfoldable pub Pixels : ℕ → List Call → Type 0
+Pixels c ks =
+    (w h : ℕ) (ks₁ : List Call) (r₁ : Call) (ks₂ : List Call) (r₂ : Call) (rest : List Call) →
+    ks ≡ ks₁ ++ (r₁ ∷ (ks₂ ++ (r₂ ∷ rest))) → Two c w h ks₁ r₁ ks₂ r₂ →
+    (px py : ℕ) → px < w → py < h →
+    pixelAt (does (after c (ks₁ ++ (r₁ ∷ ks₂))) r₂ .screen) w px py
+    ≡ expected (bookOf c (ks₁ ++ (r₁ ∷ ks₂))) (topmost (bookOf c (ks₁ ++ (r₁ ∷ ks₂))) px py) px py
+    (pixelAt (does (after c ks₁) r₁ .screen) w px py)
+
+-- Presses ---------------------------------------------------------------------------------------------------------------
+
+-- "A press is a MouseDown, MouseClick or MouseUp": which, with its button and count
+pub data Press : Type 0 where
+  down up : ℕ → Press
+  click : ℕ → ℕ → Press
+
+abbrev pub pressAt : Press → ℕ → ℕ → Event
+pressAt (down n) x y = Event.MouseDown x y n
+pressAt (up n) x y = Event.MouseUp x y n
+pressAt (click n m) x y = Event.MouseClick x y n m
+
+abbrev pub queueOf : Group → ℕ → List Event
+queueOf g id = win g id .queue
+
+-- "it reaches a window if, position subtracted, it joins the end of that window's queue"
+abbrev pub Reaches : ℕ → List Call → Press → ℕ → ℕ → ℕ → Type 0
+Reaches c ks p px py id =
+    queueOf (route (after c ks) (pressAt p px py) .group) id
+    ≡ queueOf (after c ks) id ++ (pressAt p (px - left (page (bookOf c ks) id .at)) (py - top (page (bookOf c ks) id .at)) ∷ [])
+
+-- the window's queue is as it was
+abbrev pub Unreached : ℕ → List Call → Press → ℕ → ℕ → ℕ → Type 0
+Unreached c ks p px py id = queueOf (route (after c ks) (pressAt p px py) .group) id ≡ queueOf (after c ks) id
+
+-- "a press at any point reaches the topmost window there exactly when fewer than 16 events wait for it, and never another window"
+unfoldable pub Presses : ℕ → List Call → Type 0
+Presses c ks =
+    (p : Press) (px py : ℕ) → px ≤ 32767 → py ≤ 32767 → (id : ℕ) →
+    (topmost (bookOf c ks) px py ≡ some id → waiting (ledgerOf c ks) id < 16 → Reaches c ks p px py id)
+    × (topmost (bookOf c ks) px py ≡ some id → 16 ≤ waiting (ledgerOf c ks) id → Unreached c ks p px py id)
+    × (topmost (bookOf c ks) px py ≢ some id → Unreached c ks p px py id)
+
+-- Visible rectangles ----------------------------------------------------------------------------------------------------
+
+abbrev pub obscured : Book → List ℕ → ℕ → ℕ → Bool
+obscured b [] px py = false
+obscured b (i ∷ rest) px py = contains (page b i .at) px py || obscured b rest px py
+
+-- "Unobscured: its pixels, off the screen too, whose (px,py) is in no rectangle above it."
+abbrev pub unobscured : Book → ℕ → ℕ → ℕ → Bool
+unobscured b id col row =
+    ltb col (width (page b id .at)) && ltb row (height (page b id .at))
+    && not (obscured b (above id (b .order)) (left (page b id .at) + col) (top (page b id .at) + row))
+
+-- the windows shown above a window
+abbrev pub higher : Book → ℕ → ℕ
+higher b id = length (above id (b .order))
+
+-- "disjoint, cover exactly its unobscured pixels, and number at most (k+1)(2k+1), k being the windows shown above it"
+pub record Shows (b : Book) (id : ℕ) (rs : List Rect) : Type 0 where
+  pub disjoint : Disjoint rs
+  pub cover : (col row : ℕ) → anyHas rs col row ≡ unobscured b id col row
+  pub few : length rs ≤ most (higher b id)
+
+-- "Its visible rectangles are those that a call of the visible list then gives, lent room enough": every such call that is
+-- accepted gives them, and one that is lent four numbers for each of the most is accepted
+unfoldable pub Visibles : ℕ → List Call → Type 0
+Visibles c ks =
+    (id : ℕ) (lent : List ℕ) → T (isIn id (bookOf c ks .order)) →
+    let o = visibleList (after c ks) id lent in
+    (4 * most (higher (bookOf c ks) id) ≤ length lent → o .answer ≡ 0)
+    × (o .answer ≡ 0 → Shows (bookOf c ks) id (rectsOf (o .count) (o .list)))
+
+-- Demand 3 --------------------------------------------------------------------------------------------------------------
+
+unfoldable pub Demand3 : Type 0
+Demand3 = (c : ℕ) (ks : List Call) → Pixels c ks × Presses c ks × Visibles c ks

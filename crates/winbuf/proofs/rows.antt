@@ -1,0 +1,3 @@
+-- Rows of pixels in a list: what stands at each place after they were written.
+pub mod Rows
+pub mod Paint

@@ -1,0 +1,2 @@
+-- What everybody must believe of pixels.
+pub mod Pixels

@@ -1,0 +1,73 @@
+-- Document 01, "Pixels". A picture is a list of pixels, row after row.
+use Prim.Native.Nat.{ℕ, zero, suc, _+_, _-_, _*_, min}
+use mathlib.Core.Bool.{Bool, cond, not, _&&_, _||_}
+use mathlib.Core.List.{List, [], _∷_}
+use lib.Dec.{leb, ltb, eqb}
+use lib.ListN.{length, take, drop, replicate}
+use lib.Seq.{sets}
+use Rattle.geom.specs.Questions.{_is_, asked, small}
+
+-- rows 0 to n-1 written in their order, row r from place `at r` on: the form of every write of pixels
+unfoldable pub writeRows : ℕ → (ℕ → ℕ) → (ℕ → List ℕ) → List ℕ → List ℕ
+writeRows zero at row s = s
+writeRows (suc n) at row s = sets (writeRows n at row s) (at n) (row n)
+
+-- the n pixels from place `at` on
+abbrev pub part : ℕ → ℕ → List ℕ → List ℕ
+part at n s = take n (drop at s)
+
+-- Bare pixels: "These calls take lent pixels with a width and height, and no session." -----------------------------------
+
+-- what such a call leaves: its answer, and the part handed back or the pixels after it
+pub record Part : Type 0 where
+  pub answer : ℕ
+  pub pixels : List ℕ
+
+-- where "a scanline (line, ofs, len)" begins, and how long it is, "cut to width − ofs"
+abbrev pub lineStart : ℕ → ℕ → ℕ → ℕ
+lineStart w line ofs = line * w + ofs
+
+abbrev pub lineLength : ℕ → ℕ → ℕ → ℕ
+lineLength w ofs len = min len (w - ofs)
+
+-- question 5: "width, height, line, ofs and len of bare pixels too"
+abbrev pub smallLine : ℕ → ℕ → ℕ → ℕ → ℕ → Bool
+smallLine w h line ofs len = small w && small h && (small line && small ofs && small len)
+
+-- not "line ≥ height or ofs ≥ width"
+abbrev pub onLine : ℕ → ℕ → ℕ → ℕ → Bool
+onLine w h line ofs = ltb line h && ltb ofs w
+
+-- not "a cut part that passes the end of the pixels"
+abbrev pub inSlice : List ℕ → ℕ → ℕ → ℕ → ℕ → Bool
+inSlice ps w line ofs len = leb (lineStart w line ofs + lineLength w ofs len) (length ps)
+
+-- "handed back as a part of the lent pixels …. Width 0 gives an empty part and answer 0; line ≥ height or ofs ≥ width is 13,
+-- and so is a cut part that passes the end of the pixels."
+unfoldable pub scanline : List ℕ → ℕ → ℕ → ℕ → ℕ → ℕ → Part
+scanline ps w h line ofs len =
+    let a : ℕ = asked ((5 is smallLine w h line ofs len) ∷ (13 is (eqb w 0 || onLine w h line ofs && inSlice ps w line ofs len)) ∷ []) in
+    record { answer = a; pixels = cond (eqb a 0 && not (eqb w 0)) (part (lineStart w line ofs) (lineLength w ofs len) ps) [] }
+
+-- "Filling or setting with line ≥ height or ofs ≥ width does nothing and answers 0; past the end of the pixels it is 13."
+-- The values `vs` are written from the scanline's start on.
+unfoldable pub lineWritten : List ℕ → ℕ → ℕ → ℕ → ℕ → ℕ → List ℕ → Part
+lineWritten ps w h line ofs len vs =
+    let a : ℕ = asked ((5 is smallLine w h line ofs len) ∷ (13 is (not (onLine w h line ofs) || inSlice ps w line ofs len)) ∷ []) in
+    record { answer = a; pixels = cond (eqb a 0 && onLine w h line ofs) (sets ps (lineStart w line ofs) vs) ps }
+
+abbrev pub fillScanline : List ℕ → ℕ → ℕ → ℕ → ℕ → ℕ → ℕ → Part
+fillScanline ps w h line ofs len v = lineWritten ps w h line ofs len (replicate (lineLength w ofs len) v)
+
+-- "Setting ends with the shorter of part and data."
+abbrev pub setScanline : List ℕ → ℕ → ℕ → ℕ → ℕ → ℕ → List ℕ → Part
+setScanline ps w h line ofs len vs = lineWritten ps w h line ofs len (take (lineLength w ofs len) vs)
+
+-- "A strided region at (x,y) of w by h starts at x + y × stride and has (h−1) × stride + w pixels; 13 unless h ≥ 1, w ≤ stride
+-- and it ends in the slice."
+unfoldable pub region : List ℕ → ℕ → ℕ → ℕ → ℕ → ℕ → Part
+region ps stride x y w h =
+    let a : ℕ =
+    asked ((5 is (small x && small y && (small w && small h)))
+    ∷ (13 is (leb 1 h && leb w stride && leb (x + y * stride + ((h - 1) * stride + w)) (length ps))) ∷ []) in
+    record { answer = a; pixels = cond (eqb a 0) (part (x + y * stride) ((h - 1) * stride + w) ps) [] }

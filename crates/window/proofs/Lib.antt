@@ -1,0 +1,2 @@
+-- Lemmas on one window.
+pub mod laws

@@ -1,0 +1,2 @@
+-- What the rules of one window keep.
+pub mod Damage

@@ -1,0 +1,2 @@
+-- What everybody must believe of one window.
+pub mod Window
