@@ -1,2 +1,3 @@
 -- What everybody must believe of one window.
 pub mod Window
+pub mod Held

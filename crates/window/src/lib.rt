@@ -1,4 +1,17 @@
-// The events of a window and its cursor: the types that the rules speak of (specs/Window.antt).
+// One window by value: its place, its damage, its queue of events and its cursor. Translated from window.rs and, for `CursorPos`, mod.rs.
+//
+// The functions here are called by our own crates. Each `requires` is part of what a session keeps of its windows (specs/Held.antt).
+ghost use mathlib.Core.Path.{_≡_};
+ghost use mathlib.Core.Bool.{true, false};
+ghost use Rattle.window.specs.Held.{winOf, newWindow, RepWindow};
+use damage::Area;
+use damage::Damage;
+use queue::Queue;
+
+pub mod cursor;
+pub mod damage;
+pub mod queue;
+pub mod slots;
 
 // What a window is told. A point is relative to the window.
 pub enum Event {
@@ -31,12 +44,57 @@ pub enum Event {
     },
 }
 
-// The last point popped, the newest point, and whether that is still to be popped.
+// The last point popped, the newest point, and whether that is still to be popped. A point is at most 32,767 each way.
 #[repr(C)]
 pub struct CursorPos {
-    pub old_x: u32,
-    pub old_y: u32,
-    pub new_x: u32,
-    pub new_y: u32,
+    pub old_x: u16,
+    pub old_y: u16,
+    pub new_x: u16,
+    pub new_y: u16,
     pub is_dirty: bool,
+}
+
+// One of a session's 16 windows. The widest parts stand first, so that nothing is lost between them: 348 bytes.
+#[repr(C)]
+pub struct Window {
+    pub queue: Queue,
+    pub damage: Damage,
+    pub at: Area,
+    pub cursor: CursorPos,
+    pub used: bool,
+    pub marked: bool,
+}
+
+impl Window {
+    // A new window: at (0,0), of no size, unmarked, with no damage and no events, its cursor at (0,0).
+    pub fn fresh() -> Window
+        ensures { λ w. ⌜ (w .used ≡ true) × (winOf w ≡ newWindow) × RepWindow w ⌝ }
+    {
+        let mut w = Window::unused();
+        w.used = true;
+        w
+    }
+
+    // The window of an id that is not in use.
+    pub fn unused() -> Window
+        ensures { λ w. ⌜ (w .used ≡ false) × (winOf w ≡ newWindow) × RepWindow w ⌝ }
+    {
+        let queue = Queue::new();
+        let damage = Damage::none();
+        let cursor = CursorPos::new();
+        let at = Area {
+            x: 0,
+            y: 0,
+            w: 0,
+            h: 0,
+        };
+        Window {
+            queue,
+            damage,
+            at,
+            cursor,
+            used: false,
+            marked: false,
+        }
+    }
 }

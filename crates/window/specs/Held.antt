@@ -1,0 +1,163 @@
+-- How a window is held: arrays of 16 with a count, and numbers of 16 bits. Each part has a view, which the rules of `Window` speak of, and
+-- what the code keeps of it (`Rep…`).
+use Prim.Native.Nat.{ℕ, _≤_, _<_}
+use mathlib.Core.Bool.{true, false, cond}
+use mathlib.Core.Path.{_≡_}
+use mathlib.Core.List.{List, [], _∷_, _++_, map}
+use lib.Dec.{leb, eqb}
+use lib.ListN.{length, take, getD}
+use Rattle.geom.specs.declared.Rect.{Rect}
+use Rattle.geom.specs.Geom.{rect, left, top, width, height, right, bottom}
+use Rattle.window.specs.declared.Event.{Event}
+use Rattle.window.specs.declared.Event.the-variants.{Resize, KeyDown, KeyUp, KeyFire, Text, MouseMove, MouseDown, MouseClick, MouseUp}
+use Rattle.window.specs.declared.CursorPos.{CursorPos}
+use Rattle.window.specs.declared.slots.Slot.{Slot}
+use Rattle.window.specs.declared.queue.Queue.{Queue}
+use Rattle.window.specs.declared.queue.Popped.{Popped}
+use Rattle.window.specs.declared.damage.Area.{Area}
+use Rattle.window.specs.declared.damage.Damage.{Damage}
+use Rattle.window.specs.declared.damage.Merged.{Merged}
+use Rattle.window.specs.declared.Window.{Window}
+use Rattle.window.specs.Window.{Win, pushed, mergeOrAppend, addDirty, cursorAtOrigin}
+
+-- An event in a queue ---------------------------------------------------------------------------------------------------
+
+-- what a queue can hold: no move, and no point beyond 32,767
+abbrev pub Queued : Event → Type 0
+Queued Resize = Unit {0}
+Queued (KeyDown v) = Unit {0}
+Queued (KeyUp v) = Unit {0}
+Queued (KeyFire v) = Unit {0}
+Queued (Text v) = Unit {0}
+Queued (MouseDown x y b) = (x ≤ 32767) × (y ≤ 32767)
+Queued (MouseClick x y b n) = (x ≤ 32767) × (y ≤ 32767)
+Queued (MouseUp x y b) = (x ≤ 32767) × (y ≤ 32767)
+Queued (MouseMove x y dx dy) = ⊥
+
+-- a slot: its kind, value, point, button and count
+abbrev pub slot : ℕ → ℕ → ℕ → ℕ → ℕ → ℕ → Slot
+slot kind value x y button count = record { value = value; x = x; y = y; kind = kind; button = button; count = count }
+
+-- the slot of an event; a move has none
+unfoldable pub slotOf : Event → Slot
+slotOf Resize = slot 0 0 0 0 0 0
+slotOf (KeyDown v) = slot 1 v 0 0 0 0
+slotOf (KeyUp v) = slot 2 v 0 0 0 0
+slotOf (KeyFire v) = slot 3 v 0 0 0 0
+slotOf (Text v) = slot 4 v 0 0 0 0
+slotOf (MouseDown x y b) = slot 5 0 x y b 0
+slotOf (MouseClick x y b n) = slot 6 0 x y b n
+slotOf (MouseUp x y b) = slot 7 0 x y b 0
+slotOf (MouseMove x y dx dy) = slot 0 0 0 0 0 0
+
+-- the event of a slot
+unfoldable pub eventOf : Slot → Event
+eventOf s =
+    cond (eqb (s .kind) 1) (KeyDown (s .value))
+    (cond (eqb (s .kind) 2) (KeyUp (s .value))
+    (cond (eqb (s .kind) 3) (KeyFire (s .value))
+    (cond (eqb (s .kind) 4) (Text (s .value))
+    (cond (eqb (s .kind) 5) (MouseDown (s .x) (s .y) (s .button))
+    (cond (eqb (s .kind) 6) (MouseClick (s .x) (s .y) (s .button) (s .count))
+    (cond (eqb (s .kind) 7) (MouseUp (s .x) (s .y) (s .button)) Resize))))))
+
+-- The queue -------------------------------------------------------------------------------------------------------------
+
+-- the events that wait, oldest first
+abbrev pub events : Queue → List Event
+events q = map eventOf (take (q .len) (q .slots))
+
+pub record RepQueue (q : Queue) : Type 0 where
+  pub slots : length (q .slots) ≡ 16
+  pub len : q .len ≤ 16
+
+-- an event was pushed
+pub record PushedTo (q : Queue) (e : Event) (r : Queue) : Type 0 where
+  pub rep : RepQueue r
+  pub is : events r ≡ pushed (events q) e
+
+-- the oldest event was popped
+pub record PoppedFrom (q : Queue) (r : Popped) : Type 0 where
+  pub rep : RepQueue (r .queue)
+  pub is : events q ≡ r .event ∷ events (r .queue)
+
+-- The cursor ------------------------------------------------------------------------------------------------------------
+
+-- its points are points of a window, so that a difference fits 16 bits with a sign
+pub record RepCursor (p : CursorPos) : Type 0 where
+  pub old-x : p .«old_x» ≤ 32767
+  pub old-y : p .«old_y» ≤ 32767
+  pub new-x : p .«new_x» ≤ 32767
+  pub new-y : p .«new_y» ≤ 32767
+
+-- Damage ----------------------------------------------------------------------------------------------------------------
+
+-- a rectangle that passes question 5
+pub record Small (r : Rect) : Type 0 where
+  pub left≤ : left r ≤ 32767
+  pub top≤ : top r ≤ 32767
+  pub width≤ : width r ≤ 32767
+  pub height≤ : height r ≤ 32767
+
+-- a rectangle whose sides fit 16 bits: small ones, and what merging makes of them
+pub record Low (r : Rect) : Type 0 where
+  pub right≤ : right r ≤ 65534
+  pub bottom≤ : bottom r ≤ 65534
+
+abbrev pub rectOf : Area → Rect
+rectOf a = rect (a .x) (a .y) (a .w) (a .h)
+
+-- what the code reads past the end of the areas
+abbrev pub noArea : Area
+noArea = record { x = 0; y = 0; w = 0; h = 0 }
+
+-- the dirty entries in their order
+abbrev pub rects : Damage → List Rect
+rects d = map rectOf (take (d .len) (d .areas))
+
+pub record RepDamage (d : Damage) : Type 0 where
+  pub areas : length (d .areas) ≡ 16
+  pub len : d .len ≤ 16
+  pub low : (i : ℕ) → i < d .len → Low (rectOf (getD (d .areas) i noArea))
+
+-- the first entry that merges with the area became the union, or there is none
+pub record MergedInto (d : Damage) (a : Rect) (m : Merged) : Type 0 where
+  pub rep : RepDamage (m .damage)
+  pub found : m .done ≡ true → rects (m .damage) ≡ mergeOrAppend (rects d) a
+  pub none : m .done ≡ false → (m .damage ≡ d) × (mergeOrAppend (rects d) a ≡ rects d ++ (a ∷ []))
+
+-- "a 17th entry makes the list the one entry (0,0,w,h)"
+abbrev pub atMost16 : ℕ → ℕ → List Rect → List Rect
+atMost16 w h es = cond (leb (length es) 16) es (rect 0 0 w h ∷ [])
+
+-- an area joined the end of damage
+pub record JoinedTo (w h : ℕ) (d : Damage) (a : Rect) (r : Damage) : Type 0 where
+  pub rep : RepDamage r
+  pub is : rects r ≡ atMost16 w h (rects d ++ (a ∷ []))
+
+-- an area was added to damage
+pub record Dirtied (w h : ℕ) (d : Damage) (a : Rect) (r : Damage) : Type 0 where
+  pub rep : RepDamage r
+  pub is : rects r ≡ addDirty w h (rects d) a
+
+-- The window ------------------------------------------------------------------------------------------------------------
+
+abbrev pub winOf : Window → Win
+winOf w =
+    record {
+      at = rectOf (w .at);
+      marked = w .marked;
+      damage = rects (w .damage);
+      queue = events (w .queue);
+      cursor = w .cursor;
+    }
+
+pub record RepWindow (w : Window) : Type 0 where
+  pub at : Small (rectOf (w .at))
+  pub damage : RepDamage (w .damage)
+  pub queue : RepQueue (w .queue)
+  pub cursor : RepCursor (w .cursor)
+
+-- "at (0,0), size (0,0), hidden, unmarked, no damage, no events, cursor at (0,0)"
+abbrev pub newWindow : Win
+newWindow = record { at = rect 0 0 0 0; marked = false; damage = []; queue = []; cursor = cursorAtOrigin }

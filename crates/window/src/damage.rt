@@ -1,0 +1,220 @@
+// Damage: the areas of a window that changed since it was last drawn.
+ghost use mathlib.Core.Path.{_≡_};
+ghost use mathlib.Core.Bool.{_&&_};
+ghost use mathlib.Core.List.{[], _∷_};
+ghost use Prim.Native.Nat.{_≤_};
+ghost use lib.Dec.{leb, ltb, eqb};
+ghost use Rattle.geom.specs.Geom.{rect, left, top, right, bottom, union};
+ghost use Rattle.geom.specs.Inner.{Fits};
+ghost use Rattle.window.specs.Window as rule;
+ghost use Rattle.window.specs.Held.{Small, Low, rectOf, rects, RepDamage, MergedInto, JoinedTo, Dirtied};
+use geom::Rect;
+use geom::inner;
+
+// A rectangle in 16 bits each way. Also a merged entry's right and bottom sides fit: they are at most 65,534.
+#[repr(C)]
+pub struct Area {
+    pub x: u16,
+    pub y: u16,
+    pub w: u16,
+    pub h: u16,
+}
+
+// The dirty entries: the first `len` areas.
+#[repr(C)]
+pub struct Damage {
+    pub areas: [Area; 16],
+    pub len: u8,
+}
+
+// Damage after the search for an entry to merge with, and whether one was found.
+#[repr(C)]
+pub struct Merged {
+    pub damage: Damage,
+    pub done: bool,
+}
+
+impl Area {
+    pub fn new(x: u32, y: u32, w: u32, h: u32) -> Area
+        requires { ⌜ (x ≤ 65535) × (y ≤ 65535) × (w ≤ 65535) × (h ≤ 65535) ⌝ }
+        ensures { λ a. ⌜ rectOf a ≡ rect x y w h ⌝ }
+    {
+        Area {
+            x: x as u16,
+            y: y as u16,
+            w: w as u16,
+            h: h as u16,
+        }
+    }
+
+    pub fn rect(self) -> Rect
+        ensures { λ r. ⌜ r ≡ rectOf self ⌝ }
+    {
+        Rect::new(self.x as u32, self.y as u32, self.w as u32, self.h as u32)
+    }
+}
+
+impl Damage {
+    // No entry.
+    pub fn none() -> Damage
+        ensures { λ d. ⌜ (rects d ≡ []) × RepDamage d ⌝ }
+    {
+        let blank = Area {
+            x: 0,
+            y: 0,
+            w: 0,
+            h: 0,
+        };
+        let areas = [blank; 16];
+        Damage { areas, len: 0 }
+    }
+
+    // The one entry (0,0,w,h).
+    pub fn whole(w: u32, h: u32) -> Damage
+        requires { ⌜ (w ≤ 32767) × (h ≤ 32767) ⌝ }
+        ensures { λ d. ⌜ (rects d ≡ rect 0 0 w h ∷ []) × RepDamage d ⌝ }
+    {
+        let all = Area::new(0, 0, w, h);
+        let areas = [all; 16];
+        Damage { areas, len: 1 }
+    }
+}
+
+// low < x ≤ high
+fn between(low: u32, x: u32, high: u32) -> bool
+    ensures { λ t. ⌜ t ≡ ltb low x && leb x high ⌝ }
+{
+    if low < x {
+        return x <= high;
+    }
+    false
+}
+
+// Does a side of the area lie in the entry, past the entry's own low side?
+fn touches(elow: u32, ehigh: u32, alow: u32, ahigh: u32) -> bool
+    ensures { λ t. ⌜ t ≡ rule.touches elow ehigh alow ahigh ⌝ }
+{
+    if between(elow, alow, ehigh) {
+        return true;
+    }
+    between(elow, ahigh, ehigh)
+}
+
+// Same top and bottom, and touching from left to right.
+fn merges_across(e: Rect, a: Rect) -> bool
+    requires { ⌜ Fits e × Fits a ⌝ }
+    ensures { λ t. ⌜ t ≡ eqb (top e) (top a) && eqb (bottom e) (bottom a) && rule.touches (left e) (right e) (left a) (right a) ⌝ }
+{
+    if e.pos.y == a.pos.y {
+        if inner::bottom(e) == inner::bottom(a) {
+            return touches(e.pos.x, inner::right(e), a.pos.x, inner::right(a));
+        }
+    }
+    false
+}
+
+// Same left and right, and touching from top to bottom.
+fn merges_down(e: Rect, a: Rect) -> bool
+    requires { ⌜ Fits e × Fits a ⌝ }
+    ensures { λ t. ⌜ t ≡ eqb (left e) (left a) && eqb (right e) (right a) && rule.touches (top e) (bottom e) (top a) (bottom a) ⌝ }
+{
+    if e.pos.x == a.pos.x {
+        if inner::right(e) == inner::right(a) {
+            return touches(e.pos.y, inner::bottom(e), a.pos.y, inner::bottom(a));
+        }
+    }
+    false
+}
+
+fn merges(e: Rect, a: Rect) -> bool
+    requires { ⌜ Fits e × Fits a ⌝ }
+    ensures { λ t. ⌜ t ≡ rule.merges e a ⌝ }
+{
+    if merges_across(e, a) {
+        return true;
+    }
+    merges_down(e, a)
+}
+
+// The entry and the area as one.
+fn joined(e: Rect, area: Rect) -> Area
+    requires { ⌜ Low e × Small area ⌝ }
+    ensures { λ j. ⌜ rectOf j ≡ union e area ⌝ }
+{
+    let u = inner::union(e, area);
+    Area::new(u.pos.x, u.pos.y, u.dims.w, u.dims.h)
+}
+
+// Does an entry contain the area?
+fn any_contains(d: Damage, area: Rect) -> bool
+    requires { ⌜ RepDamage d × Small area ⌝ }
+    ensures { λ t. ⌜ t ≡ rule.anyContains (rects d) area ⌝ }
+{
+    let n = d.len as usize;
+    let mut i: usize = 0;
+    while i < n {
+        let entry = d.areas[i];
+        if inner::contains_rect(entry.rect(), area) {
+            return true;
+        }
+        i += 1;
+    }
+    false
+}
+
+// The first entry that merges with the area becomes their union.
+fn merge(mut d: Damage, area: Rect) -> Merged
+    requires { ⌜ RepDamage d × Small area ⌝ }
+    ensures { λ m. ⌜ MergedInto d area m ⌝ }
+{
+    let n = d.len as usize;
+    let mut done = false;
+    let mut i: usize = 0;
+    'search: while i < n {
+        let entry = d.areas[i];
+        let e = entry.rect();
+        if merges(e, area) {
+            let both = joined(e, area);
+            d.areas[i] = both;
+            done = true;
+            break 'search;
+        }
+        i += 1;
+    }
+    Merged { damage: d, done }
+}
+
+// The area joins the end; a 17th entry makes the list (0,0,w,h).
+fn append(mut d: Damage, w: u32, h: u32, area: Rect) -> Damage
+    requires { ⌜ RepDamage d × Small area × (w ≤ 32767) × (h ≤ 32767) ⌝ }
+    ensures { λ r. ⌜ JoinedTo w h d area r ⌝ }
+{
+    let n = d.len;
+    if n < 16 {
+        let last = Area::new(area.pos.x, area.pos.y, area.dims.w, area.dims.h);
+        let at = n as usize;
+        d.areas[at] = last;
+        d.len = n + 1;
+        return d;
+    }
+    Damage::whole(w, h)
+}
+
+// A window of w by h was changed in the area.
+pub fn add_dirty(d: Damage, w: u32, h: u32, area: Rect) -> Damage
+    requires { ⌜ RepDamage d × Small area × (w ≤ 32767) × (h ≤ 32767) ⌝ }
+    ensures { λ r. ⌜ Dirtied w h d area r ⌝ }
+{
+    if inner::is_empty(area) {
+        return d;
+    }
+    if any_contains(d, area) {
+        return d;
+    }
+    let m = merge(d, area);
+    let r = m.damage;
+    if m.done {
+        return r;
+    }
+    append(r, w, h, area)
+}
