@@ -1,2 +1,3 @@
--- Lemmas on rows of pixels.
+-- Lemmas on rows of pixels, and on the parts of lent pixels that the bare calls take.
 pub mod rows
+pub mod bare

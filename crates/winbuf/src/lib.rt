@@ -1,1 +1,168 @@
-// Pixels in a lent slice: the rules alone (specs/Pixels.antt). The code comes next.
+// Pixels in a lent slice: document 01, "Pixels". Translated from winbuf.rs, with its names.
+//
+// The calls here take any arguments and ask questions 5 and 13. Our own crates, which know what they lend, call `inner`.
+ghost use Rattle.winbuf.specs.Pixels.{lineStart, scanline, fillScanline, setScanline, region};
+ghost use Rattle.winbuf.specs.Bare.{Gives, Hands, regionStart};
+use inner::least;
+use inner::place::Place;
+use inner::place::line_place;
+use inner::region::region_fits;
+use inner::region::small_area;
+use inner::row::copy_part;
+use inner::row::fill_part;
+
+pub mod inner;
+
+// A scanline, cut to the width: a part of `pixels`.
+pub fn scanline_rgn<'a>(
+    pixels: &'a [u32],
+    width: u32,
+    height: u32,
+    line: u32,
+    ofs: u32,
+    len: u32,
+    answer: &mut u32,
+) -> &'a [u32]
+    ensures { λ r. ⌜ Hands (scanline (now (pixels .entry)) width height line ofs len) (lineStart width line ofs) (pixels .entry) (now (answer .exit)) r ⌝ }
+{
+    let place = line_place(pixels.len(), width, height, line, ofs, len);
+    match place {
+        Place::Large => {
+            *answer = 5;
+            &pixels[..0]
+        }
+        Place::Beside => {
+            if width == 0 {
+                *answer = 0;
+                &pixels[..0]
+            } else {
+                *answer = 13;
+                &pixels[..0]
+            }
+        }
+        Place::Outside => {
+            *answer = 13;
+            &pixels[..0]
+        }
+        Place::Found { start, count } => {
+            *answer = 0;
+            &pixels[start..start + count]
+        }
+    }
+}
+
+// The same of pixels to be written. What is written through the part is written in `pixels`: `Hands` says that the part's
+// memory is theirs.
+pub fn scanline_rgn_mut<'a>(
+    pixels: &'a mut [u32],
+    width: u32,
+    height: u32,
+    line: u32,
+    ofs: u32,
+    len: u32,
+    answer: &mut u32,
+) -> &'a mut [u32]
+    ensures { λ r. ⌜ Hands (scanline (now (pixels .entry)) width height line ofs len) (lineStart width line ofs) (pixels .entry) (now (answer .exit)) r ⌝ }
+{
+    let place = line_place(pixels.len(), width, height, line, ofs, len);
+    match place {
+        Place::Large => {
+            *answer = 5;
+            &mut pixels[..0]
+        }
+        Place::Beside => {
+            if width == 0 {
+                *answer = 0;
+                &mut pixels[..0]
+            } else {
+                *answer = 13;
+                &mut pixels[..0]
+            }
+        }
+        Place::Outside => {
+            *answer = 13;
+            &mut pixels[..0]
+        }
+        Place::Found { start, count } => {
+            *answer = 0;
+            &mut pixels[start..start + count]
+        }
+    }
+}
+
+// A line or an offset beside the picture does nothing, here and in `set_scanline`.
+pub fn fill_scanline(
+    pixels: &mut [u32],
+    width: u32,
+    height: u32,
+    line: u32,
+    ofs: u32,
+    len: u32,
+    value: u32,
+) -> u32
+    ensures { λ r. ⌜ Gives (fillScanline (now (pixels .entry)) width height line ofs len value) r (now (pixels .exit)) ⌝ }
+{
+    let place = line_place(pixels.len(), width, height, line, ofs, len);
+    match place {
+        Place::Large => 5,
+        Place::Beside => 0,
+        Place::Outside => 13,
+        Place::Found { start, count } => {
+            fill_part(pixels, start, count, value);
+            0
+        }
+    }
+}
+
+// Ends with the shorter of the scanline and the data.
+pub fn set_scanline(
+    pixels: &mut [u32],
+    width: u32,
+    height: u32,
+    line: u32,
+    ofs: u32,
+    len: u32,
+    data: &[u32],
+) -> u32
+    ensures { λ r. ⌜ Gives (setScanline (now (pixels .entry)) width height line ofs len (now («data» .entry))) r (now (pixels .exit)) ⌝ }
+{
+    let place = line_place(pixels.len(), width, height, line, ofs, len);
+    match place {
+        Place::Large => 5,
+        Place::Beside => 0,
+        Place::Outside => 13,
+        Place::Found { start, count } => {
+            let n = least(count, data.len());
+            copy_part(pixels, start, data, 0, n);
+            0
+        }
+    }
+}
+
+// The rows of a rectangle of a picture whose rows begin `stride` apart: one part of `pixels`, with what lies between the rows.
+pub fn region<'a>(
+    pixels: &'a [u32],
+    stride: usize,
+    x: u32,
+    y: u32,
+    w: u32,
+    h: u32,
+    answer: &mut u32,
+) -> &'a [u32]
+    ensures { λ r. ⌜ Hands (region (now (pixels .entry)) stride x y w h) (regionStart stride x y) (pixels .entry) (now (answer .exit)) r ⌝ }
+{
+    if small_area(x, y, w, h) {
+        if region_fits(pixels.len(), stride, x, y, w, h) {
+            let start = x as usize + y as usize * stride;
+            let count = (h as usize - 1) * stride + w as usize;
+            *answer = 0;
+            &pixels[start..start + count]
+        } else {
+            *answer = 13;
+            &pixels[..0]
+        }
+    } else {
+        *answer = 5;
+        &pixels[..0]
+    }
+}

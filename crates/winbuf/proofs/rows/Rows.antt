@@ -4,7 +4,7 @@ use mathlib.Core.Path.{_≡_, refl, sym, ap, _∙_}
 use mathlib.Core.Bool.{Bool, true, false, cond, _&&_}
 use mathlib.Core.List.{List, [], _∷_}
 use mathlib.Core.Logic.{_⊎_, inl, inr, _≢_}
-use native.Mathlib.Nat.{mul-le-mul-right, not-suc-le-zero, add-zero}
+use native.Mathlib.Nat.{mul-le-mul-right, mul-le-mul-left, mul-comm, not-suc-le-zero, add-zero}
 use native.Mathlib.Omega.{arith}
 use lib.Dec.{leb, ltb}
 use lib.ListN.{length, getD, set, length-set}
@@ -18,6 +18,18 @@ use Rattle.winbuf.specs.Pixels.{writeRows}
 -- a place in a row lies before the next row
 pub row-before : (w r r′ c : ℕ) → c < w → r < r′ → r * w + c < r′ * w
 row-before w r r′ c h l = omega (arith, mul-le-mul-right w l)
+
+-- row r of n, w wide, ends within n * w
+pub row-end : (w n r : ℕ) → r < n → r * w + w ≤ n * w
+row-end w n r l = omega (arith, mul-le-mul-right w l)
+
+-- a narrower row's place is no later
+pub row-le : (r v w : ℕ) → v ≤ w → r * v ≤ r * w
+row-le r v w h = mul-le-mul-left r h
+
+-- fewer rows of a picture that there is room for
+pub rows-room : (c w h n : ℕ) → n ≤ h → w * h ≤ c → n * w ≤ c
+rows-room c w h n l m = omega (arith, mul-le-mul-right w l, mul-comm w h)
 
 -- One run of stores --------------------------------------------------------------------------------------------------
 

@@ -1,0 +1,91 @@
+-- Each case of the place leaves what the rule says of it; the data are cut where they end.
+use Prim.Native.Nat.{ℕ}
+use mathlib.Core.Path.{_≡_, refl, sym, ap, _∙_}
+use mathlib.Core.List.{List}
+use native.Mathlib.Omega.{arith}
+use lib.ListN.{length, take}
+use lib.Seq.{sets}
+use borrow.Author.Needs.{needs}
+use Rattle.winbuf.specs.declared.inner.place.Place.{Place}
+use Rattle.winbuf.specs.declared.inner.place.Place.the-variants.{Large, Beside, Outside, Found}
+use Rattle.winbuf.specs.Pixels.{setScanline}
+use Rattle.winbuf.specs.Bare.{Gives}
+use Rattle.winbuf.proofs.rows.Runs.{take-cut}
+use Rattle.winbuf.proofs.bare.Scanlines.{put, found-lies, gives-written}
+use Rattle.winbuf.proofs.set_scanline.Statement.{statement}
+use Rattle.winbuf.proofs.set_scanline.Tie as tie
+
+left : (c : tie.After-line-place) (q : Place) (a : ℕ) (qs : List ℕ) → let x = c .before .before .before .args in
+    c .line-place .result ≡ q → a ≡ put (λ n. take n (x .«data» .now)) (x .pixels .now) q .answer
+    → qs ≡ put (λ n. take n (x .«data» .now)) (x .pixels .now) q .pixels
+    → Gives (setScanline (x .pixels .now) (x .width) (x .height) (x .line) (x .ofs) (x .len) (x .«data» .now)) a qs
+left c q a qs k ea eq =
+    let x = c .before .before .before .args in
+    gives-written (x .pixels .now) (x .width) (x .height) (x .line) (x .ofs) (x .len) (c .line-place .result) q (c .line-place .ensures) k
+    (λ n. take n (x .«data» .now)) a qs ea eq
+
+line-place-requires : tie.Need-line-place-requires
+line-place-requires c κs = search needs
+
+enum-told : tie.Need-enum-told
+enum-told c = search needs
+
+enum-told-2 : tie.Need-enum-told-2
+enum-told-2 c = search needs
+
+enum-told-3 : tie.Need-enum-told-3
+enum-told-3 c = search needs
+
+enum-known-place : tie.Need-enum-known-place
+enum-known-place c = search needs
+
+least-requires : tie.Need-least-requires
+least-requires c κs = search needs
+
+copy-part-requires : tie.Need-copy-part-requires
+copy-part-requires c κs =
+    let x = c .before .before .before .before .before .before .before .before .args in
+    let p = c .before .before .before .before .before .line-place in
+    let g = c .before .before .before .place .given in
+    omega
+    (arith, found-lies (length (x .pixels .now)) (x .width) (x .height) (x .line) (x .ofs) (x .len) (p .result) (g .0 .0) (g .0 .1 .0) (p .ensures) (g .1))
+
+returns : tie.Need-returns
+returns c = left (c .before .before) Large 5 _ (c .enum-told .given .1) refl refl
+
+returns-2 : tie.Need-returns-2
+returns-2 c = left (c .before .before) Beside 0 _ (c .enum-told2 .given .1) refl refl
+
+returns-3 : tie.Need-returns-3
+returns-3 c = left (c .before .before) Outside 13 _ (c .enum-told3 .given .1) refl refl
+
+same-length : tie.Need-same-length
+same-length c = search needs
+
+returns-4 : tie.Need-returns-4
+returns-4 c =
+    let x = c .before .before .before .before .before .before .before .before .before .before .before .args in
+    let g = c .before .before .before .before .before .before .place .given in
+    let n = c .before .before .before .before .least in
+    let f = c .before .before .copy-part in
+    left (c .before .before .before .before .before .before .before .before) (Found (g .0 .0) (g .0 .1 .0)) 0 (f .last .0) (g .1) refl
+    (f .ensures
+    ∙ ap (λ (t : List ℕ). sets (x .pixels .now) (g .0 .0) t)
+    (ap (λ (k : ℕ). take k (x .«data» .now)) (n .ensures) ∙ sym (take-cut (g .0 .1 .0) (x .«data» .now))))
+
+pub set-scanline-spec : {M : Type 1} → statement M
+set-scanline-spec =
+    tie.close
+    (tie.spec
+    line-place-requires
+    enum-told
+    enum-told-2
+    enum-told-3
+    enum-known-place
+    least-requires
+    copy-part-requires
+    returns
+    returns-2
+    returns-3
+    same-length
+    returns-4)

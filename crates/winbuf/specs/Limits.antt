@@ -1,0 +1,59 @@
+-- The limits of the bare calls on pixels, as one table with one theorem.
+use Prim.Native.Nat.{ℕ}
+use mathlib.Core.Path.{_≡_, refl}
+use mathlib.Core.List.{List, [], _∷_, map}
+use lib.ListN.{replicate}
+use Rattle.winbuf.specs.Pixels as Pixels
+use Rattle.winbuf.specs.Pixels.{Part, scanline, fillScanline, setScanline, region}
+
+-- what a call gives, and what document 01 says: the answer, then the pixels
+pub record Limit : Type 0 where
+  pub gives : Part
+  pub says : List ℕ
+
+infix 10 _gives_
+_gives_ : Part → List ℕ → Limit
+p gives l = record { gives = p; says = l }
+
+six : List ℕ
+six = 1 ∷ 2 ∷ 3 ∷ 4 ∷ 5 ∷ 6 ∷ []
+
+pub table : List Limit
+table =
+    -- a row of 32,767 passes, and 32,768 of anything is 5
+    (fillScanline (9 ∷ []) 32767 1 0 0 1 7 gives (0 ∷ 7 ∷ []))
+    ∷ (scanline (replicate 32767 8) 32767 1 0 32766 32767 gives (0 ∷ 8 ∷ []))
+    ∷ (fillScanline (9 ∷ []) 32768 1 0 0 1 7 gives (5 ∷ 9 ∷ []))
+    ∷ (scanline six 3 32768 0 0 1 gives (5 ∷ []))
+    ∷ (scanline six 3 2 32768 0 1 gives (5 ∷ []))
+    ∷ (scanline six 3 2 0 32768 1 gives (5 ∷ []))
+    ∷ (scanline six 3 2 0 0 32768 gives (5 ∷ []))
+    -- a part that ends exactly at the end, and one that passes it
+    ∷ (scanline six 3 2 1 1 2 gives (0 ∷ 5 ∷ 6 ∷ []))
+    ∷ (scanline six 3 9 2 0 1 gives (13 ∷ []))
+    -- cut to the width
+    ∷ (scanline six 3 2 0 1 9 gives (0 ∷ 2 ∷ 3 ∷ []))
+    -- width 0; a line or an offset past the edge; no pixel at the end and beyond it
+    ∷ (scanline six 0 2 7 7 7 gives (0 ∷ []))
+    ∷ (scanline six 3 2 2 0 1 gives (13 ∷ []))
+    ∷ (scanline six 3 2 0 3 1 gives (13 ∷ []))
+    ∷ (scanline six 3 9 2 0 0 gives (0 ∷ []))
+    ∷ (scanline six 3 9 2 1 0 gives (13 ∷ []))
+    -- filling and setting beside the picture do nothing; past the end of the pixels they are 13
+    ∷ (fillScanline six 3 2 2 0 1 7 gives (0 ∷ six))
+    ∷ (setScanline six 3 2 0 3 1 (7 ∷ []) gives (0 ∷ six))
+    ∷ (fillScanline six 3 9 2 0 1 7 gives (13 ∷ six))
+    -- data of no pixels, and more data than the part
+    ∷ (setScanline six 3 2 0 0 3 [] gives (0 ∷ six))
+    ∷ (setScanline six 3 2 0 1 1 (7 ∷ 8 ∷ []) gives (0 ∷ 1 ∷ 7 ∷ 3 ∷ 4 ∷ 5 ∷ 6 ∷ []))
+    -- a region: a stride greater than the width, its last pixel, one row too many, no row, wider than its stride
+    ∷ (region six 3 1 0 1 2 gives (0 ∷ 2 ∷ 3 ∷ 4 ∷ 5 ∷ []))
+    ∷ (region six 3 2 1 1 1 gives (0 ∷ 6 ∷ []))
+    ∷ (region six 3 0 0 3 3 gives (13 ∷ []))
+    ∷ (region six 3 0 0 1 0 gives (13 ∷ []))
+    ∷ (region six 3 0 0 4 1 gives (13 ∷ []))
+    ∷ []
+
+pub holds : map (λ l. l .gives .answer ∷ l .gives .pixels) table ≡ map (λ l. l .says) table
+unfolding table _gives_ six Pixels.scanline Pixels.lineWritten Pixels.region
+holds = refl

@@ -1,0 +1,24 @@
+-- What the code finds out before it takes or writes a part of lent pixels.
+use Prim.Native.Nat.{ℕ, _+_, _-_, _*_}
+use mathlib.Core.Bool.{Bool, cond, _&&_}
+use lib.Dec.{leb}
+use Rattle.geom.specs.Questions.{small}
+use Rattle.winbuf.specs.declared.inner.place.Place.{Place}
+use Rattle.winbuf.specs.declared.inner.place.Place.the-variants.{Large, Beside, Outside, Found}
+use Rattle.winbuf.specs.Pixels.{lineStart, lineLength, smallLine, onLine}
+
+-- where a scanline lies, of so many pixels: the cases of the enum `Place`
+unfoldable pub linePlace : ℕ → ℕ → ℕ → ℕ → ℕ → ℕ → Place
+linePlace total w h line ofs len =
+    cond (smallLine w h line ofs len)
+    (cond (onLine w h line ofs)
+    (cond (leb (lineStart w line ofs + lineLength w ofs len) total) (Found (lineStart w line ofs) (lineLength w ofs len)) Outside)
+    Beside)
+    Large
+
+-- the two questions of a region, as its rule asks them
+abbrev pub smallArea : ℕ → ℕ → ℕ → ℕ → Bool
+smallArea x y w h = small x && small y && (small w && small h)
+
+abbrev pub regionFits : ℕ → ℕ → ℕ → ℕ → ℕ → ℕ → Bool
+regionFits total stride x y w h = leb 1 h && leb w stride && leb (x + y * stride + ((h - 1) * stride + w)) total

@@ -1,0 +1,130 @@
+// The rows of a rectangle of pixels: filled, or copied from another slice.
+ghost use mathlib.Core.Path.{_≡_};
+ghost use Prim.Native.Nat.{_+_, _*_};
+ghost use lib.ListN.{length, take, replicate};
+ghost use Rattle.winbuf.specs.Pixels.{writeRows, part};
+ghost use Rattle.winbuf.specs.Rows.{Fit, Inside};
+use super::least;
+use super::row::copy_part;
+use super::row::fill_part;
+
+// n rows of w pixels become `v`.
+pub fn fill_rows(px: &mut [u32], at: usize, pitch: usize, w: usize, n: usize, v: u32)
+    requires { ⌜ Fit (length (now px)) at pitch w n ⌝ }
+    ensures { λ _. ⌜ now (px .exit) ≡ writeRows n (λ r. at + r * pitch) (λ r. replicate w v) (now (px .entry)) ⌝ }
+{
+    let mut r: usize = 0;
+    while r < n {
+        fill_part(px, at + r * pitch, w, v);
+        r += 1;
+    }
+}
+
+// n rows of w pixels, from rows `step` apart in `src`.
+pub fn copy_rows(
+    px: &mut [u32],
+    at: usize,
+    pitch: usize,
+    src: &[u32],
+    from: usize,
+    step: usize,
+    w: usize,
+    n: usize,
+)
+    requires { ⌜ Fit (length (now px)) at pitch w n × Fit (length (now src)) from step w n ⌝ }
+    ensures { λ _. ⌜ now (px .exit) ≡ writeRows n (λ r. at + r * pitch) (λ r. part (from + r * step) w (now (src .entry))) (now (px .entry)) ⌝ }
+{
+    let mut r: usize = 0;
+    while r < n {
+        copy_part(px, at + r * pitch, src, from + r * step, w);
+        r += 1;
+    }
+}
+
+// Row r of n takes chunk r of the data, cut to w: chunks of `stride`, the last one may be short, and then none.
+pub fn blit_rows(
+    px: &mut [u32],
+    at: usize,
+    pitch: usize,
+    src: &[u32],
+    stride: usize,
+    w: usize,
+    n: usize,
+)
+    requires { ⌜ Fit (length (now px)) at pitch w n ⌝ }
+    ensures { λ _. ⌜ now (px .exit) ≡ writeRows n (λ r. at + r * pitch) (λ r. take w (part (r * stride) stride (now (src .entry)))) (now (px .entry)) ⌝ }
+{
+    let mut r: usize = 0;
+    let mut from: usize = 0;
+    while r < n {
+        let chunk = least(stride, src.len() - from);
+        let m = least(w, chunk);
+        copy_part(px, at + r * pitch, src, from, m);
+        from += chunk;
+        r += 1;
+    }
+}
+
+// An area of a window becomes `v`.
+pub fn fill_area(
+    px: &mut [u32],
+    base: usize,
+    pitch: usize,
+    left: usize,
+    top: usize,
+    w: usize,
+    n: usize,
+    v: u32,
+)
+    requires { ⌜ Inside (length (now px)) base pitch left top w n ⌝ }
+    ensures { λ _. ⌜ now (px .exit) ≡ writeRows n (λ r. base + (top + r) * pitch + left) (λ r. replicate w v) (now (px .entry)) ⌝ }
+{
+    fill_rows(px, base + top * pitch + left, pitch, w, n, v)
+}
+
+// An area of a window takes the chunks of the data.
+pub fn blit_area(
+    px: &mut [u32],
+    base: usize,
+    pitch: usize,
+    left: usize,
+    top: usize,
+    w: usize,
+    n: usize,
+    src: &[u32],
+    stride: usize,
+)
+    requires { ⌜ Inside (length (now px)) base pitch left top w n ⌝ }
+    ensures { λ _. ⌜ now (px .exit) ≡ writeRows n (λ r. base + (top + r) * pitch + left) (λ r. take w (part (r * stride) stride (now (src .entry)))) (now (px .entry)) ⌝ }
+{
+    blit_rows(px, base + top * pitch + left, pitch, src, stride, w, n)
+}
+
+// An area of the screen takes an area of a window: the window's pixels begin at `base` of the store.
+pub fn draw_area(
+    px: &mut [u32],
+    pitch: usize,
+    left: usize,
+    top: usize,
+    src: &[u32],
+    base: usize,
+    step: usize,
+    x: usize,
+    y: usize,
+    w: usize,
+    n: usize,
+)
+    requires { ⌜ Inside (length (now px)) 0 pitch left top w n × Inside (length (now src)) base step x y w n ⌝ }
+    ensures { λ _. ⌜ now (px .exit) ≡ writeRows n (λ r. (top + r) * pitch + left) (λ r. part (base + (y + r) * step + x) w (now (src .entry))) (now (px .entry)) ⌝ }
+{
+    copy_rows(
+        px,
+        top * pitch + left,
+        pitch,
+        src,
+        base + y * step + x,
+        step,
+        w,
+        n,
+    )
+}
