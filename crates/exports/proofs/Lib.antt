@@ -1,0 +1,2 @@
+-- Lemmas on the area that a caller asks for.
+pub mod areas

@@ -1,0 +1,2 @@
+-- Where an area lies, and what its test says.
+pub mod Lies

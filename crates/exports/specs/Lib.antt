@@ -1,0 +1,2 @@
+-- What everybody must believe of the exported row writers.
+pub mod Areas

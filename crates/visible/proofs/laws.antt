@@ -1,0 +1,8 @@
+-- The lent numbers, the parts that a loop has left, and the rules part by part. Each file uses the ones before it.
+pub mod Numbers
+pub mod Depth
+pub mod Parts
+pub mod Regions
+pub mod Turns
+pub mod Split
+pub mod Shown

@@ -1,0 +1,77 @@
+-- The visible list and the drawn regions, part by part.
+use Prim.Native.Nat.{ℕ}
+use mathlib.Core.Path.{_≡_, refl, ap, _∙_}
+use mathlib.Core.Bool.{cond}
+use mathlib.Core.List.{List, [], _∷_, _++_, map, map-append, append-assoc, append-nil}
+use lib.ListN.{length, length-map}
+use Rattle.geom.specs.declared.Rect.{Rect}
+use Rattle.geom.specs.Lists.{outsideAll, relative, meetsOf, listIntersect}
+use Rattle.rules.specs.Redraw.{none?, drawRegion}
+use Rattle.visible.specs.declared.region.View.{View}
+use Rattle.visible.specs.Seen.{seen, regions, drawn}
+use Rattle.visible.proofs.laws.Depth.{outsideAll-next, outsideAll-none, outsideAll-end}
+
+-- The visible list ---------------------------------------------------------------------------------------------------
+
+module _ (at : Rect) where
+  pub seen-next : (p : Rect) (ps bs : List Rect) → seen at (p ∷ ps) bs ≡ seen at (p ∷ []) bs ++ seen at ps bs
+  unfolding seen
+  seen-next p ps bs = ap (map (relative at)) (outsideAll-next p ps bs) ∙ map-append (relative at) (outsideAll (p ∷ []) bs) (outsideAll ps bs)
+
+  pub seen-none : (bs : List Rect) → seen at [] bs ≡ []
+  unfolding seen
+  seen-none bs = ap (map (relative at)) (outsideAll-none bs)
+
+  pub seen-end : (p : Rect) → seen at (p ∷ []) [] ≡ relative at p ∷ []
+  unfolding seen
+  seen-end p = ap (map (relative at)) (outsideAll-end (p ∷ []))
+
+  pub length-seen : (rs bs : List Rect) → length (seen at rs bs) ≡ length (outsideAll rs bs)
+  unfolding seen
+  length-seen rs bs = length-map (outsideAll rs bs) (relative at)
+
+-- The regions --------------------------------------------------------------------------------------------------------
+
+intersect-append : (xs ys ds : List Rect) → listIntersect (xs ++ ys) ds ≡ listIntersect xs ds ++ listIntersect ys ds
+unfolding listIntersect
+intersect-append [] ys ds = refl
+intersect-append (x ∷ xs) ys ds = rw (intersect-append xs ys ds, append-assoc)
+
+module _ (at : Rect) where
+  pub regions-next : (p : Rect) (ps bs ds : List Rect) → regions at (p ∷ ps) bs ds ≡ regions at (p ∷ []) bs ds ++ regions at ps bs ds
+  unfolding regions
+  regions-next p ps bs [] = seen-next at p ps bs
+  regions-next p ps bs (d ∷ ds) =
+      ap (λ (rs : List Rect). listIntersect rs (d ∷ ds)) (seen-next at p ps bs) ∙ intersect-append (seen at (p ∷ []) bs) (seen at ps bs) (d ∷ ds)
+
+  pub regions-none : (bs ds : List Rect) → regions at [] bs ds ≡ []
+  unfolding regions listIntersect
+  regions-none bs [] = seen-none at bs
+  regions-none bs (d ∷ ds) = ap (λ (rs : List Rect). listIntersect rs (d ∷ ds)) (seen-none at bs)
+
+  -- rectangles that leave the same
+  pub regions-same : (rs rs′ bs bs′ ds : List Rect) → seen at rs bs ≡ seen at rs′ bs′ → regions at rs bs ds ≡ regions at rs′ bs′ ds
+  unfolding regions
+  regions-same rs rs′ bs bs′ ds e = ap (λ (v : List Rect). cond (none? ds) v (listIntersect v ds)) e
+
+  -- a part that no rectangle covers: all of it, or where it is dirty
+  pub regions-whole : (p : Rect) → regions at (p ∷ []) [] [] ≡ relative at p ∷ []
+  unfolding regions
+  regions-whole p = seen-end at p
+
+  pub regions-dirty : (p d : Rect) (ds : List Rect) → regions at (p ∷ []) [] (d ∷ ds) ≡ meetsOf (relative at p) (d ∷ ds)
+  unfolding regions listIntersect
+  regions-dirty p d ds =
+      ap (λ (rs : List Rect). listIntersect rs (d ∷ ds)) (seen-end at p) ∙ append-nil (meetsOf (relative at p) (d ∷ ds))
+
+-- The screen ---------------------------------------------------------------------------------------------------------
+
+module _ (v : View) (store : List ℕ) where
+  pub drawn-append : (xs ys : List Rect) (screen : List ℕ) → drawn v store (xs ++ ys) screen ≡ drawn v store ys (drawn v store xs screen)
+  unfolding drawn
+  drawn-append [] ys screen = refl
+  drawn-append (x ∷ xs) ys screen = drawn-append xs ys (drawRegion (v .at) (v .base) store (v .sw) (v .sh) x screen)
+
+  pub drawn-none : (screen : List ℕ) → drawn v store [] screen ≡ screen
+  unfolding drawn
+  drawn-none screen = refl

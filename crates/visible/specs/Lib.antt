@@ -1,0 +1,3 @@
+-- What the functions of this crate say beside the rules.
+pub mod Lent
+pub mod Seen

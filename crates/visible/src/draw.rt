@@ -1,0 +1,117 @@
+// The parts of a window that are seen, drawn as they are found.
+ghost use mathlib.Core.Path.{_≡_};
+ghost use mathlib.Core.Bool.{cond};
+ghost use mathlib.Core.List.{[], _∷_, map};
+ghost use Prim.Native.Nat.{_+_, _*_, _≤_};
+ghost use lib.ListN.{length};
+ghost use Rattle.geom.specs.Geom.{width, height};
+ghost use Rattle.geom.specs.Inner.{Fits, Within};
+ghost use Rattle.geom.specs.Lists.{outsideAll, relative, meetsOf, listIntersect};
+ghost use Rattle.window.specs.Held.{Small};
+ghost use Rattle.rules.specs.Visible.{rectsOf};
+ghost use Rattle.rules.specs.Redraw.{none?, drawRegions};
+ghost use Rattle.visible.specs.Lent.{Lent};
+ghost use Rattle.visible.specs.Seen.{Drawable, own, drawn, regions};
+use crate::rects;
+use crate::region::View;
+use crate::region::draw_region;
+use geom::Rect;
+use geom::inner;
+use geom::inner::pieces;
+
+// Draws what a region has in common with a dirty entry.
+fn draw_common(view: View, r: Rect, entry: Rect, store: &[u32], screen: &mut [u32])
+    requires { ⌜ Drawable view (now store) (now screen) × Within (own view) r × Fits entry ⌝ }
+    ensures { λ _. ⌜ now (screen .exit) ≡ drawn view (now (store .entry)) (meetsOf r (entry ∷ [])) (now (screen .entry)) ⌝ }
+{
+    if inner::meets(r, entry) {
+        draw_region(view, inner::common(r, entry), store, screen);
+    }
+}
+
+// Draws what a region has in common with each of the m dirty entries.
+fn draw_dirty(view: View, r: Rect, dirty: &[u32], m: usize, store: &[u32], screen: &mut [u32])
+    requires { ⌜ Drawable view (now store) (now screen) × Within (own view) r × Lent m (now dirty) ⌝ }
+    ensures { λ _. ⌜ now (screen .exit) ≡ drawn view (now (store .entry)) (meetsOf r (rectsOf m (now (dirty .entry)))) (now (screen .entry)) ⌝ }
+{
+    let mut i: usize = 0;
+    while i < m {
+        draw_common(view, r, rects::rect_at(dirty, i), store, screen);
+        i += 1;
+    }
+}
+
+// Draws a part of the window that no higher window covers: where it is dirty, or all of it if there is no dirty entry.
+fn draw_part(view: View, part: Rect, dirty: &[u32], m: usize, store: &[u32], screen: &mut [u32])
+    requires { ⌜ Drawable view (now store) (now screen) × Within (view .at) part × Lent m (now dirty) ⌝ }
+    ensures { λ _. ⌜ now (screen .exit) ≡ drawn view (now (store .entry)) (regions (view .at) (part ∷ []) [] (rectsOf m (now (dirty .entry)))) (now (screen .entry)) ⌝ }
+{
+    let r = rects::relative(view.at, part);
+    if m == 0 {
+        draw_region(view, r, store, screen);
+    } else {
+        draw_dirty(view, r, dirty, m, store, screen);
+    }
+}
+
+// Draws what is seen of `part`, a part of the window.
+fn draw_seen(
+    view: View,
+    part: Rect,
+    above: &[u32],
+    n: usize,
+    dirty: &[u32],
+    m: usize,
+    store: &[u32],
+    screen: &mut [u32],
+)
+    requires { ⌜ Drawable view (now store) (now screen) × Within (view .at) part × Lent n (now above) × Lent m (now dirty) ⌝ }
+    ensures { λ _. ⌜ now (screen .exit) ≡ drawn view (now (store .entry)) (regions (view .at) (part ∷ []) (rectsOf n (now (above .entry))) (rectsOf m (now (dirty .entry)))) (now (screen .entry)) ⌝ }
+{
+    let k = rects::misses(part, above, n);
+    if k == n {
+        draw_part(view, part, dirty, m, store, screen);
+        return;
+    }
+    let p = pieces::outside(part, rects::rect_at(above, k));
+    let parts = p.rects;
+    let len = p.count;
+    let next = 4 * (k + 1);
+    let mut i: usize = 0;
+    while i < len {
+        draw_seen(
+            view,
+            parts[i],
+            &above[next..],
+            n - k - 1,
+            dirty,
+            m,
+            store,
+            screen,
+        );
+        i += 1;
+    }
+}
+
+// Draws a window at `at`, under n rectangles: where it is dirty, or all that is seen of it if there is no dirty entry. Its pixels
+// begin at `base` of the store.
+pub fn draw(
+    at: Rect,
+    base: usize,
+    above: &[u32],
+    n: usize,
+    dirty: &[u32],
+    m: usize,
+    store: &[u32],
+    screen: &mut [u32],
+    sw: u32,
+    sh: u32,
+)
+    requires { ⌜ Small at × (base + width at * height at ≤ length (now store)) ⌝ }
+    requires { ⌜ Lent n (now above) × Lent m (now dirty) ⌝ }
+    requires { ⌜ (sw ≤ 32767) × (sh ≤ 32767) × (length (now screen) ≡ sw * sh) ⌝ }
+    ensures { λ _. ⌜ now (screen .exit) ≡ drawRegions at base (now (store .entry)) sw sh (cond (none? (rectsOf m (now (dirty .entry)))) (map (relative at) (outsideAll (at ∷ []) (rectsOf n (now (above .entry))))) (listIntersect (map (relative at) (outsideAll (at ∷ []) (rectsOf n (now (above .entry))))) (rectsOf m (now (dirty .entry))))) (now (screen .entry)) ⌝ }
+{
+    let view = View { at, base, sw, sh };
+    draw_seen(view, at, above, n, dirty, m, store, screen)
+}

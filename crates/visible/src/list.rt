@@ -1,0 +1,84 @@
+// The visible list, counted and written.
+ghost use mathlib.Core.Path.{_≡_};
+ghost use mathlib.Core.List.{[], _∷_, _++_, map};
+ghost use Prim.Native.Nat.{_+_, _*_, _≤_};
+ghost use lib.ListN.{length, drop};
+ghost use lib.Seq.{sets};
+ghost use Rattle.geom.specs.Inner.{Fits, Within};
+ghost use Rattle.geom.specs.Lists.{outsideAll, relative, numbers};
+ghost use Rattle.rules.specs.Visible.{rectsOf};
+ghost use Rattle.visible.specs.Lent.{Lent};
+ghost use Rattle.visible.specs.Seen.{seen};
+use crate::rects;
+use geom::Rect;
+use geom::inner::pieces;
+
+// How many parts of `at` lie outside the n rectangles above it.
+pub fn count(at: Rect, above: &[u32], n: usize) -> usize
+    requires { ⌜ Fits at × Lent n (now above) × (n ≤ 16) ⌝ }
+    ensures { λ r. ⌜ r ≡ length (outsideAll (at ∷ []) (rectsOf n (now (above .entry)))) ⌝ }
+{
+    let k = rects::misses(at, above, n);
+    if k == n {
+        return 1;
+    }
+    let p = pieces::outside(at, rects::rect_at(above, k));
+    let parts = p.rects;
+    let len = p.count;
+    let next = 4 * (k + 1);
+    let mut sum: usize = 0;
+    let mut i: usize = 0;
+    while i < len {
+        sum += count(parts[i], &above[next..], n - k - 1);
+        i += 1;
+    }
+    sum
+}
+
+// Writes the four numbers of a rectangle.
+fn put(out: &mut [u32], place: usize, r: Rect)
+    requires { ⌜ 4 * (place + 1) ≤ length (now out) ⌝ }
+    ensures { λ _. ⌜ now (out .exit) ≡ sets (now (out .entry)) (4 * place) (numbers (r ∷ [])) ⌝ }
+{
+    let at = 4 * place;
+    out[at] = r.pos.x;
+    out[at + 1] = r.pos.y;
+    out[at + 2] = r.dims.w;
+    out[at + 3] = r.dims.h;
+}
+
+// Writes what is seen of `part`, a part of the window at `at`, from the given place of the list on; returns the place after it.
+// A place holds four numbers.
+fn write(part: Rect, at: Rect, above: &[u32], n: usize, out: &mut [u32], place: usize) -> usize
+    requires { ⌜ Fits at × Within at part × Lent n (now above) ⌝ }
+    requires { ⌜ 4 * (place + length (seen at (part ∷ []) (rectsOf n (now above)))) ≤ length (now out) ⌝ }
+    ensures { λ r. ⌜ r ≡ place + length (seen at (part ∷ []) (rectsOf n (now (above .entry)))) ⌝ }
+    ensures { λ _. ⌜ now (out .exit) ≡ sets (now (out .entry)) (4 * place) (numbers (seen at (part ∷ []) (rectsOf n (now (above .entry))))) ⌝ }
+{
+    let k = rects::misses(part, above, n);
+    if k == n {
+        put(out, place, rects::relative(at, part));
+        return place + 1;
+    }
+    let p = pieces::outside(part, rects::rect_at(above, k));
+    let parts = p.rects;
+    let len = p.count;
+    let next = 4 * (k + 1);
+    let mut to = place;
+    let mut i: usize = 0;
+    while i < len {
+        to = write(parts[i], at, &above[next..], n - k - 1, out, to);
+        i += 1;
+    }
+    to
+}
+
+// Writes the visible list of a window at `at` under n rectangles, relative to the window; returns how many rectangles it has.
+pub fn list(at: Rect, above: &[u32], n: usize, out: &mut [u32]) -> usize
+    requires { ⌜ Fits at × Lent n (now above) ⌝ }
+    requires { ⌜ 4 * length (outsideAll (at ∷ []) (rectsOf n (now above))) ≤ length (now out) ⌝ }
+    ensures { λ r. ⌜ r ≡ length (outsideAll (at ∷ []) (rectsOf n (now (above .entry)))) ⌝ }
+    ensures { λ r. ⌜ now (out .exit) ≡ numbers (map (relative at) (outsideAll (at ∷ []) (rectsOf n (now (above .entry))))) ++ drop (4 * r) (now (out .entry)) ⌝ }
+{
+    write(at, at, above, n, out, 0)
+}

@@ -1,0 +1,2 @@
+-- Lemmas that the calls of a session share.
+pub mod laws

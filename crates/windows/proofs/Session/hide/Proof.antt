@@ -1,0 +1,56 @@
+-- Question 3, then the window is hidden.
+use Prim.Native.Nat.{ℕ}
+use mathlib.Core.Path.{_≡_, refl, ap, _∙_}
+use mathlib.Core.Bool.{true, false}
+use Rattle.rules.specs.Group.{used}
+use Rattle.rules.specs.Order as Order
+use Rattle.rules.specs.Calls.{Hide, does}
+use Rattle.windows.specs.declared.Session.{Session}
+use Rattle.windows.specs.View.{group, windowAt, Rep, Given, Meets, done}
+use Rattle.windows.proofs.laws.Session.{used-at, used-past, refuses, gives}
+use borrow.Author.Needs.{needs}
+use Rattle.windows.proofs.Session.hide.Statement.{statement}
+use Rattle.windows.proofs.Session.hide.Tie as tie
+
+module _ (s : Session) (id : ℕ) where
+  hides : (t : Session) → Given s → windowAt s id .used ≡ true → (group t ≡ Order.hidden id (group s)) × Rep t → Meets (Hide id) s (done t 0)
+  unfolding does Order.hide
+  hides t h u e =
+      let q : used (group s) id ≡ true = used-at s id ∙ u in
+      gives (Hide id) s t h (e .1) (rw q) (e .0 ∙ rw q)
+
+  not-used : Given s → used (group s) id ≡ false → Meets (Hide id) s (done s 3)
+  unfolding does Order.hide
+  not-used h u = refuses (Hide id) s 2 h (rw u)
+
+cast-at : tie.Need-cast-at
+cast-at c = search needs
+
+mul-if2 : tie.Need-mul-if2
+mul-if2 c = search needs
+
+element-copy-out-if2 : tie.Need-element-copy-out-if2
+element-copy-out-if2 c = search needs
+
+hidden-requires : tie.Need-hidden-requires
+hidden-requires c κs = search needs
+
+returns : tie.Need-returns
+returns c =
+    let s = c .before .before .before in
+    hides (s .args .t1) (s .args .id .0) _ (s .pre) (c .before .if2 .taken) (c .hidden .ensures)
+
+returns-2 : tie.Need-returns-2
+returns-2 c =
+    let s = c .before .before in
+    not-used (s .args .t1) (s .args .id .0) (s .pre) (used-at (s .args .t1) (s .args .id .0) ∙ c .if2 .left)
+
+returns-3 : tie.Need-returns-3
+returns-3 c =
+    let s = c .before in
+    not-used (s .args .t1) (s .args .id .0) (s .pre) (used-past (s .args .t1) (s .args .id .0) (s .pre .rep) (c .if1 .left))
+
+pub hide-spec : {M : Type 1} → statement M
+hide-spec =
+    tie.close
+    (tie.spec cast-at mul-if2 element-copy-out-if2 hidden-requires returns returns-2 returns-3)

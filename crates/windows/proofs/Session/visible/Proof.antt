@@ -1,0 +1,52 @@
+-- Question 3, then the list of a window that has a place; a hidden window has none.
+use mathlib.Core.Path.{_∙_}
+use Rattle.windows.proofs.laws.Session.{used-at, used-past}
+use Rattle.windows.proofs.laws.Listed.{hidden-list, no-window}
+use borrow.Author.Needs.{needs}
+use Rattle.windows.proofs.Session.visible.Statement.{statement}
+use Rattle.windows.proofs.Session.visible.Tie as tie
+
+cast-at : tie.Need-cast-at
+cast-at c = search needs
+
+mul-if2 : tie.Need-mul-if2
+mul-if2 c = search needs
+
+element-copy-out-if2 : tie.Need-element-copy-out-if2
+element-copy-out-if2 c = search needs
+
+place-of-requires : tie.Need-place-of-requires
+place-of-requires c κs = search needs
+
+list-shown-requires : tie.Need-list-shown-requires
+list-shown-requires c κs = search needs
+
+same-length : tie.Need-same-length
+same-length c = search needs
+
+returns : tie.Need-returns
+returns c = search needs
+
+returns-2 : tie.Need-returns-2
+returns-2 c = hidden-list _ _ _ _ (c .before .before .before .before .before .before .before .pre) (c .before .before .before .before .if2 .taken) (c .if3 .left) (c .before .before .place-of .ensures)
+
+returns-3 : tie.Need-returns-3
+returns-3 c = no-window _ _ _ (used-at _ _ ∙ c .if2 .left)
+
+returns-4 : tie.Need-returns-4
+returns-4 c = no-window _ _ _ (used-past _ _ (c .before .before .pre .rep) (c .if1 .left))
+
+pub visible-spec : {M : Type 1} → statement M
+visible-spec =
+    tie.close
+    (tie.spec
+    cast-at
+    mul-if2
+    element-copy-out-if2
+    place-of-requires
+    list-shown-requires
+    same-length
+    returns
+    returns-2
+    returns-3
+    returns-4)

@@ -1,0 +1,105 @@
+-- The visible list of a window: the rule's list is what is left of its rectangle outside those that are lent.
+use Prim.Native.Nat.{ℕ, suc, _*_, _≤_, _<_}
+use mathlib.Core.Path.{_≡_, sym, ap, ap₂, subst, _∙_}
+use mathlib.Core.Bool.{true, false, cond}
+use mathlib.Core.List.{List, [], _∷_, _++_, map}
+use native.Mathlib.Omega.{arith}
+use lib.Dec.{leb}
+use lib.ListN.{length, drop, length-map}
+use borrow.Author.Tests.{le-leb, lt-leb}
+use Rattle.geom.specs.declared.Rect.{Rect}
+use Rattle.geom.specs.Inner.{Fits}
+use Rattle.geom.specs.Lists.{outsideAll, relative, numbers}
+use Rattle.window.specs.Window.{Win}
+use Rattle.window.specs.Held.{rectOf, Small}
+use Rattle.rules.specs.Group.{used, win}
+use Rattle.rules.specs.Order.{shown, above, placeOf}
+use Rattle.rules.specs.Visible.{visible, visibleList}
+use Rattle.rules.proofs.group.Invariant.{used-small}
+use Rattle.rules.proofs.group.Room.{shown-place, hidden-place}
+use Rattle.windows.specs.declared.Session.{Session}
+use Rattle.windows.specs.declared.list.Listing.{Listing}
+use Rattle.windows.specs.View.{ids, group, windowAt, Given, Lists}
+use Rattle.windows.proofs.laws.Session.{used-at, win-at, given-ok}
+use Rattle.windows.proofs.laws.Places.{order-length, above-place}
+use Rattle.windows.proofs.laws.Above.{higher}
+
+abbrev pub listing : ℕ → ℕ → Listing
+listing a n = record { answer = a; count = n }
+
+-- A window that is shown -----------------------------------------------------------------------------------------------
+
+-- the rule's list of a window that is shown, of which the windows above stand behind place p
+pub visible-is : (s : Session) (id p : ℕ) (r : Rect) → shown (group s) id ≡ true → windowAt s id .used ≡ true → above id (group s .order) ≡ drop (suc p) (group s .order)
+    → r ≡ rectOf (windowAt s id .at) → visible (group s) id ≡ map (relative r) (outsideAll (r ∷ []) (higher s (suc p)))
+unfolding visible
+visible-is s id p r y u a e =
+    let w : win (group s) id .at ≡ r = ap (λ (v : Win). v .at) (win-at s id u) ∙ sym e in
+    rw (y, a, w)
+
+module _ (s : Session) (h : Given s) (id p : ℕ) (l : p < s .shown) (at : p ≡ placeOf id (ids (s .shown) (s .order))) where
+  is-shown : shown (group s) id ≡ true
+  unfolding group
+  is-shown = shown-place id (ids (s .shown) (s .order)) (omega (arith, order-length s h))
+
+  in-use : used (group s) id ≡ true
+  in-use = given-ok s h .shown-used id is-shown
+
+  pub id-low : id < 16
+  id-low = used-small (group s) id (given-ok s h) in-use
+
+  behind : above id (group s .order) ≡ drop (suc p) (group s .order)
+  unfolding group
+  behind = above-place id (group s .order) ∙ ap (λ (k : ℕ). drop (suc k) (group s .order)) (sym at)
+
+  -- the window's sides are numbers of 32 bits
+  pub frame-fits : (r : Rect) → r ≡ rectOf (windowAt s id .at) → Fits r
+  frame-fits r e = subst Fits (sym e) (small-fits (h .rep .each id id-low .at))
+    where
+      small-fits : {q : Rect} → Small q → Fits q
+      small-fits k = omega arith
+
+  module _ (r : Rect) (frame : r ≡ rectOf (windowAt s id .at)) (bs : List Rect) (same : bs ≡ higher s (suc p))
+      (n : ℕ) (count : n ≡ length (outsideAll (r ∷ []) bs)) (before : List ℕ) where
+    list : visible (group s) id ≡ map (relative r) (outsideAll (r ∷ []) bs)
+    list = visible-is s id p r is-shown (sym (used-at s id) ∙ in-use) behind frame ∙ ap (λ (l : List Rect). map (relative r) (outsideAll (r ∷ []) l)) (sym same)
+
+    long : length (visible (group s) id) ≡ n
+    long = ap length list ∙ length-map (outsideAll (r ∷ []) bs) (relative r) ∙ sym count
+
+    pub listed : (m : ℕ) (after : List ℕ) → 4 * n ≤ length before → m ≡ length (outsideAll (r ∷ []) bs)
+        → after ≡ numbers (map (relative r) (outsideAll (r ∷ []) bs)) ++ drop (4 * m) before → Lists (group s) id before (listing 0 n) after
+    unfolding visibleList
+    listed m after room k e =
+        let f : leb (4 * length (visible (group s) id)) (length before) ≡ true = rw long (le-leb (4 * n) (length before) room) in
+        let q : m ≡ n = k ∙ sym count in
+        record {
+          answer = rw (in-use, f);
+          count = rw (in-use, f) (sym long);
+          list = rw (in-use, f, long) (e ∙ ap₂ (λ (rs : List Rect) (o : ℕ). numbers rs ++ drop (4 * o) before) (sym list) q);
+        }
+
+    pub no-room : length before < 4 * n → Lists (group s) id before (listing 9 0) before
+    unfolding visibleList
+    no-room room =
+        let f : leb (4 * length (visible (group s) id)) (length before) ≡ false = rw long (lt-leb (4 * n) (length before) room) in
+        record { answer = rw (in-use, f); count = rw (in-use, f); list = rw (in-use, f) }
+
+-- Any other window -----------------------------------------------------------------------------------------------------
+
+hidden-in : (s : Session) (id p : ℕ) → Given s → s .shown ≤ p → p ≡ placeOf id (ids (s .shown) (s .order)) → shown (group s) id ≡ false
+unfolding group
+hidden-in s id p h l at = hidden-place id (ids (s .shown) (s .order)) (omega (arith, order-length s h))
+
+pub hidden-list : (s : Session) (id p : ℕ) (before : List ℕ) → Given s → windowAt s id .used ≡ true → s .shown ≤ p → p ≡ placeOf id (ids (s .shown) (s .order))
+    → Lists (group s) id before (listing 0 0) before
+unfolding visibleList visible
+hidden-list s id p before h u l at =
+    let n : shown (group s) id ≡ false = hidden-in s id p h l at in
+    let q : used (group s) id ≡ true = used-at s id ∙ u in
+    let f : leb 0 (length before) ≡ true = le-leb 0 (length before) (omega arith) in
+    record { answer = rw (q, n, f); count = rw (q, n, f); list = rw (q, n, f) }
+
+pub no-window : (s : Session) (id : ℕ) (before : List ℕ) → used (group s) id ≡ false → Lists (group s) id before (listing 3 0) before
+unfolding visibleList
+no-window s id before u = record { answer = rw u; count = rw u; list = rw u }

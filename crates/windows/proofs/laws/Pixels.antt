@@ -1,0 +1,146 @@
+-- One window's pixels in the store: the part of an area that lies in the window, and what fill and blit make of it.
+use Prim.Native.Nat.{ℕ, _+_, _*_, _-_, _≤_, _<_, min, max}
+use mathlib.Core.Path.{_≡_, refl, sym, ap, subst, _∙_}
+use mathlib.Core.Bool.{Bool, true, false}
+use mathlib.Core.List.{List}
+use mathlib.Core.Logic.{⊎-elim}
+use native.Mathlib.Nat.{mul-le-mul-right, mul-comm}
+use native.Mathlib.Omega.{arith}
+use lib.Dec.{ltb}
+use lib.ListN.{take}
+use borrow.Author.Tests.{ltb-true, lt-ltb}
+use Rattle.geom.specs.declared.Rect.{Rect}
+use Rattle.geom.specs.Geom.{left, top, width, height, isEmpty, meets, common}
+use Rattle.geom.specs.Inner.{Fits, Within}
+use Rattle.geom.proofs.basics.Tests.{clash, on-cond, lt-or-le}
+use Rattle.geom.proofs.geometry.Facts.{Meet, says-meet, solid, common-within}
+use Rattle.winbuf.specs.Pixels.{writeRows, part}
+use Rattle.winbuf.specs.Rows.{Inside}
+use Rattle.window.specs.declared.Window.{Window}
+use Rattle.window.specs.Window.{Win}
+use Rattle.window.specs.Held.{winOf, Small}
+use Rattle.rules.specs.Store.{bounds, blitRows}
+use Rattle.windows.specs.Pixels.{Becomes, Stored, dirtied, filledPart, filledWin, filledAt, blitWin, blitAt}
+
+-- the same window by a rule that gives the same
+becomes : {w r : Window} {v v′ : Win} → Becomes w v r → v ≡ v′ → Becomes w v′ r
+becomes b e = record { used = b .used; rep = b .rep; is = b .is ∙ e }
+
+-- a window left as it was
+kept : {w : Window} {len base : ℕ} {v : Win} → Stored len base w → winOf w ≡ v → Becomes w v w
+kept s e = record { used = refl; rep = s .rep; is = e }
+
+-- a side of the common part with (0,0,W,H)
+cut-low : (x : ℕ) → max x 0 ≡ x
+cut-low x = omega arith
+
+cut-size : (x w W : ℕ) → min (x + w) (0 + W) - max x 0 ≡ min w (W - x)
+cut-size x w W = omega arith
+
+-- The area and the window --------------------------------------------------------------------------------------------
+
+-- an area, and the window's own rectangle as the code has it
+pub record Cut (len base : ℕ) (w : Window) (a all : Rect) : Type 0 where
+  pub stored : Stored len base w
+  pub small : Small a
+  pub is : all ≡ bounds (winOf w)
+
+module _ {len base : ℕ} {w : Window} {a all : Rect} (q : Cut len base w a all) where
+  pub fits : Fits a × Fits all
+  fits =
+      let s = q .small in
+      let o = q .stored .rep .at in
+      let e : Fits (bounds (winOf w)) = omega arith in
+      (omega arith, subst Fits (sym (q .is)) e)
+
+  is-met : {t : Bool} → meets a all ≡ t → meets a (bounds (winOf w)) ≡ t
+  is-met m = ap (meets a) (sym (q .is)) ∙ m
+
+  is-part : {k : Rect} → k ≡ common a all → k ≡ common a (bounds (winOf w))
+  is-part e = e ∙ ap (common a) (q .is)
+
+  pub in-window : meets a all ≡ true → {k : Rect} → k ≡ common a all → Within (bounds (winOf w)) k
+  in-window m e =
+      subst (Within (bounds (winOf w))) (sym (is-part e))
+      (common-within a (bounds (winOf w)) (says-meet a (bounds (winOf w)) .fact (is-met m)) .1)
+
+  module _ {k : Rect} (i : Within (bounds (winOf w)) k) where
+    pub room : Inside len base (w .at .w) (left k) (top k) (width k) (height k)
+    room =
+        let s : top k + height k ≤ w .at .h = omega arith in
+        let m : (top k + height k) * w .at .w ≤ w .at .h * w .at .w = mul-le-mul-right (w .at .w) s in
+        let o = q .stored .rep .at in
+        let r = q .stored .room in
+        record { wide = omega arith; high = omega (arith, mul-comm (w .at .h) (w .at .w)); small = omega arith }
+
+    pub part-small : Small k
+    part-small = let o = q .stored .rep .at in omega arith
+
+  -- Fill -------------------------------------------------------------------------------------------------------------
+
+  pub filled : (k : Rect) (r : Window) (v : ℕ) (store t : List ℕ) → meets a all ≡ true → k ≡ common a all → Becomes w (dirtied k (winOf w)) r
+      → t ≡ filledPart base (winOf w) k v store → Becomes w (filledWin a (winOf w)) r × (t ≡ filledAt base (winOf w) a v store)
+  unfolding filledWin filledAt
+  filled k r v store t m e b f = (
+    becomes b (ap (λ (p : Rect). dirtied p (winOf w)) (is-part e) ∙ rw (is-met m)),
+    f ∙ ap (λ (p : Rect). filledPart base (winOf w) p v store) (is-part e) ∙ rw (is-met m),
+  )
+
+  pub not-filled : (v : ℕ) (store : List ℕ) → meets a all ≡ false → Becomes w (filledWin a (winOf w)) w × (store ≡ filledAt base (winOf w) a v store)
+  unfolding filledWin filledAt
+  not-filled v store m = (kept (q .stored) (rw (is-met m)), rw (is-met m))
+
+-- Blit -----------------------------------------------------------------------------------------------------------------
+
+-- an empty area
+pub not-blit : {len base : ℕ} {w : Window} (a : Rect) (datum : List ℕ) (stride : ℕ) (store : List ℕ) → Stored len base w → isEmpty a ≡ true
+    → Becomes w (blitWin a (winOf w)) w × (store ≡ blitAt base (winOf w) a datum stride store)
+unfolding blitWin blitAt
+not-blit a datum stride store s e = (kept s (rw e), rw e)
+
+module _ {len base : ℕ} {w : Window} {a all : Rect} (q : Cut len base w a all) (e : isEmpty a ≡ false) where
+  some-rows : meets a all ≡ true → blitRows (winOf w) a ≡ min (height a) (w .at .h - top a)
+  some-rows m =
+      let i = says-meet a (bounds (winOf w)) .fact (is-met q m) in
+      rw (lt-ltb (left a) (w .at .w) (omega arith))
+
+  no-rows : meets a all ≡ false → blitRows (winOf w) a ≡ 0
+  no-rows m =
+      on-cond (λ (n : ℕ). n ≡ 0) (ltb (left a) (w .at .w)) (min (height a) (w .at .h - top a)) 0
+      (λ t. ⊎-elim (λ l. absurd (met (ltb-true (left a) (w .at .w) t) l)) (λ l. omega arith) (lt-or-le (top a) (w .at .h)))
+      (λ t. refl)
+    where
+      met : left a < w .at .w → top a < w .at .h → ⊥
+      met l h =
+          let s = solid a e in
+          let i : Meet a (bounds (winOf w)) = omega arith in
+          clash (says-meet a (bounds (winOf w)) .test i) (is-met q m)
+
+  pub blit-win : {r : Window} → Becomes w (dirtied a (winOf w)) r → Becomes w (blitWin a (winOf w)) r
+  unfolding blitWin
+  blit-win b = becomes b (rw e)
+
+  module _ (datum : List ℕ) (stride : ℕ) (store : List ℕ) where
+    -- rows of an area at (x,y), of m by n
+    abbrev rows : ℕ → ℕ → ℕ → ℕ → List ℕ
+    rows x y m n = writeRows n (λ r. base + (y + r) * w .at .w + x) (λ r. take m (part (r * stride) stride datum)) store
+
+    at-blit : (n : ℕ) → blitRows (winOf w) a ≡ n
+        → rows (left a) (top a) (min (width a) (w .at .w - left a)) n ≡ blitAt base (winOf w) a datum stride store
+    unfolding blitAt
+    at-blit n f = ap (rows (left a) (top a) (min (width a) (w .at .w - left a))) (sym f) ∙ rw e
+
+    cut-rows : (k : Rect) → k ≡ common a (bounds (winOf w))
+        → rows (left k) (top k) (width k) (height k) ≡ rows (left a) (top a) (min (width a) (w .at .w - left a)) (min (height a) (w .at .h - top a))
+    unfolding common
+    cut-rows k p =
+        ap (λ (b : Rect). rows (left b) (top b) (width b) (height b)) p
+        ∙ (λ i. rows (cut-low (left a) i) (cut-low (top a) i) (cut-size (left a) (width a) (w .at .w) i) (cut-size (top a) (height a) (w .at .h) i))
+
+    pub some-blit : (k : Rect) (t : List ℕ) → meets a all ≡ true → k ≡ common a all → t ≡ rows (left k) (top k) (width k) (height k)
+        → t ≡ blitAt base (winOf w) a datum stride store
+    some-blit k t m p f = f ∙ cut-rows k (is-part q p) ∙ at-blit (min (height a) (w .at .h - top a)) (some-rows m)
+
+    pub no-blit : meets a all ≡ false → store ≡ blitAt base (winOf w) a datum stride store
+    unfolding writeRows
+    no-blit m = at-blit 0 (no-rows m)

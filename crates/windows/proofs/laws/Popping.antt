@@ -1,0 +1,72 @@
+-- An event popped: the queue first, then an unread move; and the call's two ends.
+use Prim.Native.Nat.{ℕ, _≤_, _<_}
+use mathlib.Core.Path.{_≡_, sym, ap, _∙_}
+use mathlib.Core.Bool.{true, false}
+use mathlib.Core.Option.{Option, none, some}
+use Rattle.window.specs.declared.Event.{Event}
+use Rattle.window.specs.declared.CursorPos.{CursorPos}
+use Rattle.window.specs.declared.Window.{Window}
+use Rattle.window.specs.declared.queue.Popped as Queue
+use Rattle.window.specs.Window.{Win, moveOf, cursorRead}
+use Rattle.window.specs.Held.{winOf, RepCursor, RepWindow, PoppedFrom}
+use Rattle.rules.specs.Group.{used, win, setWin}
+use Rattle.rules.specs.Events as Rule
+use Rattle.rules.specs.Events.{popped, afterPop}
+use Rattle.rules.specs.Calls.{Pop, does}
+use Rattle.windows.specs.declared.Session.{Session}
+use Rattle.windows.specs.declared.NextEvent.the-variants as NextEvent
+use Rattle.windows.specs.View.{group, windowAt, Given, MeetsEvent}
+use Rattle.windows.proofs.laws.Session.{used-at, win-at, putWindow, refuses, puts}
+use Rattle.windows.proofs.laws.Parts.{setQueue, setCursor, queue-rep, cursor-rep, no-events}
+
+-- what a window gives, and what is left of it
+abbrev given : Win → Option Event
+given w = popped w (w .queue) (w .cursor .«is_dirty»)
+
+abbrev left : Win → Win
+left w = afterPop w (w .queue) (w .cursor .«is_dirty»)
+
+module _ (s : Session) (id : ℕ) (h : Given s) where
+  pub not-used : used (group s) id ≡ false → MeetsEvent (Pop id) s (record { session = s; answer = 3; event = NextEvent.Absent })
+  unfolding does Rule.pop
+  not-used u = record { meets = refuses (Pop id) s 2 h (rw u); event = rw u }
+
+  module _ (u : windowAt s id .used ≡ true) where
+    gives-none : given (winOf (windowAt s id)) ≡ none → MeetsEvent (Pop id) s (record { session = s; answer = 10; event = NextEvent.Absent })
+    unfolding does Rule.pop
+    gives-none e =
+        let q : used (group s) id ≡ true = used-at s id ∙ u in
+        let p : given (win (group s) id) ≡ none = ap given (win-at s id u) ∙ e in
+        record { meets = refuses (Pop id) s 9 h (rw (q, p)); event = rw (q, p) }
+
+    gives-some : (v : Window) (e : Event) → v .used ≡ true → RepWindow v → given (winOf (windowAt s id)) ≡ some e → winOf v ≡ left (winOf (windowAt s id))
+        → MeetsEvent (Pop id) s (record { session = putWindow id v s; answer = 0; event = NextEvent.Event e })
+    unfolding does Rule.pop
+    gives-some v e uv r is after =
+        let q : used (group s) id ≡ true = used-at s id ∙ u in
+        let p : given (win (group s) id) ≡ some e = ap given (win-at s id u) ∙ is in
+        let l : winOf v ≡ left (win (group s) id) = after ∙ sym (ap left (win-at s id u)) in
+        record {
+          meets = puts (Pop id) s id v h uv r (rw (q, p)) (ap (λ (w : Win). setWin id (some w) (group s)) l ∙ rw (q, p));
+          event = rw (q, p);
+        }
+
+    -- the oldest event of the queue
+    pub pops-first : id < 16 → (p : Queue.Popped) → PoppedFrom (windowAt s id .queue) p
+        → MeetsEvent (Pop id) s
+        (record { session = putWindow id (setQueue (p .queue) (windowAt s id)) s; answer = 0; event = NextEvent.Event (p .event) })
+    pops-first l p is =
+        gives-some (setQueue (p .queue) (windowAt s id)) (p .event) u (queue-rep (p .queue) (windowAt s id) (h .rep .each id l) (is .rep)) (rw (is .is)) (rw (is .is))
+
+    -- an unread move
+    pub pops-move : id < 16 → windowAt s id .queue .len ≤ 0 → windowAt s id .cursor .«is_dirty» ≡ true → (e : Event) (p : CursorPos)
+        → e ≡ moveOf (windowAt s id .cursor) → p ≡ cursorRead (windowAt s id .cursor) → RepCursor p
+        → MeetsEvent (Pop id) s (record { session = putWindow id (setCursor p (windowAt s id)) s; answer = 0; event = NextEvent.Event e })
+    pops-move l n d e p is read r =
+        let q = no-events (windowAt s id .queue) n in
+        gives-some (setCursor p (windowAt s id)) e u (cursor-rep p (windowAt s id) (h .rep .each id l) r) (rw (q, d, is)) (rw (q, d, read))
+
+    -- neither
+    pub pops-none : windowAt s id .queue .len ≤ 0 → windowAt s id .cursor .«is_dirty» ≡ false
+        → MeetsEvent (Pop id) s (record { session = s; answer = 10; event = NextEvent.Absent })
+    pops-none n d = gives-none (rw (no-events (windowAt s id .queue) n, d))

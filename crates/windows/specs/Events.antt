@@ -1,0 +1,73 @@
+-- The parts of `route`: where an event goes, and what it does to the window that is told of it.
+use Prim.Native.Nat.{ℕ, _≤_}
+use mathlib.Core.Bool.{Bool, true}
+use mathlib.Core.Path.{_≡_}
+use mathlib.Core.List.{[], _∷_}
+use lib.Dec.{ltb}
+use lib.ListN.{length}
+use Rattle.geom.specs.Questions.{_is_, asked}
+use Rattle.window.specs.declared.Window.{Window}
+use Rattle.window.specs.declared.Event.{Event}
+use Rattle.window.specs.declared.Event.the-variants.{Resize, KeyDown, KeyUp, KeyFire, Text, MouseMove, MouseDown, MouseClick, MouseUp}
+use Rattle.window.specs.Window.{Win, pushed, cursorTo}
+use Rattle.window.specs.Held.{winOf, Queued, RepWindow}
+use Rattle.rules.specs.Events.{withQueue, withCursor}
+use Rattle.windows.specs.declared.events.Target.{Target}
+use Rattle.windows.specs.declared.events.Target.the-variants.{Nobody, Focus, Point}
+use Rattle.windows.specs.declared.events.Told.{Told}
+
+-- keys go to the focus, pointer events to a window at their point
+abbrev pub targetOf : Event → Target
+targetOf Resize = Nobody
+targetOf (KeyDown v) = Focus
+targetOf (KeyUp v) = Focus
+targetOf (KeyFire v) = Focus
+targetOf (Text v) = Focus
+targetOf (MouseMove x y dx dy) = Point x y
+targetOf (MouseDown x y b) = Point x y
+targetOf (MouseClick x y b n) = Point x y
+targetOf (MouseUp x y b) = Point x y
+
+-- a pointer event at another point
+abbrev pub atPoint : Event → ℕ → ℕ → Event
+atPoint Resize x y = Resize
+atPoint (KeyDown v) x y = KeyDown v
+atPoint (KeyUp v) x y = KeyUp v
+atPoint (KeyFire v) x y = KeyFire v
+atPoint (Text v) x y = Text v
+atPoint (MouseMove _ _ dx dy) x y = MouseMove x y dx dy
+atPoint (MouseDown _ _ b) x y = MouseDown x y b
+atPoint (MouseClick _ _ b n) x y = MouseClick x y b n
+atPoint (MouseUp _ _ b) x y = MouseUp x y b
+
+-- by cases: a move by its point, any other event whole
+abbrev pub moveOr {ℓ} : {A : Type ℓ} → (ℕ → ℕ → A) → (Event → A) → Event → A
+moveOr move other Resize = other Resize
+moveOr move other (KeyDown v) = other (KeyDown v)
+moveOr move other (KeyUp v) = other (KeyUp v)
+moveOr move other (KeyFire v) = other (KeyFire v)
+moveOr move other (Text v) = other (Text v)
+moveOr move other (MouseMove x y dx dy) = move x y
+moveOr move other (MouseDown x y b) = other (MouseDown x y b)
+moveOr move other (MouseClick x y b n) = other (MouseClick x y b n)
+moveOr move other (MouseUp x y b) = other (MouseUp x y b)
+
+-- what a window can be told: no point beyond 32,767
+abbrev pub Tellable : Event → Type 0
+Tellable e = moveOr (λ x y. (x ≤ 32767) × (y ≤ 32767)) Queued e
+
+-- "12: has its queue a free place? (not for MouseMove)"
+abbrev pub takes : Win → Event → Bool
+takes w e = moveOr (λ x y. true) (λ _. ltb (length (w .queue)) 16) e
+
+-- "MouseMove only replaces the cursor's new point"; any other event joins the queue
+abbrev pub told : Win → Event → Win
+told w e = moveOr (λ x y. withCursor (cursorTo (w .cursor) x y) w) (λ o. withQueue (pushed (w .queue) o) w) e
+
+-- a window was told of an event: question 12, and on a no the very window comes back
+pub record ToldTo (w : Window) (e : Event) (r : Told) : Type 0 where
+  pub answer : r .answer ≡ asked ((12 is takes (winOf w) e) ∷ [])
+  pub becomes : winOf (r .window) ≡ told (winOf w) e
+  pub same : (r .answer ≡ 0 → ⊥) → r .window ≡ w
+  pub used : r .window .used ≡ w .used
+  pub rep : RepWindow (r .window)

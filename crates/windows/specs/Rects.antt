@@ -1,0 +1,25 @@
+-- Up to sixteen rectangles held as numbers.
+use Prim.Native.Nat.{ℕ, _+_, _≤_, _<_}
+use mathlib.Core.Path.{_≡_}
+use mathlib.Core.List.{List, [], _∷_, _++_}
+use lib.ListN.{length}
+use Rattle.geom.specs.declared.Rect.{Rect}
+use Rattle.geom.specs.Inner.{Fits}
+use Rattle.window.specs.declared.damage.Area.{Area}
+use Rattle.window.specs.Held.{rectOf}
+use Rattle.rules.specs.Visible.{rectsOf}
+use Rattle.visible.specs.Lent.{AllFit}
+use Rattle.windows.specs.declared.rects.Rects.{Rects}
+
+-- the numbers are those of the list, whose sides are numbers of 32 bits
+pub record Holds (r : Rects) (rs : List Rect) : Type 0 where
+  pub room : length (r .numbers) ≡ 64
+  pub few : length rs ≤ 16
+  pub count : r .len ≡ length rs
+  pub list : rectsOf (r .len) (r .numbers) ≡ rs
+  pub fit : AllFit rs
+
+-- q is r with one more
+pub record Added (r : Rects) (a : Area) (q : Rects) : Type 0 where
+  pub more : q .len ≡ r .len + 1
+  pub holds : (rs : List Rect) → Fits (rectOf a) → Holds r rs → Holds q (rs ++ (rectOf a ∷ []))

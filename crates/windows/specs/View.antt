@@ -1,0 +1,160 @@
+-- How a session holds a group, which sessions there are, and what a call promises of its answer.
+use Prim.Native.Nat.{ℕ, suc, _-_, _*_, _≤_, _<_}
+use mathlib.Core.Bool.{Bool, true, false, cond, _||_}
+use mathlib.Core.Path.{_≡_}
+use mathlib.Core.List.{List, [], _∷_, _++_, map}
+use mathlib.Core.Option.{Option, none, some}
+use lib.ListN.{length, getD, take, drop}
+use Rattle.geom.specs.declared.Rect.{Rect}
+use Rattle.geom.specs.Questions.{_is_, asked}
+use Rattle.geom.specs.Geom.{rect}
+use Rattle.window.specs.declared.Window.{Window}
+use Rattle.window.specs.declared.Event.{Event}
+use Rattle.window.specs.Window.{Win}
+use Rattle.window.specs.Held.{winOf, RepWindow}
+use Rattle.rules.specs.Group.{Group, start, used, win}
+use Rattle.rules.specs.Visible.{visibleList}
+use Rattle.rules.specs.Redraw.{clean}
+use Rattle.rules.specs.Calls.{Call, does, after}
+use Rattle.windows.specs.declared.WinId.{WinId}
+use Rattle.windows.specs.declared.Session.{Session}
+use Rattle.windows.specs.declared.Done.{Done}
+use Rattle.windows.specs.declared.NewId.{NewId}
+use Rattle.windows.specs.declared.NewId.the-variants.{Id, Absent}
+use Rattle.windows.specs.declared.Created.{Created}
+use Rattle.windows.specs.declared.NextEvent.{NextEvent}
+use Rattle.windows.specs.declared.NextEvent.the-variants as NextEvent
+use Rattle.windows.specs.declared.Popped.{Popped}
+use Rattle.windows.specs.declared.Placed.{Placed}
+use Rattle.windows.specs.declared.list.Listing.{Listing}
+
+-- The view --------------------------------------------------------------------------------------------------------------
+
+-- the place of an id: the window where it is in use
+unfoldable pub cell : Window → Option Win
+cell w = cond (w .used) (some (winOf w)) none
+
+abbrev pub num : WinId → ℕ
+num i = i .0
+
+-- the first n ids
+abbrev pub ids : ℕ → List WinId → List ℕ
+ids n l = map num (take n l)
+
+-- the group that a session holds
+unfoldable pub group : Session → Group
+group s =
+    record {
+      c = s .c;
+      windows = map cell (s .windows);
+      order = ids (s .shown) (s .order);
+      focus = s .focus .0;
+      owed = s .owed;
+    }
+
+-- Which sessions there are ----------------------------------------------------------------------------------------------
+
+-- what a read past the end of the windows gives
+abbrev pub blank : Window
+blank =
+    record {
+      queue = record { slots = []; len = 0 };
+      damage = record { areas = []; len = 0 };
+      at = record { x = 0; y = 0; w = 0; h = 0 };
+      cursor = record { «old_x» = 0; «old_y» = 0; «new_x» = 0; «new_y» = 0; «is_dirty» = false };
+      used = false;
+      marked = false;
+    }
+
+abbrev pub windowAt : Session → ℕ → Window
+windowAt s id = getD (s .windows) id blank
+
+-- the arrays and counts are in order
+pub record Rep (s : Session) : Type 0 where
+  pub windows : length (s .windows) ≡ 16
+  pub order : length (s .order) ≡ 16
+  pub shown : s .shown ≤ 16
+  pub each : (id : ℕ) → id < 16 → RepWindow (windowAt s id)
+
+-- "A session is one that a start and later calls gave": the only premise of a call
+pub record Given (s : Session) : Type 0 where
+  pub rep : Rep s
+  pub c : ℕ
+  pub calls : List Call
+  pub reached : group s ≡ after c calls
+
+-- the order without the window at place p, of the first n
+pub record Closed (order : List WinId) (n p : ℕ) (r : List WinId) : Type 0 where
+  pub all : length r ≡ 16
+  pub front : take (n - 1) r ≡ take p order ++ drop (suc p) (take n order)
+
+-- What a call promises --------------------------------------------------------------------------------------------------
+
+-- answer and group are the rule's; a refused call hands back the very session; and the session can be given to the next call
+pub record Meets (k : Call) (s : Session) (r : Done) : Type 0 where
+  pub answer : r .answer ≡ does (group s) k .answer
+  pub after : group (r .session) ≡ does (group s) k .group
+  pub same : (r .answer ≡ 0 → ⊥) → r .session ≡ s
+  pub given : Given (r .session)
+
+-- the same of a call that is lent the store, which it leaves as `store`
+pub record MeetsStore (k : Call) (s : Session) (r : Done) (store : List ℕ) : Type 0 where
+  pub meets : Meets k s r
+  pub stored : store ≡ does (group s) k .store
+
+abbrev pub done : Session → ℕ → Done
+done s a = record { session = s; answer = a }
+
+-- "an id … asked for is then absent"
+abbrev pub idOf : NewId → Option ℕ
+idOf (Id i) = some (i .0)
+idOf Absent = none
+
+-- the same of a call that is lent store and screen: it leaves the screen as `screen`, and never writes the store
+pub record MeetsScreen (k : Call) (s : Session) (r : Done) (screen : List ℕ) : Type 0 where
+  pub meets : Meets k s r
+  pub shown : screen ≡ does (group s) k .screen
+
+-- store and screen have the sizes that questions 1 and 8 ask for
+pub record Drawable (s : Session) (sw sh : ℕ) (store screen : List ℕ) : Type 0 where
+  pub whole : length store ≡ 16 * s .c
+  pub sw≤ : sw ≤ 32767
+  pub sh≤ : sh ≤ 32767
+  pub size : length screen ≡ sw * sh
+
+-- "Marks and damage of drawn windows are cleared": v is w after a redraw
+pub record Cleaned (full : Bool) (w v : Window) : Type 0 where
+  pub used : v .used ≡ w .used
+  pub window : winOf v ≡ cond (full || w .marked) (clean (winOf w)) (winOf w)
+  pub rep : RepWindow v
+
+-- the same of a call that gives an id
+pub record MeetsId (k : Call) (s : Session) (r : Created) : Type 0 where
+  pub meets : Meets k s (done (r .session) (r .answer))
+  pub id : idOf (r .id) ≡ does (group s) k .id
+
+-- "an … event asked for is then absent"
+abbrev pub eventIn : NextEvent → Option Event
+eventIn (NextEvent.Event e) = some e
+eventIn NextEvent.Absent = none
+
+-- the same of a call that gives an event
+pub record MeetsEvent (k : Call) (s : Session) (r : Popped) : Type 0 where
+  pub meets : Meets k s (done (r .session) (r .answer))
+  pub event : eventIn (r .event) ≡ does (group s) k .event
+
+-- a start
+pub record Starts (c : ℕ) (r : Done) : Type 0 where
+  pub answer : r .answer ≡ start c .answer
+  pub after : group (r .session) ≡ start c .group
+  pub given : Given (r .session)
+
+-- the visible list: answer, count and the lent list are the rule's
+pub record Lists (g : Group) (id : ℕ) (before : List ℕ) (r : Listing) (after : List ℕ) : Type 0 where
+  pub answer : r .answer ≡ visibleList g id before .answer
+  pub count : r .count ≡ visibleList g id before .count
+  pub list : after ≡ visibleList g id before .list
+
+-- position and size of a window: question 3, "any other number handed back 0"
+abbrev pub placed : Group → ℕ → Placed
+placed g id = record { answer = asked ((3 is used g id) ∷ []); rect = cond (used g id) (win g id .at) (rect 0 0 0 0) }

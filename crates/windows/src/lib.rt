@@ -1,0 +1,71 @@
+// A session: sixteen windows, the render order and the focus. Document 01, "The group". Translated from windows/mod.rs.
+//
+// Each call takes the session by value and hands it back, first in its answer. A refused call hands back the session that it got.
+use geom::Rect;
+use window::Event;
+use window::Window;
+
+pub mod events;
+pub mod group;
+pub mod list;
+pub mod order;
+pub mod rects;
+pub mod redraw;
+pub mod store;
+
+// The number of a window, 0 to 15. Any other number is answered by 3.
+#[repr(C)]
+pub struct WinId(pub u16);
+
+// A place in the render order, 0 for the lowest window.
+#[repr(C)]
+pub struct Place(pub usize);
+
+// `order` holds the shown windows in its first `shown` places, lowest first.
+#[repr(C)]
+pub struct Session {
+    pub windows: [Window; 16],
+    pub order: [WinId; 16],
+    pub shown: usize,
+    pub c: u32,
+    pub focus: WinId,
+    pub owed: bool,
+}
+
+// What a call hands back: the session and the answer.
+#[repr(C)]
+pub struct Done {
+    pub session: Session,
+    pub answer: u32,
+}
+
+// An id asked for, which is absent where the call was refused.
+pub enum NewId {
+    Id(WinId),
+    Absent,
+}
+
+pub struct Created {
+    pub session: Session,
+    pub answer: u32,
+    pub id: NewId,
+}
+
+// An event asked for, which is absent where the call was refused.
+pub enum NextEvent {
+    Event(Event),
+    Absent,
+}
+
+pub struct Popped {
+    pub session: Session,
+    pub answer: u32,
+    pub event: NextEvent,
+}
+
+// The position and size of a window: (0,0,0,0) where the answer is 3.
+#[repr(C)]
+pub struct Placed {
+    pub answer: u32,
+    pub rect: Rect,
+}

@@ -1,0 +1,63 @@
+// The visible list of a window: document 01, "Visible list, relative to the window".
+ghost use mathlib.Core.Path.{_≡_};
+ghost use Prim.Native.Nat.{_<_};
+ghost use Rattle.rules.specs.Order.{placeOf};
+ghost use Rattle.windows.specs.View.{group, ids, Given, Lists};
+use crate::Place;
+use crate::Session;
+use crate::WinId;
+use crate::order::place_of;
+
+// The answer, and how many rectangles the list then holds: none where the call was refused.
+#[repr(C)]
+pub struct Listing {
+    pub answer: u32,
+    pub count: usize,
+}
+
+impl Session {
+    // The list of a window in use, which stands at a place of the order.
+    fn list_shown(self, id: WinId, p: Place, list: &mut [u32]) -> Listing
+        requires { ⌜ Given self × (p .0 < self .shown) × (p .0 ≡ placeOf (id .0) (ids (self .shown) (self .order))) ⌝ }
+        ensures { λ r. ⌜ Lists (group self) (id .0) (now (list .entry)) r (now (list .exit)) ⌝ }
+    {
+        let at = id.0 as usize;
+        let w = self.windows[at];
+        let area = w.at;
+        let r = area.rect();
+        let above = self.above(p);
+        let numbers = above.numbers;
+        let n = above.len;
+        let count = visible::list::count(r, &numbers, n);
+        if count <= list.len() / 4 {
+            visible::list::list(r, &numbers, n, list);
+            return Listing { answer: 0, count };
+        }
+        Listing {
+            answer: 9,
+            count: 0,
+        }
+    }
+
+    // Four numbers for each visible rectangle, from the front of the list; its rest is untouched.
+    pub fn visible(self, id: WinId, list: &mut [u32]) -> Listing
+        requires { ⌜ Given self ⌝ }
+        ensures { λ r. ⌜ Lists (group self) (id .0) (now (list .entry)) r (now (list .exit)) ⌝ }
+    {
+        let mut answer: u32 = 3;
+        let k = id.0;
+        if k < 16 {
+            let at = k as usize;
+            if self.windows[at].used {
+                let n = self.shown;
+                let order = self.order;
+                let p = place_of(order, n, id);
+                if p.0 < n {
+                    return self.list_shown(id, p, list);
+                }
+                answer = 0;
+            }
+        }
+        Listing { answer, count: 0 }
+    }
+}

@@ -1,0 +1,168 @@
+// The call redraw: document 01, "Redraw, lowest window first".
+ghost use mathlib.Core.Path.{_≡_};
+ghost use mathlib.Core.Bool.{true, cond, _&&_, _||_};
+ghost use mathlib.Core.List.{[]};
+ghost use Prim.Native.Nat.{_*_, _≤_, _<_};
+ghost use lib.Dec.{leb, eqb};
+ghost use lib.ListN.{length, getD};
+ghost use Rattle.geom.specs.Questions.{small};
+ghost use Rattle.window.specs.Held.{rects, RepDamage, RepWindow};
+ghost use Rattle.rules.specs.Redraw.{drawWindow, drawAll, cleanAll};
+ghost use Rattle.rules.specs.Calls.{Call};
+ghost use Rattle.windows.specs.View.{group, Rep, Given, MeetsScreen, Drawable, Cleaned};
+ghost use Rattle.windows.specs.Rects.{Holds};
+use crate::Done;
+use crate::Place;
+use crate::Session;
+use crate::rects::Rects;
+use window::Window;
+use window::damage::Damage;
+
+// Question 8.
+fn screen_fits(sw: u32, sh: u32, len: usize) -> bool
+    ensures { λ t. ⌜ t ≡ leb 1 sw && small sw && (leb 1 sh && small sh) && eqb len (sw * sh) ⌝ }
+{
+    if sw < 1 {
+        return false;
+    }
+    if 32767 < sw {
+        return false;
+    }
+    if sh < 1 {
+        return false;
+    }
+    if 32767 < sh {
+        return false;
+    }
+    len == sw as usize * sh as usize
+}
+
+// The dirty entries that a redraw looks at: none where it is full.
+fn dirty_of(full: bool, d: Damage) -> Rects
+    requires { ⌜ RepDamage d ⌝ }
+    ensures { λ r. ⌜ Holds r (cond full [] (rects d)) ⌝ }
+{
+    if full {
+        return Rects::none();
+    }
+    Rects::of_damage(d)
+}
+
+fn either(a: bool, b: bool) -> bool
+    ensures { λ t. ⌜ t ≡ a || b ⌝ }
+{
+    if a {
+        return true;
+    }
+    b
+}
+
+// The window without mark and damage, if it was drawn.
+fn cleaned_window(w: Window, full: bool) -> Window
+    requires { ⌜ RepWindow w ⌝ }
+    ensures { λ v. ⌜ Cleaned full w v ⌝ }
+{
+    if either(full, w.marked) {
+        let mut v = w;
+        v.marked = false;
+        let none = Damage::none();
+        v.damage = none;
+        return v;
+    }
+    w
+}
+
+impl Session {
+    // Draws the window at a place of the order, if it is to be drawn.
+    fn draw_window(self, p: Place, full: bool, store: &[u32], screen: &mut [u32], sw: u32, sh: u32)
+        requires { ⌜ Given self × (p .0 < self .shown) × Drawable self sw sh (now store) (now screen) ⌝ }
+        ensures { λ _. ⌜ now (screen .exit) ≡ drawWindow (group self) full (now (store .entry)) sw sh (getD (group self .order) (p .0) 0) (now (screen .entry)) ⌝ }
+    {
+        let i = p.0;
+        let id = self.order[i];
+        let at = id.0 as usize;
+        let w = self.windows[at];
+        if either(full, w.marked) {
+            let area = w.at;
+            let above = self.above(p);
+            let numbers = above.numbers;
+            let damage = w.damage;
+            let dirty = dirty_of(full, damage);
+            let entries = dirty.numbers;
+            let base = at * self.c as usize;
+            visible::draw::draw(
+                area.rect(),
+                base,
+                &numbers,
+                above.len,
+                &entries,
+                dirty.len,
+                store,
+                screen,
+                sw,
+                sh,
+            );
+        }
+    }
+
+    // Draws every window, lowest first.
+    fn draw_all(self, full: bool, store: &[u32], screen: &mut [u32], sw: u32, sh: u32)
+        requires { ⌜ Given self × Drawable self sw sh (now store) (now screen) ⌝ }
+        ensures { λ _. ⌜ now (screen .exit) ≡ drawAll (group self) full (now (store .entry)) sw sh (group self .order) (now (screen .entry)) ⌝ }
+    {
+        let n = self.shown;
+        let mut i: usize = 0;
+        while i < n {
+            self.draw_window(Place(i), full, store, screen, sw, sh);
+            i += 1;
+        }
+    }
+
+    // Clears marks and damage of the windows that were drawn.
+    fn cleaned(mut self, full: bool) -> Session
+        requires { ⌜ Given self ⌝ }
+        ensures { λ s. ⌜ (group s ≡ cleanAll full (group self .order) (group self)) × Rep s ⌝ }
+    {
+        let n = self.shown;
+        let order = self.order;
+        let mut i: usize = 0;
+        while i < n {
+            let id = order[i];
+            let at = id.0 as usize;
+            let w = self.windows[at];
+            let v = cleaned_window(w, full);
+            self.windows[at] = v;
+            i += 1;
+        }
+        self
+    }
+
+    pub fn redraw(
+        mut self,
+        told: bool,
+        store: &[u32],
+        screen: &mut [u32],
+        width: u32,
+        height: u32,
+    ) -> Done
+        requires { ⌜ Given self ⌝ }
+        ensures { λ r. ⌜ MeetsScreen (Call.Redraw told width height (now (store .entry)) (now (screen .entry))) self r (now (screen .exit)) ⌝ }
+    {
+        let mut answer: u32 = 1;
+        let c = self.c as usize;
+        if store.len() == 16 * c {
+            answer = 8;
+            if screen_fits(width, height, screen.len()) {
+                let full = either(told, self.owed);
+                self.draw_all(full, store, screen, width, height);
+                self = self.cleaned(full);
+                self.owed = false;
+                answer = 0;
+            }
+        }
+        Done {
+            session: self,
+            answer,
+        }
+    }
+}
