@@ -26,7 +26,7 @@ use Rattle.windows.specs.declared.NextEvent.{NextEvent}
 use Rattle.windows.specs.declared.NextEvent.the-variants as NextEvent
 use Rattle.windows.specs.declared.Popped.{Popped}
 use Rattle.windows.specs.declared.Placed.{Placed}
-use Rattle.windows.specs.declared.list.Listing.{Listing}
+use Rattle.windows.specs.declared.Listing.{Listing}
 
 -- The view --------------------------------------------------------------------------------------------------------------
 

@@ -5,13 +5,13 @@ use geom::Rect;
 use window::Event;
 use window::Window;
 
-pub mod events;
-pub mod group;
-pub mod list;
-pub mod order;
-pub mod rects;
-pub mod redraw;
-pub mod store;
+mod events;
+mod group;
+mod list;
+mod order;
+mod rects;
+mod redraw;
+mod store;
 
 // The number of a window, 0 to 15. Any other number is answered by 3.
 #[repr(C)]
@@ -61,6 +61,13 @@ pub struct Popped {
     pub session: Session,
     pub answer: u32,
     pub event: NextEvent,
+}
+
+// The answer, and how many rectangles a visible list then holds: none where the call was refused.
+#[repr(C)]
+pub struct Listing {
+    pub answer: u32,
+    pub count: usize,
 }
 
 // The position and size of a window: (0,0,0,0) where the answer is 3.

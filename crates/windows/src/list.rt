@@ -3,17 +3,12 @@ ghost use mathlib.Core.Path.{_≡_};
 ghost use Prim.Native.Nat.{_<_};
 ghost use Rattle.rules.specs.Order.{placeOf};
 ghost use Rattle.windows.specs.View.{group, ids, Given, Lists};
+use crate::Listing;
 use crate::Place;
 use crate::Session;
 use crate::WinId;
 use crate::order::place_of;
-
-// The answer, and how many rectangles the list then holds: none where the call was refused.
-#[repr(C)]
-pub struct Listing {
-    pub answer: u32,
-    pub count: usize,
-}
+use crate::rects;
 
 impl Session {
     // The list of a window in use, which stands at a place of the order.
@@ -25,7 +20,7 @@ impl Session {
         let w = self.windows[at];
         let area = w.at;
         let r = area.rect();
-        let above = self.above(p);
+        let above = rects::above(self, p);
         let numbers = above.numbers;
         let n = above.len;
         let count = visible::list::count(r, &numbers, n);

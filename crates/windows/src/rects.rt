@@ -57,22 +57,20 @@ impl Rects {
     }
 }
 
-impl Session {
-    // The rectangles of the windows above a place, lowest first.
-    pub fn above(self, p: Place) -> Rects
-        requires { ⌜ Given self × (p .0 < self .shown) ⌝ }
-        ensures { λ r. ⌜ Holds r (map (λ i. win (group self) i .at) (drop (suc (p .0)) (group self .order))) ⌝ }
-    {
-        let n = self.shown;
-        let mut list = Rects::none();
-        let mut i = p.0 + 1;
-        while i < n {
-            let id = self.order[i];
-            let at = id.0 as usize;
-            let w = self.windows[at];
-            list = list.with(w.at);
-            i += 1;
-        }
-        list
+// The rectangles of the windows above a place, lowest first.
+pub fn above(s: Session, p: Place) -> Rects
+    requires { ⌜ Given s × (p .0 < s .shown) ⌝ }
+    ensures { λ r. ⌜ Holds r (map (λ i. win (group s) i .at) (drop (suc (p .0)) (group s .order))) ⌝ }
+{
+    let n = s.shown;
+    let mut list = Rects::none();
+    let mut i = p.0 + 1;
+    while i < n {
+        let id = s.order[i];
+        let at = id.0 as usize;
+        let w = s.windows[at];
+        list = list.with(w.at);
+        i += 1;
     }
+    list
 }

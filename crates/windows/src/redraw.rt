@@ -14,6 +14,7 @@ ghost use Rattle.windows.specs.Rects.{Holds};
 use crate::Done;
 use crate::Place;
 use crate::Session;
+use crate::rects;
 use crate::rects::Rects;
 use window::Window;
 use window::damage::Damage;
@@ -84,7 +85,7 @@ impl Session {
         let w = self.windows[at];
         if either(full, w.marked) {
             let area = w.at;
-            let above = self.above(p);
+            let above = rects::above(self, p);
             let numbers = above.numbers;
             let damage = w.damage;
             let dirty = dirty_of(full, damage);

@@ -18,7 +18,7 @@ use Rattle.rules.specs.Visible.{visible, visibleList}
 use Rattle.rules.proofs.group.Invariant.{used-small}
 use Rattle.rules.proofs.group.Room.{shown-place, hidden-place}
 use Rattle.windows.specs.declared.Session.{Session}
-use Rattle.windows.specs.declared.list.Listing.{Listing}
+use Rattle.windows.specs.declared.Listing.{Listing}
 use Rattle.windows.specs.View.{ids, group, windowAt, Given, Lists}
 use Rattle.windows.proofs.laws.Session.{used-at, win-at, given-ok}
 use Rattle.windows.proofs.laws.Places.{order-length, above-place}

@@ -3,14 +3,14 @@ use Prim.Native.Nat.{_-_}
 use mathlib.Core.Path.{refl}
 use native.Mathlib.Omega.{arith}
 use Rattle.windows.proofs.laws.Above.{Above, above-low, above-none, above-room, above-next, above-end}
-use Rattle.windows.proofs.Session.above.Statement.{statement}
-use Rattle.windows.proofs.Session.above.Tie as tie
+use Rattle.windows.proofs.rects.above.Statement.{statement}
+use Rattle.windows.proofs.rects.above.Tie as tie
 
 abbrev Inv-loop : tie.InvT-loop
-Inv-loop self n list₀ i₀ list i = Above self i₀ list i
+Inv-loop s n list₀ i₀ list i = Above s i₀ list i
 
 abbrev μ-loop : tie.MeasureT-loop
-μ-loop self n list₀ i₀ list i = n - i
+μ-loop s n list₀ i₀ list i = n - i
 
 none-requires : tie.Need-none-requires Inv-loop μ-loop
 none-requires c κs = tt
