@@ -1,0 +1,2 @@
+-- What the proof of the program cites.
+pub mod laws

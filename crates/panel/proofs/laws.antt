@@ -1,0 +1,2 @@
+-- What the rules give for the program's calls.
+pub mod Calls

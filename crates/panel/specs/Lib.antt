@@ -1,0 +1,2 @@
+-- What the program asks of an event.
+pub mod Press
