@@ -19,7 +19,10 @@ pub record Holds (r : Rects) (rs : List Rect) : Type 0 where
   pub list : rectsOf (r .len) (r .numbers) ≡ rs
   pub fit : AllFit rs
 
--- q is r with one more
-pub record Added (r : Rects) (a : Area) (q : Rects) : Type 0 where
-  pub more : q .len ≡ r .len + 1
-  pub holds : (rs : List Rect) → Fits (rectOf a) → Holds r rs → Holds q (rs ++ (rectOf a ∷ []))
+-- n rectangles as numbers
+abbrev pub listed : ℕ → List ℕ → Rects
+listed n l = record { numbers = l; len = n }
+
+-- the numbers m are l with one more rectangle, at place n
+pub record Added (n : ℕ) (l : List ℕ) (a : Area) (m : List ℕ) : Type 0 where
+  pub holds : (rs : List Rect) → Fits (rectOf a) → Holds (listed n l) rs → Holds (listed (n + 1) m) (rs ++ (rectOf a ∷ []))

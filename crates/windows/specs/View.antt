@@ -8,13 +8,14 @@ use lib.ListN.{length, getD, take, drop}
 use Rattle.geom.specs.declared.Rect.{Rect}
 use Rattle.geom.specs.Questions.{_is_, asked}
 use Rattle.geom.specs.Geom.{rect}
+use Rattle.geom.specs.Lists.{outsideAll, relative, listIntersect}
 use Rattle.window.specs.declared.Window.{Window}
 use Rattle.window.specs.declared.Event.{Event}
 use Rattle.window.specs.Window.{Win}
-use Rattle.window.specs.Held.{winOf, RepWindow}
+use Rattle.window.specs.Held.{winOf, rectOf, rects, RepWindow}
 use Rattle.rules.specs.Group.{Group, start, used, win}
 use Rattle.rules.specs.Visible.{visibleList}
-use Rattle.rules.specs.Redraw.{clean}
+use Rattle.rules.specs.Redraw.{none?, drawRegions}
 use Rattle.rules.specs.Calls.{Call, does, after}
 use Rattle.windows.specs.declared.WinId.{WinId}
 use Rattle.windows.specs.declared.Session.{Session}
@@ -122,11 +123,14 @@ pub record Drawable (s : Session) (sw sh : ℕ) (store screen : List ℕ) : Type
   pub sh≤ : sh ≤ 32767
   pub size : length screen ≡ sw * sh
 
--- "Marks and damage of drawn windows are cleared": v is w after a redraw
-pub record Cleaned (full : Bool) (w v : Window) : Type 0 where
-  pub used : v .used ≡ w .used
-  pub window : winOf v ≡ cond (full || w .marked) (clean (winOf w)) (winOf w)
-  pub rep : RepWindow v
+-- the screen after a window is drawn under some rectangles: "with full or an empty damage list all visible entries are written, else
+-- `list_intersect` of visible and damage". Its pixels begin at `base` of the store
+abbrev pub painted : Window → Bool → ℕ → List Rect → List ℕ → ℕ → ℕ → List ℕ → List ℕ
+painted w full base above store sw sh screen =
+    let at : Rect = rectOf (w .at) in
+    let dirty : List Rect = cond full [] (rects (w .damage)) in
+    let seen : List Rect = map (relative at) (outsideAll (at ∷ []) above) in
+    drawRegions at base store sw sh (cond (none? dirty) seen (listIntersect seen dirty)) screen
 
 -- the same of a call that gives an id
 pub record MeetsId (k : Call) (s : Session) (r : Created) : Type 0 where

@@ -20,7 +20,7 @@ impl Session {
         let w = self.windows[at];
         let area = w.at;
         let r = area.rect();
-        let above = rects::above(self, p);
+        let above = rects::from(self, Place(p.0 + 1));
         let numbers = above.numbers;
         let n = above.len;
         let count = visible::list::count(r, &numbers, n);

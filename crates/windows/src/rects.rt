@@ -1,7 +1,7 @@
 // Up to sixteen rectangles as numbers, four for each: what the crate `visible` is lent.
 ghost use mathlib.Core.Path.{_≡_};
 ghost use mathlib.Core.List.{[], map};
-ghost use Prim.Native.Nat.{suc, _<_};
+ghost use Prim.Native.Nat.{_≤_, _<_};
 ghost use lib.ListN.{drop};
 ghost use Rattle.window.specs.Held.{rects, RepDamage};
 ghost use Rattle.rules.specs.Group.{win};
@@ -17,6 +17,18 @@ pub struct Rects {
     pub len: usize,
 }
 
+// Writes an area as the rectangle at place i.
+fn put(numbers: &mut [u32; 64], i: usize, area: Area)
+    requires { ⌜ i < 16 ⌝ }
+    ensures { λ _. ⌜ Added i (now (numbers .entry)) area (now (numbers .exit)) ⌝ }
+{
+    let at = 4 * i;
+    numbers[at] = area.x as u32;
+    numbers[at + 1] = area.y as u32;
+    numbers[at + 2] = area.w as u32;
+    numbers[at + 3] = area.h as u32;
+}
+
 impl Rects {
     pub fn none() -> Rects
         ensures { λ r. ⌜ Holds r [] ⌝ }
@@ -27,50 +39,36 @@ impl Rects {
         }
     }
 
-    // One more.
-    fn with(mut self, area: Area) -> Rects
-        requires { ⌜ self .len < 16 ⌝ }
-        ensures { λ r. ⌜ Added self area r ⌝ }
-    {
-        let at = 4 * self.len;
-        self.numbers[at] = area.x as u32;
-        self.numbers[at + 1] = area.y as u32;
-        self.numbers[at + 2] = area.w as u32;
-        self.numbers[at + 3] = area.h as u32;
-        self.len += 1;
-        self
-    }
-
     // The dirty entries of a window.
     pub fn of_damage(d: Damage) -> Rects
         requires { ⌜ RepDamage d ⌝ }
         ensures { λ r. ⌜ Holds r (rects d) ⌝ }
     {
         let n = d.len as usize;
-        let mut list = Rects::none();
+        let mut numbers = [0u32; 64];
         let mut i: usize = 0;
         while i < n {
-            list = list.with(d.areas[i]);
+            put(&mut numbers, i, d.areas[i]);
             i += 1;
         }
-        list
+        Rects { numbers, len: n }
     }
 }
 
-// The rectangles of the windows above a place, lowest first.
-pub fn above(s: Session, p: Place) -> Rects
-    requires { ⌜ Given s × (p .0 < s .shown) ⌝ }
-    ensures { λ r. ⌜ Holds r (map (λ i. win (group s) i .at) (drop (suc (p .0)) (group s .order))) ⌝ }
+// The rectangles of the windows from a place on, lowest first.
+pub fn from(s: Session, p: Place) -> Rects
+    requires { ⌜ Given s × (p .0 ≤ s .shown) ⌝ }
+    ensures { λ r. ⌜ Holds r (map (λ i. win (group s) i .at) (drop (p .0) (group s .order))) ⌝ }
 {
-    let n = s.shown;
-    let mut list = Rects::none();
-    let mut i = p.0 + 1;
+    let n = s.shown - p.0;
+    let mut numbers = [0u32; 64];
+    let mut i: usize = 0;
     while i < n {
-        let id = s.order[i];
+        let id = s.order[p.0 + i];
         let at = id.0 as usize;
         let w = s.windows[at];
-        list = list.with(w.at);
+        put(&mut numbers, i, w.at);
         i += 1;
     }
-    list
+    Rects { numbers, len: n }
 }

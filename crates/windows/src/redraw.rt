@@ -2,14 +2,16 @@
 ghost use mathlib.Core.Path.{_≡_};
 ghost use mathlib.Core.Bool.{true, cond, _&&_, _||_};
 ghost use mathlib.Core.List.{[]};
-ghost use Prim.Native.Nat.{_*_, _≤_, _<_};
+ghost use Prim.Native.Nat.{_+_, _*_, _≤_};
 ghost use lib.Dec.{leb, eqb};
-ghost use lib.ListN.{length, getD};
+ghost use lib.ListN.{length};
 ghost use Rattle.geom.specs.Questions.{small};
 ghost use Rattle.window.specs.Held.{rects, RepDamage, RepWindow};
-ghost use Rattle.rules.specs.Redraw.{drawWindow, drawAll, cleanAll};
+ghost use Rattle.rules.specs.Visible.{rectsOf};
+ghost use Rattle.rules.specs.Redraw.{drawAll, cleanAll};
 ghost use Rattle.rules.specs.Calls.{Call};
-ghost use Rattle.windows.specs.View.{group, Rep, Given, MeetsScreen, Drawable, Cleaned};
+ghost use Rattle.visible.specs.Lent.{Lent};
+ghost use Rattle.windows.specs.View.{group, Rep, Given, MeetsScreen, Drawable, painted};
 ghost use Rattle.windows.specs.Rects.{Holds};
 use crate::Done;
 use crate::Place;
@@ -58,63 +60,69 @@ fn either(a: bool, b: bool) -> bool
     b
 }
 
-// The window without mark and damage, if it was drawn.
-fn cleaned_window(w: Window, full: bool) -> Window
-    requires { ⌜ RepWindow w ⌝ }
-    ensures { λ v. ⌜ Cleaned full w v ⌝ }
+// Draws a window under n rectangles, if it is to be drawn. Its pixels begin at `base` of the store.
+fn draw_window(
+    w: Window,
+    base: usize,
+    above: &[u32],
+    n: usize,
+    full: bool,
+    store: &[u32],
+    screen: &mut [u32],
+    sw: u32,
+    sh: u32,
+)
+    requires { ⌜ RepWindow w × (base + w .at .w * w .at .h ≤ length (now store)) × Lent n (now above) ⌝ }
+    requires { ⌜ (sw ≤ 32767) × (sh ≤ 32767) × (length (now screen) ≡ sw * sh) ⌝ }
+    ensures { λ _. ⌜ now (screen .exit) ≡ cond (full || w .marked) (painted w full base (rectsOf n (now (above .entry))) (now (store .entry)) sw sh (now (screen .entry))) (now (screen .entry)) ⌝ }
 {
     if either(full, w.marked) {
-        let mut v = w;
-        v.marked = false;
-        let none = Damage::none();
-        v.damage = none;
-        return v;
+        let area = w.at;
+        let damage = w.damage;
+        let dirty = dirty_of(full, damage);
+        let entries = dirty.numbers;
+        visible::draw::draw(
+            area.rect(),
+            base,
+            above,
+            n,
+            &entries,
+            dirty.len,
+            store,
+            screen,
+            sw,
+            sh,
+        );
     }
-    w
 }
 
 impl Session {
-    // Draws the window at a place of the order, if it is to be drawn.
-    fn draw_window(self, p: Place, full: bool, store: &[u32], screen: &mut [u32], sw: u32, sh: u32)
-        requires { ⌜ Given self × (p .0 < self .shown) × Drawable self sw sh (now store) (now screen) ⌝ }
-        ensures { λ _. ⌜ now (screen .exit) ≡ drawWindow (group self) full (now (store .entry)) sw sh (getD (group self .order) (p .0) 0) (now (screen .entry)) ⌝ }
-    {
-        let i = p.0;
-        let id = self.order[i];
-        let at = id.0 as usize;
-        let w = self.windows[at];
-        if either(full, w.marked) {
-            let area = w.at;
-            let above = rects::above(self, p);
-            let numbers = above.numbers;
-            let damage = w.damage;
-            let dirty = dirty_of(full, damage);
-            let entries = dirty.numbers;
-            let base = at * self.c as usize;
-            visible::draw::draw(
-                area.rect(),
-                base,
-                &numbers,
-                above.len,
-                &entries,
-                dirty.len,
-                store,
-                screen,
-                sw,
-                sh,
-            );
-        }
-    }
-
     // Draws every window, lowest first.
     fn draw_all(self, full: bool, store: &[u32], screen: &mut [u32], sw: u32, sh: u32)
         requires { ⌜ Given self × Drawable self sw sh (now store) (now screen) ⌝ }
         ensures { λ _. ⌜ now (screen .exit) ≡ drawAll (group self) full (now (store .entry)) sw sh (group self .order) (now (screen .entry)) ⌝ }
     {
         let n = self.shown;
+        let all = rects::from(self, Place(0));
+        let numbers = all.numbers;
         let mut i: usize = 0;
         while i < n {
-            self.draw_window(Place(i), full, store, screen, sw, sh);
+            let id = self.order[i];
+            let at = id.0 as usize;
+            let w = self.windows[at];
+            let base = at * self.c as usize;
+            let next = 4 * (i + 1);
+            draw_window(
+                w,
+                base,
+                &numbers[next..],
+                n - i - 1,
+                full,
+                store,
+                screen,
+                sw,
+                sh,
+            );
             i += 1;
         }
     }
@@ -130,9 +138,10 @@ impl Session {
         while i < n {
             let id = order[i];
             let at = id.0 as usize;
-            let w = self.windows[at];
-            let v = cleaned_window(w, full);
-            self.windows[at] = v;
+            if either(full, self.windows[at].marked) {
+                self.windows[at].marked = false;
+                self.windows[at].damage.len = 0;
+            }
             i += 1;
         }
         self

@@ -1,17 +1,16 @@
 -- A redraw: each window of the order is drawn from what the code lends, and then the windows that were drawn are cleaned.
-use Prim.Native.Nat.{ℕ, suc, _+_, _*_, _≤_, _<_}
+use Prim.Native.Nat.{ℕ, zero, suc, _+_, _-_, _*_, _≤_, _<_}
 use mathlib.Core.Path.{_≡_, refl, sym, ap, subst, _∙_}
 use mathlib.Core.Bool.{Bool, true, false, cond, _||_}
 use mathlib.Core.List.{List, [], _∷_, map}
 use mathlib.Core.Option.{some}
 use native.Mathlib.Omega.{arith}
-use native.Mathlib.Nat.{mul-le-mul-right}
+use native.Mathlib.Nat.{mul-le-mul-right, not-suc-le-zero}
 use native.Mathlib.Numerals.{add-one}
-use lib.ListN.{length, getD, drop, drop-of-length-le}
-use lib.Seq.{drop-cons}
+use lib.ListN.{length, getD, take, drop, drop-of-length-le, length-map}
+use lib.Seq.{drop-cons, drop-drop, getD-set-same, set-set}
 use borrow.Author.Tests.{leb-true, eqb-true}
 use Rattle.geom.specs.declared.Rect.{Rect}
-use Rattle.geom.specs.Geom.{width, height}
 use Rattle.geom.specs.Lists.{outsideAll, relative, listIntersect}
 use Rattle.geom.proofs.basics.Tests.{fst, snd}
 use Rattle.geom.proofs.basics.Lists.{set-case}
@@ -19,20 +18,30 @@ use Rattle.window.specs.declared.Window.{Window}
 use Rattle.window.specs.Window.{Win}
 use Rattle.window.specs.Held.{winOf, rectOf, rects, RepWindow}
 use Rattle.rules.specs.Group.{Group, win, setWin}
-use Rattle.rules.specs.Visible.{visible}
+use Rattle.rules.specs.Visible.{visible, rectsOf}
 use Rattle.rules.specs.Redraw.{none?, regions, isDrawn, drawRegions, drawWindow, drawAll, clean, cleanAll, paid, screenFits}
 use Rattle.rules.specs.Redraw as Draw
 use Rattle.rules.specs.Store.{whole}
 use Rattle.rules.specs.Calls.{Redraw, does}
 use Rattle.rules.proofs.group.Invariant.{WinOk}
 use Rattle.windows.specs.declared.Session.{Session}
-use Rattle.windows.specs.View.{group, blank, windowAt, Rep, Given, Cleaned, MeetsScreen, done}
+use Rattle.visible.specs.Lent.{Lent}
+use Rattle.visible.proofs.laws.Numbers.{behind, rects-split, rest-lent}
+use Rattle.windows.specs.declared.rects.Rects.{Rects}
+use Rattle.windows.specs.View.{group, blank, windowAt, Rep, Given, MeetsScreen, done, painted}
+use Rattle.windows.specs.Rects.{Holds}
 use Rattle.windows.proofs.laws.Session.{used-at, win-at, given-ok, putWindow, put-group, put-rep, refuses, gives}
 use Rattle.windows.proofs.laws.Order.{noId}
 use Rattle.windows.proofs.laws.Places.{order-length, id-at, shown-at, id-low, is-used, win-there, above-there}
+use Rattle.windows.proofs.laws.Rects.{lends}
 use Rattle.windows.proofs.laws.Above.{higher}
 use Rattle.windows.proofs.laws.Listed.{visible-is}
 use Rattle.windows.proofs.laws.Store.{set-same}
+
+drop-map : {A B : Type 0} (n : ℕ) (f : A → B) (l : List A) → drop n (map f l) ≡ map f (drop n l)
+drop-map zero f l = refl
+drop-map (suc n) f [] = refl
+drop-map (suc n) f (x ∷ l) = drop-map n f l
 
 -- One window ---------------------------------------------------------------------------------------------------------
 
@@ -41,8 +50,15 @@ regions-lent : (full : Bool) (damage vis : List Rect) → cond (none? (cond full
 regions-lent true damage vis = refl
 regions-lent false damage vis = refl
 
+-- what the code lends to `draw` gives the screen that the rule says
+pub lent-drawn : (w : Window) (full : Bool) (base : ℕ) (bs : List Rect) (store : List ℕ) (sw sh : ℕ) (screen : List ℕ) (r : Rect) (ds : List Rect) (screen′ : List ℕ)
+    → full || w .marked ≡ true → r ≡ rectOf (w .at) → ds ≡ cond full [] (rects (w .damage))
+    → screen′ ≡ drawRegions r base store sw sh (cond (none? ds) (map (relative r) (outsideAll (r ∷ []) bs)) (listIntersect (map (relative r) (outsideAll (r ∷ []) bs)) ds)) screen
+    → screen′ ≡ cond (full || w .marked) (painted w full base bs store sw sh screen) screen
+lent-drawn w full base bs store sw sh screen r ds screen′ m e k q = q ∙ rw (e, k, m)
+
 -- the id at a place, as the code reads it
-abbrev idAt : Session → ℕ → ℕ
+abbrev pub idAt : Session → ℕ → ℕ
 idAt s i = getD (s .order) i noId .0
 
 module _ (s : Session) (h : Given s) (i : ℕ) (l : i < s .shown) where
@@ -54,35 +70,56 @@ module _ (s : Session) (h : Given s) (i : ℕ) (l : i < s .shown) where
   size = subst (WinOk (s .c)) (win-there s h i l) (given-ok s h .fits (idAt s i))
 
   -- the window's pixels lie in the store
-  pub in-store : (r : Rect) → r ≡ rectOf (windowAt s (getD (s .order) i noId .0) .at) → getD (s .order) i noId .0 * s .c + width r * height r ≤ 16 * s .c
-  in-store r e =
+  pub in-store : idAt s i * s .c + windowAt s (idAt s i) .at .w * windowAt s (idAt s i) .at .h ≤ 16 * s .c
+  in-store =
       let b : suc (idAt s i) * s .c ≤ 16 * s .c = mul-le-mul-right (s .c) (id-low s h i l) in
-      rw e (omega (arith, size .area≤, b))
+      omega (arith, size .area≤, b)
 
   -- the place of its pixels is a number of 64 bits
-  pub base-fits : getD (s .order) i noId .0 * s .c ≤ 16 * 1048576
+  pub base-fits : idAt s i * s .c ≤ 16 * 1048576
   unfolding group
   base-fits =
       let b : suc (idAt s i) * s .c ≤ 16 * s .c = mul-le-mul-right (s .c) (id-low s h i l) in
       omega (arith, b, given-ok s h .c-high)
 
-  module _ (full : Bool) (store screen : List ℕ) (sw sh : ℕ) where
-    pub window-drawn : (r : Rect) (bs ds : List Rect) (screen′ : List ℕ) → full || windowAt s (getD (s .order) i noId .0) .marked ≡ true
-        → r ≡ rectOf (windowAt s (getD (s .order) i noId .0) .at) → bs ≡ higher s (suc i) → ds ≡ cond full [] (rects (windowAt s (getD (s .order) i noId .0) .damage))
-        → screen′ ≡ drawRegions r (getD (s .order) i noId .0 * s .c) store sw sh
-        (cond (none? ds) (map (relative r) (outsideAll (r ∷ []) bs)) (listIntersect (map (relative r) (outsideAll (r ∷ []) bs)) ds)) screen
-        → screen′ ≡ drawWindow (group s) full store sw sh (getD (group s .order) i 0) screen
-    unfolding group
-    window-drawn r bs ds screen′ d e f k q =
-        let vis : List Rect = map (relative r) (outsideAll (r ∷ []) (higher s (suc i))) in
-        let v : visible (group s) (idAt s i) ≡ vis = visible-is s (idAt s i) i r (shown-at s h i l) (is-used s h i l) (above-there s h i l) e in
-        let w = win-there s h i l in
-        let at : win (group s) (idAt s i) .at ≡ r = ap (λ (x : Win). x .at) w ∙ sym e in
-        q ∙ rw (f, k, regions-lent full (rects (windowAt s (idAt s i) .damage)) vis, id-at s h i l, marked-there full, d, v, at, ap (λ (x : Win). x .damage) w)
+  -- of the rectangles of all shown windows, those behind its own are the ones above it
+  module _ (all : Rects) (held : Holds all (higher s 0)) where
+    count : all .len ≡ s .shown
+    count = held .count ∙ length-map (group s .order) (λ j. win (group s) j .at) ∙ order-length s h
 
-    pub window-kept : full || windowAt s (getD (s .order) i noId .0) .marked ≡ false
-        → screen ≡ drawWindow (group s) full store sw sh (getD (group s .order) i 0) screen
-    window-kept d = rw (id-at s h i l, marked-there full, d)
+    -- the numbers that the code lends, of the array's 64
+    abbrev rest : List ℕ
+    rest = take (64 - 4 * (i + 1)) (drop (4 * (i + 1)) (all .numbers))
+
+    rest-is : behind i (all .numbers) ≡ rest
+    rest-is = ap (λ (n : ℕ). take (n - 4 * (i + 1)) (drop (4 * (i + 1)) (all .numbers))) (held .room)
+
+    pub all-lent : Lent (s .shown - i - 1) rest
+    all-lent =
+        subst (Lent (s .shown - i - 1)) rest-is
+        (rest-lent (s .shown) (all .numbers) i l (subst (λ (n : ℕ). Lent n (all .numbers)) count (lends all (higher s 0) held)))
+
+    lent-above : rectsOf (s .shown - i - 1) rest ≡ higher s (suc i)
+    lent-above =
+        let n : i + 1 ≡ suc i = omega arith in
+        ap (rectsOf (s .shown - i - 1)) (sym rest-is)
+        ∙ ap (drop 1) (sym (rects-split (s .shown) (all .numbers) i l))
+        ∙ drop-drop 1 i (rectsOf (s .shown) (all .numbers))
+        ∙ ap (λ (k : ℕ). drop k (rectsOf (s .shown) (all .numbers))) n
+        ∙ ap (λ (k : ℕ). drop (suc i) (rectsOf k (all .numbers))) (sym count)
+        ∙ ap (drop (suc i)) (held .list)
+        ∙ drop-map (suc i) (λ j. win (group s) j .at) (group s .order)
+
+    module _ (full : Bool) (store screen : List ℕ) (sw sh : ℕ) where
+      pub window-drawn : (screen′ : List ℕ)
+          → screen′ ≡ cond (full || windowAt s (idAt s i) .marked) (painted (windowAt s (idAt s i)) full (idAt s i * s .c) (rectsOf (s .shown - i - 1) rest) store sw sh screen) screen
+          → screen′ ≡ drawWindow (group s) full store sw sh (getD (group s .order) i 0) screen
+      unfolding group
+      window-drawn screen′ q =
+          let at : Rect = rectOf (windowAt s (idAt s i) .at) in
+          let vis : List Rect = map (relative at) (outsideAll (at ∷ []) (higher s (suc i))) in
+          let v : visible (group s) (idAt s i) ≡ vis = visible-is s (idAt s i) i at (shown-at s h i l) (is-used s h i l) (above-there s h i l) refl in
+          q ∙ rw (lent-above, regions-lent full (rects (windowAt s (idAt s i) .damage)) vis, id-at s h i l, marked-there full, v, win-there s h i l)
 
 -- All windows --------------------------------------------------------------------------------------------------------
 
@@ -119,41 +156,70 @@ pub record Cleaning (full : Bool) (s t : Session) (i : ℕ) : Type 0 where
 pub clean-none : (full : Bool) (s : Session) → Given s → Cleaning full s s 0
 clean-none full s h = record { given = h; rep = h .rep; within = omega arith; used = λ id. refl; left = refl }
 
--- a window put back as the rule cleans it
-clean-put : (full : Bool) (t : Session) (id : ℕ) (v : Window) → windowAt t id .used ≡ true → Cleaned full (windowAt t id) v
-    → group (putWindow id v t) ≡ cond (isDrawn (group t) full id) (setWin id (some (clean (win (group t) id))) (group t)) (group t)
-clean-put full t id v u d =
-    put-group t id v (d .used ∙ u) ∙ ap (λ (w : Win). setWin id (some w) (group t)) (d .window) ∙ go (full || windowAt t id .marked) refl
-  where
-    w : win (group t) id ≡ winOf (windowAt t id)
-    w = win-at t id u
+-- the window without its mark, and with no damage: the two writes of the code
+abbrev unmarked : Window → Window
+unmarked w = record { queue = w .queue; damage = w .damage; at = w .at; cursor = w .cursor; used = w .used; marked = false }
 
-    go : (b : Bool) → full || windowAt t id .marked ≡ b
-        → setWin id (some (cond b (clean (winOf (windowAt t id))) (winOf (windowAt t id)))) (group t) ≡ cond (isDrawn (group t) full id) (setWin id (some (clean (win (group t) id))) (group t)) (group t)
-    go true e = rw (w, e)
-    go false e = rw (ap (λ (x : Win). full || x .marked) w ∙ e) (ap (λ (x : Win). setWin id (some x) (group t)) (sym w) ∙ set-same (group t) id (used-at t id ∙ u))
+abbrev emptied : Window → Window
+emptied w = record { queue = w .queue; damage = record { areas = w .damage .areas; len = 0 }; at = w .at; cursor = w .cursor; used = w .used; marked = w .marked }
+
+abbrev wiped : Window → Window
+wiped w = emptied (unmarked w)
+
+wiped-rep : (w : Window) → RepWindow w → RepWindow (wiped w)
+wiped-rep w r = record {
+  at = r .at;
+  damage = record { areas = r .damage .areas; len = omega arith; low = λ i l. absurd (not-suc-le-zero l) };
+  queue = r .queue;
+  cursor = r .cursor;
+}
+
+module _ {full : Bool} {s t : Session} {i : ℕ} (q : Cleaning full s t i) (l : i < s .shown) where
+  abbrev at : ℕ
+  at = idAt s i
+
+  pub clean-low : getD (s .order) i noId .0 < 16
+  clean-low = id-low s (q .given) i l
+
+  in-use : windowAt t at .used ≡ true
+  in-use = q .used at ∙ is-used s (q .given) i l
+
+  first-left : drop i (group s .order) ≡ at ∷ drop (i + 1) (group s .order)
+  first-left = rw (add-one, ← (id-at s (q .given) i l)) (drop-cons (group s .order) i 0 (omega (arith, order-length s (q .given))))
+
+  marked-now : isDrawn (group t) full at ≡ full || windowAt t at .marked
+  marked-now = ap (λ (w : Win). full || w .marked) (win-at t at in-use)
+
+  -- the rule's step at this window
+  left-is : (g : Group) → cond (isDrawn (group t) full at) (setWin at (some (clean (win (group t) at))) (group t)) (group t) ≡ g
+      → cleanAll full (drop (i + 1) (group s .order)) g ≡ cleanAll full (group s .order) (group s)
+  left-is g e = ap (cleanAll full (drop (i + 1) (group s .order))) (sym e) ∙ ap (λ (r : List ℕ). cleanAll full r (group t)) (sym first-left) ∙ q .left
+
+  pub clean-skip : full || windowAt t (getD (s .order) i noId .0) .marked ≡ false → Cleaning full s t (i + 1)
+  clean-skip e = record { given = q .given; rep = q .rep; within = omega arith; used = q .used; left = left-is (group t) (rw (marked-now, e) refl) }
+
+  wiped-there : full || windowAt t at .marked ≡ true → Cleaning full s (putWindow at (wiped (windowAt t at)) t) (i + 1)
+  wiped-there e = record {
+    given = q .given;
+    rep = put-rep t at (wiped (windowAt t at)) (q .rep) (wiped-rep (windowAt t at) (q .rep .each at clean-low));
+    within = omega arith;
+    used = λ j. set-case (λ w. w .used ≡ windowAt s j .used) (t .windows) at j (wiped (windowAt t at)) blank (λ f. q .used at ∙ ap (λ (n : ℕ). windowAt s n .used) (sym f)) (q .used j);
+    left =
+        left-is (group (putWindow at (wiped (windowAt t at)) t))
+        (rw (marked-now, e) (ap (λ (w : Win). setWin at (some (clean w)) (group t)) (win-at t at in-use) ∙ sym (put-group t at (wiped (windowAt t at)) in-use)));
+  }
+
+  -- as the code writes it: first the mark, then the count of the damage
+  abbrev once : Session
+  once = putWindow at (unmarked (windowAt t at)) t
+
+  pub clean-next : full || windowAt t (getD (s .order) i noId .0) .marked ≡ true → Cleaning full s (putWindow at (emptied (windowAt once at)) once) (i + 1)
+  clean-next e =
+      subst (λ (v : Window). Cleaning full s (putWindow at (emptied v) once) (i + 1)) (sym (getD-set-same (t .windows) at (unmarked (windowAt t at)) blank (omega (arith, clean-low, q .rep .windows))))
+      (subst (λ (ws : List Window). Cleaning full s (record { windows = ws; order = t .order; shown = t .shown; c = t .c; focus = t .focus; owed = t .owed }) (i + 1)) (sym (set-set (t .windows) at (unmarked (windowAt t at)) (wiped (windowAt t at))))
+      (wiped-there e))
 
 module _ {full : Bool} {s t : Session} {i : ℕ} (q : Cleaning full s t i) where
-  pub clean-low : i < s .shown → getD (s .order) i noId .0 < 16
-  clean-low l = id-low s (q .given) i l
-
-  pub clean-rep : i < s .shown → RepWindow (windowAt t (getD (s .order) i noId .0))
-  clean-rep l = q .rep .each (getD (s .order) i noId .0) (clean-low l)
-
-  pub clean-next : (v : Window) → i < s .shown → Cleaned full (windowAt t (getD (s .order) i noId .0)) v → Cleaning full s (putWindow (getD (s .order) i noId .0) v t) (i + 1)
-  clean-next v l d =
-      let k : ℕ = getD (s .order) i noId .0 in
-      let u : windowAt t k .used ≡ true = q .used k ∙ is-used s (q .given) i l in
-      let o : drop i (group s .order) ≡ k ∷ drop (i + 1) (group s .order) =
-      rw (add-one, ← (id-at s (q .given) i l)) (drop-cons (group s .order) i 0 (omega (arith, order-length s (q .given)))) in
-      record {
-        given = q .given;
-        rep = put-rep t k v (q .rep) (d .rep);
-        within = omega arith;
-        used = λ j. set-case (λ w. w .used ≡ windowAt s j .used) (t .windows) k j v blank (λ e. d .used ∙ q .used k ∙ ap (λ (n : ℕ). windowAt s n .used) (sym e)) (q .used j);
-        left = ap (cleanAll full (drop (i + 1) (group s .order))) (clean-put full t k v u d) ∙ ap (λ (r : List ℕ). cleanAll full r (group t)) (sym o) ∙ q .left;
-      }
-
   pub clean-end : s .shown ≤ i → (group t ≡ cleanAll full (group s .order) (group s)) × Rep t
   clean-end l = (ap (λ (r : List ℕ). cleanAll full r (group t)) (sym (drop-of-length-le (group s .order) {i = i} (omega (arith, order-length s (q .given))))) ∙ q .left, q .rep)
 

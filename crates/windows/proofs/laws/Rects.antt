@@ -18,7 +18,7 @@ use Rattle.rules.specs.Visible.{rectsOf}
 use Rattle.visible.specs.Lent.{rectAt, AllFit, Lent}
 use Rattle.visible.proofs.laws.Turns.{four-set}
 use Rattle.windows.specs.declared.rects.Rects.{Rects}
-use Rattle.windows.specs.Rects.{Holds, Added}
+use Rattle.windows.specs.Rects.{Holds, listed, Added}
 
 -- The list of some numbers -------------------------------------------------------------------------------------------
 
@@ -67,21 +67,19 @@ unfolding AllFit
 fit-append [] r h f = (f, tt)
 fit-append (x ∷ rs) r h f = (h .0, fit-append rs r (h .1) f)
 
-pub added : (r q : Rects) (a : Area) → r .len < 16 → q .len ≡ r .len + 1
-    → q .numbers ≡ set (set (set (set (r .numbers) (4 * r .len) (a .x)) (4 * r .len + 1) (a .y)) (4 * r .len + 2) (a .w)) (4 * r .len + 3) (a .h)
-    → Added r a q
-added r q a l e s = record {
-  more = e;
+pub added : (n : ℕ) (l m : List ℕ) (a : Area) → n < 16 → m ≡ set (set (set (set l (4 * n) (a .x)) (4 * n + 1) (a .y)) (4 * n + 2) (a .w)) (4 * n + 3) (a .h)
+    → Added n l a m
+added n l m a less s = record {
   holds = λ rs f h.
-      let t : q .numbers ≡ sets (r .numbers) (4 * r .len) (numbers (rectOf a ∷ [])) = s ∙ four-set (r .numbers) (4 * r .len) (rectOf a) in
-      let n : q .len ≡ suc (r .len) = omega arith in
-      let room : 4 * r .len + 4 ≤ length (r .numbers) = omega (arith, h .room) in
+      let t : m ≡ sets l (4 * n) (numbers (rectOf a ∷ [])) = s ∙ four-set l (4 * n) (rectOf a) in
+      let up : n + 1 ≡ suc n = omega arith in
+      let room : 4 * n + 4 ≤ length l = omega (arith, h .room) in
       let long : length (rs ++ (rectOf a ∷ [])) ≡ length rs + 1 = length-append rs (rectOf a ∷ []) in
       record {
-        room = ap length t ∙ length-sets (r .numbers) (4 * r .len) (numbers (rectOf a ∷ [])) ∙ h .room;
+        room = ap length t ∙ length-sets l (4 * n) (numbers (rectOf a ∷ [])) ∙ h .room;
         few = omega (arith, h .count);
         count = omega (arith, h .count);
-        list = rw (n, t) (with-one (r .numbers) (r .len) (rectOf a) room ∙ ap (λ (l : List Rect). l ++ (rectOf a ∷ [])) (h .list));
+        list = rw (up, t) (with-one l n (rectOf a) room ∙ ap (λ (k : List Rect). k ++ (rectOf a ∷ [])) (h .list));
         fit = fit-append rs (rectOf a) (h .fit) f;
       };
 }
@@ -97,26 +95,27 @@ area-fits r h = omega arith
 
 -- A list filled in turn ----------------------------------------------------------------------------------------------
 
--- the first ones of `rs` are held, as many as there are
-pub record Filling (rs : List Rect) (r : Rects) : Type 0 where
+-- the first i of `rs` are held
+pub record Filling (rs : List Rect) (l : List ℕ) (i : ℕ) : Type 0 where
   pub few : length rs ≤ 16
-  pub within : r .len ≤ length rs
-  pub holds : Holds r (take (r .len) rs)
+  pub within : i ≤ length rs
+  pub holds : Holds (listed i l) (take i rs)
 
-pub fill-none : (rs : List Rect) (r : Rects) → length rs ≤ 16 → Holds r [] → Filling rs r
-fill-none rs r f h =
-    let z : r .len ≡ 0 = h .count in
-    record { few = f; within = omega arith; holds = subst (λ (n : ℕ). Holds r (take n rs)) (sym z) h }
+pub fill-none : (rs : List Rect) (l : List ℕ) → length rs ≤ 16 → length l ≡ 64 → Filling rs l 0
+unfolding AllFit
+fill-none rs l f n = record { few = f; within = omega arith; holds = record { room = n; few = omega arith; count = refl; list = refl; fit = tt } }
 
-module _ {rs : List Rect} {r : Rects} (q : Filling rs r) where
-  pub fill-next : (z : Rect) (a : Area) (t : Rects) → r .len < length rs → getD rs (r .len) z ≡ rectOf a → Fits (rectOf a) → Added r a t → Filling rs t
-  fill-next z a t l e f d =
-      let n : t .len ≡ suc (r .len) = omega (arith, d .more) in
+module _ {rs : List Rect} {l : List ℕ} {i : ℕ} (q : Filling rs l i) where
+  pub fill-next : (z : Rect) (a : Area) (m : List ℕ) → i < length rs → getD rs i z ≡ rectOf a → Fits (rectOf a) → Added i l a m → Filling rs m (i + 1)
+  fill-next z a m less e f d =
+      let up : i + 1 ≡ suc i = omega arith in
       record {
         few = q .few;
-        within = omega (arith, d .more);
-        holds = subst (Holds t) (sym (ap (λ (k : ℕ). take k rs) n ∙ take-suc rs (r .len) z l ∙ ap (λ (x : Rect). take (r .len) rs ++ (x ∷ [])) e)) (d .holds (take (r .len) rs) f (q .holds));
+        within = omega arith;
+        holds = subst (Holds (listed (i + 1) m)) (sym (ap (λ (k : ℕ). take k rs) up ∙ take-suc rs i z less ∙ ap (λ (x : Rect). take i rs ++ (x ∷ [])) e)) (d .holds (take i rs) f (q .holds));
       }
 
-  pub fill-end : length rs ≤ r .len → Holds r rs
-  fill-end l = subst (Holds r) (take-all (r .len) rs l) (q .holds)
+  pub fill-end : (n : ℕ) → n ≤ i → length rs ≡ n → Holds (listed n l) rs
+  fill-end n h e =
+      let k : i ≡ n = omega (arith, q .within) in
+      subst (λ (j : ℕ). Holds (listed j l) rs) k (subst (Holds (listed i l)) (take-all i rs (omega arith)) (q .holds))

@@ -1,7 +1,11 @@
 -- The windows up to place i are cleaned.
-use Prim.Native.Nat.{_-_}
+use Prim.Native.Nat.{_-_, _+_}
+use mathlib.Core.Path.{sym, subst, _∙_}
+use mathlib.Core.Logic.{⊎-elim}
 use native.Mathlib.Omega.{arith}
-use Rattle.windows.proofs.laws.Drawn.{Cleaning, clean-none, clean-low, clean-rep, clean-next, clean-end}
+use Rattle.windows.specs.declared.Session.{Session}
+use Rattle.windows.proofs.laws.Drawn.{Cleaning, clean-none, clean-low, clean-next, clean-skip, clean-end}
+use borrow.Author.Needs.{needs}
 use Rattle.windows.proofs.Session.cleaned.Statement.{statement}
 use Rattle.windows.proofs.Session.cleaned.Tie as tie
 
@@ -23,29 +27,40 @@ array-copy-out-id c = omega (arith, c .before .loop .inv .given .rep .shown)
 cast-at : tie.Need-cast-at Inv-loop μ-loop
 cast-at c = omega (arith, clean-low (c .before .before .before .loop .inv) (c .before .before .loop-test .taken))
 
-mul-w : tie.Need-mul-w Inv-loop μ-loop
-mul-w c = omega (arith, clean-low (c .before .before .before .loop .inv) (c .before .before .loop-test .taken))
+mul-either : tie.Need-mul-either Inv-loop μ-loop
+mul-either c = omega (arith, clean-low (c .before .before .before .loop .inv) (c .before .before .loop-test .taken))
 
-element-copy-out-w : tie.Need-element-copy-out-w Inv-loop μ-loop
-element-copy-out-w c = omega (arith, clean-low (c .before .before .before .loop .inv) (c .before .before .loop-test .taken))
+element-copy-out-either : tie.Need-element-copy-out-either Inv-loop μ-loop
+element-copy-out-either c = clean-low (c .before .before .before .loop .inv) (c .before .before .loop-test .taken)
 
-cleaned-window-requires : tie.Need-cleaned-window-requires Inv-loop μ-loop
-cleaned-window-requires c κs = clean-rep (c .before .before .before .before .loop .inv) (c .before .before .before .loop-test .taken)
+either-requires : tie.Need-either-requires Inv-loop μ-loop
+either-requires c κs = tt
 
-mul-v : tie.Need-mul-v Inv-loop μ-loop
-mul-v c = omega (arith, clean-low (c .before .before .before .before .before .loop .inv) (c .before .before .before .before .loop-test .taken))
+mul-self : tie.Need-mul-self Inv-loop μ-loop
+mul-self c = omega (arith, clean-low (c .before .before .before .before .before .loop .inv) (c .before .before .before .before .loop-test .taken))
 
-element-set-from-v : tie.Need-element-set-from-v Inv-loop μ-loop
-element-set-from-v c = omega (arith, clean-low (c .before .before .before .before .before .loop .inv) (c .before .before .before .before .loop-test .taken))
+way-write-given-self : tie.Need-way-write-given-self Inv-loop μ-loop
+way-write-given-self c = (clean-low (c .before .before .before .before .before .loop .inv) (c .before .before .before .before .loop-test .taken), tt)
+
+mul-self-2 : tie.Need-mul-self-2 Inv-loop μ-loop
+mul-self-2 c = omega (arith, clean-low (c .before .before .before .before .before .before .loop .inv) (c .before .before .before .before .before .loop-test .taken))
+
+way-write-given-self-2 : tie.Need-way-write-given-self-2 Inv-loop μ-loop
+way-write-given-self-2 c = (clean-low (c .before .before .before .before .before .before .loop .inv) (c .before .before .before .before .before .loop-test .taken), tt, tt)
 
 add-i : tie.Need-add-i Inv-loop μ-loop
-add-i c = omega arith
+add-i c = omega (arith, c .before .before .before .before .before .loop .inv .given .rep .shown, c .before .before .before .before .loop-test .taken)
 
 loop-less : tie.Need-loop-less Inv-loop μ-loop
 loop-less c = omega arith
 
 loop-again : tie.Need-loop-again Inv-loop μ-loop
-loop-again c = clean-next (c .before .before .before .before .before .loop .inv) _ (c .before .before .before .before .loop-test .taken) (c .cleaned-window .ensures)
+loop-again c =
+    let q = c .before .before .before .before .before .loop .inv in
+    let l = c .before .before .before .before .loop-test .taken in
+    ⊎-elim
+    (λ t. subst (λ (s : Session). Cleaning (c .before .before .before .before .before .before .before .args .full) (c .before .before .before .before .before .before .before .args .t1) s (c .before .before .before .before .before .loop .i + 1)) (sym (t .3)) (clean-next q l (sym (c .before .either .ensures) ∙ t .0 .taken)))
+    (λ e. subst (λ (s : Session). Cleaning (c .before .before .before .before .before .before .before .args .full) (c .before .before .before .before .before .before .before .args .t1) s (c .before .before .before .before .before .loop .i + 1)) (sym (e .1)) (clean-skip q l (sym (c .before .either .ensures) ∙ e .0 .left))) (c .if1 .came)
 
 returns : tie.Need-returns Inv-loop μ-loop
 returns c = clean-end (c .before .loop .inv) (c .loop-test .left)
@@ -60,11 +75,13 @@ cleaned-spec =
     mul-id
     array-copy-out-id
     cast-at
-    mul-w
-    element-copy-out-w
-    cleaned-window-requires
-    mul-v
-    element-set-from-v
+    mul-either
+    element-copy-out-either
+    either-requires
+    mul-self
+    way-write-given-self
+    mul-self-2
+    way-write-given-self-2
     add-i
     loop-less
     loop-again

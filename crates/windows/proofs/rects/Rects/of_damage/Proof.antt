@@ -1,45 +1,46 @@
 -- The first i entries are held.
 use Prim.Native.Nat.{_-_}
+use mathlib.Core.Path.{refl}
 use native.Mathlib.Omega.{arith}
-use Rattle.windows.proofs.laws.Above.{Dirty, dirty-none, dirty-room, dirty-next, dirty-end}
+use Rattle.window.specs.Held.{rects}
+use Rattle.windows.proofs.laws.Rects.{Filling, fill-end}
+use Rattle.windows.proofs.laws.Above.{dirty-count, dirty-none, dirty-next}
+use borrow.Author.Needs.{needs}
 use Rattle.windows.proofs.rects.Rects.of_damage.Statement.{statement}
 use Rattle.windows.proofs.rects.Rects.of_damage.Tie as tie
 
 abbrev Inv-loop : tie.InvT-loop
-Inv-loop d n list₀ i₀ list i = Dirty d list i
+Inv-loop d n numbers₀ i₀ numbers i = Filling (rects d) numbers i
 
 abbrev μ-loop : tie.MeasureT-loop
-μ-loop d n list₀ i₀ list i = n - i
+μ-loop d n numbers₀ i₀ numbers i = n - i
 
 cast-n : tie.Need-cast-n Inv-loop μ-loop
-cast-n c = omega arith
-
-none-requires : tie.Need-none-requires Inv-loop μ-loop
-none-requires c κs = tt
+cast-n c = search needs
 
 loop-holds : tie.Need-loop-holds Inv-loop μ-loop
-loop-holds c = dirty-none _ (c .before .pre) _ (c .none .ensures)
+loop-holds c = dirty-none _ (c .pre) _ refl
 
-mul-with : tie.Need-mul-with Inv-loop μ-loop
-mul-with c = omega (arith, c .before .loop .inv .rep .len)
+mul-put : tie.Need-mul-put Inv-loop μ-loop
+mul-put c = omega (arith, c .before .before .before .pre .len, c .before .loop-test .taken)
 
-element-copy-out-with : tie.Need-element-copy-out-with Inv-loop μ-loop
-element-copy-out-with c = omega (arith, c .before .loop .inv .rep .len)
+element-copy-out-put : tie.Need-element-copy-out-put Inv-loop μ-loop
+element-copy-out-put c = omega (arith, c .before .before .before .pre .len, c .before .loop-test .taken)
 
-with-requires : tie.Need-with-requires Inv-loop μ-loop
-with-requires c κs = dirty-room (c .before .before .loop .inv) (c .before .loop-test .taken)
+put-requires : tie.Need-put-requires Inv-loop μ-loop
+put-requires c κs = omega (arith, c .before .before .before .before .pre .len, c .before .before .loop-test .taken)
 
 add-i : tie.Need-add-i Inv-loop μ-loop
-add-i c = omega arith
+add-i c = omega (arith, c .before .before .before .before .before .pre .len, c .before .before .before .loop-test .taken)
 
 loop-less : tie.Need-loop-less Inv-loop μ-loop
 loop-less c = omega arith
 
 loop-again : tie.Need-loop-again Inv-loop μ-loop
-loop-again c = dirty-next (c .before .before .before .loop .inv) _ (c .before .before .loop-test .taken) (c .with .ensures)
+loop-again c = dirty-next _ (c .before .before .before .before .before .pre) _ (c .before .before .before .before .loop .inv) (c .before .before .before .loop-test .taken) (c .put .ensures)
 
 returns : tie.Need-returns Inv-loop μ-loop
-returns c = dirty-end (c .before .loop .inv) (c .loop-test .left)
+returns c = fill-end (c .before .loop .inv) _ (c .loop-test .left) (dirty-count _ (c .before .before .pre))
 
 pub of-damage-spec : {M : Type 1} → statement M
 of-damage-spec =
@@ -48,11 +49,10 @@ of-damage-spec =
     Inv-loop
     μ-loop
     cast-n
-    none-requires
     loop-holds
-    mul-with
-    element-copy-out-with
-    with-requires
+    mul-put
+    element-copy-out-put
+    put-requires
     add-i
     loop-less
     loop-again
