@@ -1,10 +1,12 @@
 // The render order: where a window stands in it, and the calls show, hide and drop.
 ghost use mathlib.Core.Path.{_≡_};
 ghost use Prim.Native.Nat.{_-_, _≤_, _<_};
+ghost use mathlib.Core.Bool.{cond};
+ghost use lib.Dec.{eqb};
 ghost use lib.ListN.{getD};
 ghost use Rattle.rules.specs.Order as rule;
 ghost use Rattle.rules.specs.Calls.{Call};
-ghost use Rattle.windows.specs.View.{ids, group, Rep, Given, Closed, Meets};
+ghost use Rattle.windows.specs.View.{ids, Given, Closed, Meets};
 use crate::Done;
 use crate::Place;
 use crate::Session;
@@ -42,19 +44,22 @@ pub fn close_gap(order: [WinId; 16], shown: usize, p: Place) -> [WinId; 16]
     next
 }
 
-// Who gets the focus once the window at a place went, of the `left` that stayed: the next lower, or the lowest, or 0.
-pub fn next_focus(order: [WinId; 16], left: usize, p: Place) -> WinId
+// Who has the focus once window `id` left its place p, of the `left` that stayed: if it was focussed, the next lower, or the lowest, or 0.
+pub fn focus_after(focus: WinId, id: WinId, order: [WinId; 16], left: usize, p: Place) -> WinId
     requires { ⌜ (left ≤ 16) × (p .0 ≤ left) ⌝ }
-    ensures { λ f. ⌜ f .0 ≡ getD (ids left order) (p .0 - 1) 0 ⌝ }
+    ensures { λ f. ⌜ f .0 ≡ cond (eqb (focus .0) (id .0)) (getD (ids left order) (p .0 - 1) 0) (focus .0) ⌝ }
 {
-    let k = p.0;
-    if left == 0 {
-        return WinId(0);
+    if focus.0 == id.0 {
+        let k = p.0;
+        if left == 0 {
+            return WinId(0);
+        }
+        if k == 0 {
+            return order[0];
+        }
+        return order[k - 1];
     }
-    if k == 0 {
-        return order[0];
-    }
-    order[k - 1]
+    focus
 }
 
 impl Session {
@@ -86,27 +91,6 @@ impl Session {
     }
 
     // Removed from the render order; nothing if hidden.
-    fn hidden(mut self, id: WinId) -> Session
-        requires { ⌜ Rep self ⌝ }
-        ensures { λ s. ⌜ (group s ≡ rule.hidden (id .0) (group self)) × Rep s ⌝ }
-    {
-        let n = self.shown;
-        let order = self.order;
-        let p = place_of(order, n, id);
-        if p.0 < n {
-            let closed = close_gap(order, n, p);
-            self.order = closed;
-            self.shown = n - 1;
-            self.owed = true;
-            let f = self.focus;
-            if f.0 == id.0 {
-                let next = next_focus(closed, n - 1, p);
-                self.focus = next;
-            }
-        }
-        self
-    }
-
     pub fn hide(mut self, id: WinId) -> Done
         requires { ⌜ Given self ⌝ }
         ensures { λ r. ⌜ Meets (Call.Hide (id .0)) self r ⌝ }
@@ -116,8 +100,18 @@ impl Session {
         if k < 16 {
             let at = k as usize;
             if self.windows[at].used {
-                self = self.hidden(id);
                 answer = 0;
+                let n = self.shown;
+                let order = self.order;
+                let p = place_of(order, n, id);
+                if p.0 < n {
+                    let closed = close_gap(order, n, p);
+                    let focus = focus_after(self.focus, id, closed, n - 1, p);
+                    self.order = closed;
+                    self.shown = n - 1;
+                    self.focus = focus;
+                    self.owed = true;
+                }
             }
         }
         Done {
@@ -127,23 +121,17 @@ impl Session {
     }
 
     // Hides the window and frees its id; its pixels stay in the store.
-    pub fn drop(mut self, id: WinId) -> Done
+    pub fn drop(self, id: WinId) -> Done
         requires { ⌜ Given self ⌝ }
         ensures { λ r. ⌜ Meets (Call.Drop (id .0)) self r ⌝ }
     {
-        let mut answer: u32 = 3;
-        let k = id.0;
-        if k < 16 {
-            let at = k as usize;
-            if self.windows[at].used {
-                self = self.hidden(id);
-                self.windows[at].used = false;
-                answer = 0;
-            }
+        let hidden = self.hide(id);
+        let answer = hidden.answer;
+        let mut session = hidden.session;
+        if answer == 0 {
+            let at = id.0 as usize;
+            session.windows[at].used = false;
         }
-        Done {
-            session: self,
-            answer,
-        }
+        Done { session, answer }
     }
 }

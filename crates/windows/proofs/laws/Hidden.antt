@@ -1,11 +1,11 @@
 -- A window hidden: the order without it, and who has the focus then.
 use Prim.Native.Nat.{ℕ, _-_, _≤_, _<_}
-use mathlib.Core.Path.{_≡_, refl, sym, ap, _∙_}
-use mathlib.Core.Bool.{true, false}
+use mathlib.Core.Path.{_≡_, sym, _∙_}
+use mathlib.Core.Bool.{true, false, cond}
 use mathlib.Core.List.{List}
 use native.Mathlib.Omega.{arith}
+use lib.Dec.{eqb}
 use lib.ListN.{length, getD}
-use borrow.Author.Tests.{eq-eqb, ne-eqb}
 use Rattle.rules.specs.Order.{placeOf, shown, without, nextFocus, hidden}
 use Rattle.rules.proofs.group.Room.{shown-place, hidden-place}
 use Rattle.windows.specs.declared.WinId.{WinId}
@@ -31,20 +31,12 @@ module _ (s : Session) (r : Rep s) (id p : ℕ) (at : p ≡ placeOf id (ids (s .
     closed : ids (s .shown - 1) order ≡ without id (ids (s .shown) (s .order))
     closed = ids-closed id (s .shown) p (s .order) order at l q
 
-    hides : (focus : WinId) → focus .0 ≡ nextFocus id (ids (s .shown) (s .order)) (s .focus .0)
+    pub hidden-now : (focus : WinId) → focus .0 ≡ cond (eqb (s .focus .0) id) (getD (ids (s .shown - 1) order) (p - 1) 0) (s .focus .0)
         → (group (after s order focus) ≡ hidden id (group s)) × Rep (after s order focus)
     unfolding group
-    hides focus f =
-        let y : shown (group s) id ≡ true = shown-place id (ids (s .shown) (s .order)) (omega (arith, size)) in (
+    hidden-now focus e =
+        let y : shown (group s) id ≡ true = shown-place id (ids (s .shown) (s .order)) (omega (arith, size)) in
+        let f : focus .0 ≡ nextFocus id (ids (s .shown) (s .order)) (s .focus .0) = e ∙ rw (closed, at) in (
           (λ i. record { c = s .c; windows = group s .windows; order = closed i; focus = f i; owed = true }) ∙ rw y,
           record { windows = r .windows; order = q .all; shown = omega (arith, r .shown); each = r .each },
         )
-
-    -- the focus goes on
-    pub hidden-focus : (focus : WinId) → s .focus .0 ≡ id → focus .0 ≡ getD (ids (s .shown - 1) order) (p - 1) 0
-        → (group (after s order focus) ≡ hidden id (group s)) × Rep (after s order focus)
-    hidden-focus focus y f = hides focus (f ∙ rw (closed, at, eq-eqb (s .focus .0) id y))
-
-    -- or stays
-    pub hidden-other : (s .focus .0 ≡ id → ⊥) → (group (after s order (s .focus)) ≡ hidden id (group s)) × Rep (after s order (s .focus))
-    hidden-other n = hides (s .focus) (rw (ne-eqb (s .focus .0) id n))

@@ -1,4 +1,4 @@
--- Question 3, then the window is hidden.
+-- Question 3; then a window with a place leaves it, and the focus goes on if it was the window's.
 use Prim.Native.Nat.{ℕ}
 use mathlib.Core.Path.{_≡_, refl, ap, _∙_}
 use mathlib.Core.Bool.{true, false}
@@ -8,6 +8,7 @@ use Rattle.rules.specs.Calls.{Hide, does}
 use Rattle.windows.specs.declared.Session.{Session}
 use Rattle.windows.specs.View.{group, windowAt, Rep, Given, Meets, done}
 use Rattle.windows.proofs.laws.Session.{used-at, used-past, refuses, gives}
+use Rattle.windows.proofs.laws.Hidden.{hidden-already, hidden-now}
 use borrow.Author.Needs.{needs}
 use Rattle.windows.proofs.Session.hide.Statement.{statement}
 use Rattle.windows.proofs.Session.hide.Tie as tie
@@ -32,25 +33,55 @@ mul-if2 c = search needs
 element-copy-out-if2 : tie.Need-element-copy-out-if2
 element-copy-out-if2 c = search needs
 
-hidden-requires : tie.Need-hidden-requires
-hidden-requires c κs = search needs
+place-of-requires : tie.Need-place-of-requires
+place-of-requires c κs = search needs
+
+close-gap-requires : tie.Need-close-gap-requires
+close-gap-requires c κs = search needs
+
+sub-focus-after : tie.Need-sub-focus-after
+sub-focus-after c = search needs
+
+focus-after-requires : tie.Need-focus-after-requires
+focus-after-requires c κs = search needs
+
+sub-self : tie.Need-sub-self
+sub-self c = search needs
 
 returns : tie.Need-returns
 returns c =
-    let s = c .before .before .before in
-    hides (s .args .t1) (s .args .id .0) _ (s .pre) (c .before .if2 .taken) (c .hidden .ensures)
+    let s = c .before .before .before .before .before .before .before .before .before in
+    hides (s .args .t1) (s .args .id .0) _ (s .pre) (c .before .before .before .before .before .before .before .if2 .taken)
+    (hidden-now _ (s .pre .rep) _ _ (c .before .before .before .before .before .place-of .ensures) (c .before .before .before .if3 .taken) _ (c .before .before .close-gap .ensures) _ (c .focus-after .ensures))
 
 returns-2 : tie.Need-returns-2
 returns-2 c =
-    let s = c .before .before in
-    not-used (s .args .t1) (s .args .id .0) (s .pre) (used-at (s .args .t1) (s .args .id .0) ∙ c .if2 .left)
+    let s = c .before .before .before .before .before .before in
+    hides (s .args .t1) (s .args .id .0) _ (s .pre) (c .before .before .before .before .if2 .taken) (hidden-already _ (s .pre .rep) _ _ (c .before .before .place-of .ensures) (c .if3 .left))
 
 returns-3 : tie.Need-returns-3
 returns-3 c =
+    let s = c .before .before in
+    not-used (s .args .t1) (s .args .id .0) (s .pre) (used-at (s .args .t1) (s .args .id .0) ∙ c .if2 .left)
+
+returns-4 : tie.Need-returns-4
+returns-4 c =
     let s = c .before in
     not-used (s .args .t1) (s .args .id .0) (s .pre) (used-past (s .args .t1) (s .args .id .0) (s .pre .rep) (c .if1 .left))
 
 pub hide-spec : {M : Type 1} → statement M
 hide-spec =
     tie.close
-    (tie.spec cast-at mul-if2 element-copy-out-if2 hidden-requires returns returns-2 returns-3)
+    (tie.spec
+    cast-at
+    mul-if2
+    element-copy-out-if2
+    place-of-requires
+    close-gap-requires
+    sub-focus-after
+    focus-after-requires
+    sub-self
+    returns
+    returns-2
+    returns-3
+    returns-4)
