@@ -1,0 +1,2 @@
+-- Lemmas that the lines share.
+pub mod laws

@@ -1,0 +1,56 @@
+-- The session's call is the line's, and nothing else of the player changes.
+use mathlib.Core.Path.{refl}
+use Rattle.rules.specs.Calls.{Create}
+use Rattle.windows.specs.View.{done}
+use Rattle.replay.specs.declared.player.Player.{Player}
+use Rattle.replay.proofs.laws.Made.{makes}
+use borrow.Author.Needs.{needs}
+use Rattle.replay.proofs.calls.create.Statement.{statement}
+use Rattle.replay.proofs.calls.create.Tie as tie
+
+create-requires : tie.Need-create-requires
+create-requires c κs = search needs
+
+cast-number : tie.Need-cast-number
+cast-number c = search needs
+
+number-requires : tie.Need-number-requires
+number-requires c κs = search needs
+
+put-id-requires : tie.Need-put-id-requires
+put-id-requires c κs = search needs
+
+end-requires : tie.Need-end-requires
+end-requires c κs = search needs
+
+-- the player that is handed back
+abbrev next : tie.After-end → Player
+next c =
+    record {
+      session = c .before .before .before .before .before .before .before .before .create .result .session;
+      lent = c .before .before .before .before .before .before .before .before .before .before .args .p .lent;
+      «is_set» = c .before .before .before .before .before .before .before .before .before .before .args .p .«is_set»;
+      screen = c .before .before .before .before .before .before .before .before .before .before .args .p .screen;
+      list = c .before .before .before .before .before .before .before .before .before .before .args .p .list;
+      at = c .end .result;
+      lines = c .before .before .before .before .before .before .before .before .before .before .args .p .lines;
+    }
+
+returns : tie.Need-returns
+returns c =
+    let r = c .before .before .before .before .before .before .before .before .before .before .pre in
+    makes Create (c .before .before .before .before .before .before .before .before .before .before .args .p) (next c) (done (c .before .before .before .before .before .before .before .before .create .result .session) (c .before .before .before .before .before .before .before .before .create .result .answer)) (c .before .before .before .before .before .before .before .before .create .ensures .meets)
+    (record {
+      ready = record { given = c .before .before .before .before .before .before .before .before .create .ensures .meets .given; lent = r .lent; screen = r .screen; list = r .list; at = c .end .ensures };
+      session = refl;
+      lent = refl;
+      set = refl;
+      screen = refl;
+      list = refl;
+      lines = refl;
+    })
+
+pub create-spec : {M : Type 1} → statement M
+create-spec =
+    tie.close
+    (tie.spec create-requires cast-number number-requires put-id-requires end-requires returns)

@@ -1,0 +1,68 @@
+-- The session's call is the line's, and nothing else of the player changes.
+use Prim.Native.Nat.{ℕ}
+use mathlib.Core.Path.{refl, subst}
+use Rattle.rules.specs.Calls.{Pop}
+use Rattle.windows.specs.View.{done, Meets}
+use Rattle.replay.specs.declared.player.Player.{Player}
+use Rattle.replay.specs.Numbers.{idOf}
+use Rattle.replay.proofs.laws.Made.{makes}
+use borrow.Author.Needs.{needs}
+use Rattle.replay.proofs.calls.pop.Statement.{statement}
+use Rattle.replay.proofs.calls.pop.Tie as tie
+
+id-requires : tie.Need-id-requires
+id-requires c κs = search needs
+
+pop-requires : tie.Need-pop-requires
+pop-requires c κs = search needs
+
+cast-number : tie.Need-cast-number
+cast-number c = search needs
+
+number-requires : tie.Need-number-requires
+number-requires c κs = search needs
+
+put-event-requires : tie.Need-put-event-requires
+put-event-requires c κs = search needs
+
+end-requires : tie.Need-end-requires
+end-requires c κs = search needs
+
+-- the player that is handed back
+abbrev next : tie.After-end → Player
+next c =
+    record {
+      session = c .before .before .before .before .before .before .before .before .pop .result .session;
+      lent = c .before .before .before .before .before .before .before .before .before .before .before .args .p .lent;
+      «is_set» = c .before .before .before .before .before .before .before .before .before .before .before .args .p .«is_set»;
+      screen = c .before .before .before .before .before .before .before .before .before .before .before .args .p .screen;
+      list = c .before .before .before .before .before .before .before .before .before .before .before .args .p .list;
+      at = c .end .result;
+      lines = c .before .before .before .before .before .before .before .before .before .before .before .args .p .lines;
+    }
+
+returns : tie.Need-returns
+returns c =
+    let r = c .before .before .before .before .before .before .before .before .before .before .before .pre in
+    makes (Pop (idOf (c .before .before .before .before .before .before .before .before .before .before .before .args .ns .now))) (c .before .before .before .before .before .before .before .before .before .before .before .args .p) (next c) (done (c .before .before .before .before .before .before .before .before .pop .result .session) (c .before .before .before .before .before .before .before .before .pop .result .answer)) (subst (λ (i : ℕ). Meets (Pop i) (c .before .before .before .before .before .before .before .before .before .before .before .args .p .session) (done (c .before .before .before .before .before .before .before .before .pop .result .session) (c .before .before .before .before .before .before .before .before .pop .result .answer))) (c .before .before .before .before .before .before .before .before .before .id .ensures) (c .before .before .before .before .before .before .before .before .pop .ensures .meets))
+    (record {
+      ready = record { given = c .before .before .before .before .before .before .before .before .pop .ensures .meets .given; lent = r .lent; screen = r .screen; list = r .list; at = c .end .ensures };
+      session = refl;
+      lent = refl;
+      set = refl;
+      screen = refl;
+      list = refl;
+      lines = refl;
+    })
+
+pub pop-spec : {M : Type 1} → statement M
+pop-spec =
+    tie.close
+    (tie.spec
+    id-requires
+    pop-requires
+    cast-number
+    number-requires
+    put-event-requires
+    end-requires
+    returns)

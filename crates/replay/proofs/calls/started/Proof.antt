@@ -1,0 +1,34 @@
+-- A store of 16 pixels for each of the session's C is one that the program can lend.
+use Rattle.replay.proofs.laws.Sizes.{begun-c}
+use Rattle.replay.proofs.laws.Made.{begins}
+use borrow.Author.Needs.{needs}
+use Rattle.replay.proofs.calls.started.Statement.{statement}
+use Rattle.replay.proofs.calls.started.Tie as tie
+
+start-requires : tie.Need-start-requires
+start-requires c κs = search needs
+
+cast-p : tie.Need-cast-p
+cast-p c = search needs
+
+mul-p : tie.Need-mul-p
+mul-p c = search needs
+
+answered-requires : tie.Need-answered-requires
+answered-requires c κs =
+    let r = c .before .before .before .before .pre .0 in (
+      record {
+        given = r .given;
+        lent = begun-c (c .before .before .before .before .args .c) (c .before .before .before .start .result) (c .before .before .before .start .ensures) (c .before .before .before .before .pre .1);
+        screen = r .screen;
+        list = r .list;
+        at = r .at;
+      },
+      c .before .before .before .start .ensures .given,
+    )
+
+returns : tie.Need-returns
+returns c = begins (c .before .before .before .before .before .args .c) (c .before .before .before .before .before .args .p) (c .answered .result) (c .before .before .before .before .start .result) (c .before .before .before .before .start .ensures) (c .answered .ensures)
+
+pub started-spec : {M : Type 1} → statement M
+started-spec = tie.close (tie.spec start-requires cast-p mul-p answered-requires returns)

@@ -1,0 +1,69 @@
+-- What a call's own contract says of the session is what the line promises of the player.
+use Prim.Native.Nat.{ℕ, _*_}
+use mathlib.Core.Path.{_≡_, refl, sym, ap, subst, _∙_}
+use mathlib.Core.List.{List, _++_}
+use lib.ListN.{take, drop}
+use Rattle.script.specs.declared.shape.Line.{Line}
+use Rattle.rules.specs.Group.{Group, sessionC}
+use Rattle.rules.specs.Calls.{Call}
+use Rattle.windows.specs.declared.Session.{Session}
+use Rattle.windows.specs.declared.Done.{Done}
+use Rattle.windows.specs.View.{group, Meets, MeetsStore, MeetsScreen, Starts}
+use Rattle.replay.specs.declared.player.Player.{Player}
+use Rattle.replay.specs.Called.{redrawOf}
+use Rattle.replay.specs.Ready.{Ready, Next, lendStore}
+use Rattle.replay.specs.Played.{Pixels, Makes, Begins, MeetsPart, DrawsPart, Plays}
+use Rattle.replay.specs.Played.{unread, beyond, starts, creates, plain, stores, pops, redraws, lists, asks-focus, lends, lends-screen, lends-list, shows}
+
+-- the session that r has is the next
+own : {p : Player} {s : Session} {r : Player} → Next p s r → Next p (r .session) r
+own n = record { ready = n .ready; session = refl; lent = n .lent; set = n .set; screen = n .screen; list = n .list; lines = n .lines }
+
+pub makes : (k : Call) (p r : Player) (d : Done) → Meets k (p .session) d → Next p (d .session) r → Makes k p r
+makes k p r d m n =
+    record { next = own n; after = ap group (n .session) ∙ m .after; refused = λ f. n .session ∙ m .same (λ e. f (sym (m .answer) ∙ e)) }
+
+c-of : (c : ℕ) (d : Done) → Starts c d → d .session .c ≡ sessionC c
+unfolding group
+c-of c d h = ap (λ (g : Group). g .c) (h .after)
+
+pub begins : (c : ℕ) (p r : Player) (d : Done) → Starts c d → Next (lendStore (16 * d .session .c) p) (d .session) r → Begins c p r
+begins c p r d h n =
+    record {
+      next = record { ready = n .ready; session = refl; lent = n .lent ∙ ap (λ (k : ℕ). 16 * k) (c-of c d h); set = n .set; screen = n .screen; list = n .list; lines = n .lines };
+      after = ap group (n .session) ∙ h .after;
+    }
+
+-- Parts ---------------------------------------------------------------------------------------------------------------
+
+-- a call that is lent the front of the store writes that part alone
+pub store-part : (k : List ℕ → Call) (n m : ℕ) (store last : List ℕ) (s : Session) (r : Done) → n ≡ m → MeetsStore (k (take m (drop 0 store))) s r last
+    → MeetsPart (k (take n store)) n store s r (take 0 store ++ (last ++ drop m (drop 0 store)))
+store-part k n m store last s r e =
+    subst (λ (m : ℕ). MeetsStore (k (take m (drop 0 store))) s r last → MeetsPart (k (take n store)) n store s r (take 0 store ++ (last ++ drop m (drop 0 store)))) e
+    (λ h. record { meets = h .meets; stored = ap (λ (l : List ℕ). l ++ drop n store) (h .stored) })
+
+pub screen-part : (k : List ℕ → Call) (n m : ℕ) (screen last : List ℕ) (s : Session) (r : Done) → n ≡ m → MeetsScreen (k (take m (drop 0 screen))) s r last
+    → DrawsPart (k (take n screen)) n screen s r (take 0 screen ++ (last ++ drop m (drop 0 screen)))
+screen-part k n m screen last s r e =
+    subst (λ (m : ℕ). MeetsScreen (k (take m (drop 0 screen))) s r last → DrawsPart (k (take n screen)) n screen s r (take 0 screen ++ (last ++ drop m (drop 0 screen)))) e
+    (λ h. record { meets = h .meets; shown = ap (λ (l : List ℕ). l ++ drop n screen) (h .shown) })
+
+-- A line --------------------------------------------------------------------------------------------------------------
+
+-- whatever line was played, the player is ready for the next
+pub ready-of : {l : Line} {ns : List ℕ} {p : Player} {a : Pixels} {r : Player} {b : Pixels} → Plays l ns p a r b → Ready r
+ready-of (unread k n e) = n .ready
+ready-of (beyond k n e) = n .ready
+ready-of (starts k h e) = h .next .ready
+ready-of (creates k m e) = m .next .ready
+ready-of (plain k m e) = m .next .ready
+ready-of (stores k j h e) = h .makes .next .ready
+ready-of (pops k m e) = m .next .ready
+ready-of (redraws k j h e) = h .makes .next .ready
+ready-of (lists k n e) = n .ready
+ready-of (asks-focus k n e) = n .ready
+ready-of (lends k j n e) = n .ready
+ready-of (lends-screen k j n e) = n .ready
+ready-of (lends-list k j n e) = n .ready
+ready-of (shows k n e) = n .ready

@@ -1,0 +1,64 @@
+-- Sizes that the rules bound: a window's pixels in the store, the rectangles of a visible list, and C after a start.
+use Prim.Native.Nat.{ℕ, suc, _+_, _*_, _≤_, _<_}
+use mathlib.Core.Path.{_≡_, refl, sym, ap, _∙_}
+use mathlib.Core.Bool.{Bool, true, false, cond}
+use mathlib.Core.List.{List, [], _∷_}
+use native.Mathlib.Nat.{mul-le-mul-right}
+use native.Mathlib.Omega.{arith}
+use lib.Dec.{leb, eqb}
+use lib.ListN.{length}
+use Rattle.geom.specs.declared.Rect.{Rect}
+use Rattle.geom.specs.Questions.{_is_, asked}
+use Rattle.geom.specs.Geom.{rect}
+use Rattle.geom.proofs.basics.Questions.{asked₂}
+use Rattle.geom.proofs.basics.Tests.{fst, snd, on-cond, on-test, says-le}
+use Rattle.rules.specs.Group.{Group, used, win, allowedC, sessionC}
+use Rattle.rules.specs.Visible.{visible, visibleList}
+use Rattle.rules.proofs.group.Invariant.{used-small}
+use Rattle.windows.specs.declared.Session.{Session}
+use Rattle.windows.specs.declared.Done.{Done}
+use Rattle.windows.specs.declared.Placed.{Placed}
+use Rattle.windows.specs.View.{group, Given, Starts, placed}
+use Rattle.windows.proofs.laws.Session.{given-ok}
+
+-- A window's pixels ---------------------------------------------------------------------------------------------------
+
+is-used : (t : Bool) → asked ((3 is t) ∷ []) ≡ 0 → t ≡ true
+is-used true e = refl
+is-used false e = absurd (omega arith)
+
+pub in-store : (s : Session) (id : ℕ) (r : Placed) → Given s → r ≡ placed (group s) id → r .answer ≡ 0
+    → id * s .c + r .rect .dims .w * r .rect .dims .h ≤ 16 * s .c
+unfolding group
+in-store s id r h e a =
+    let u : used (group s) id ≡ true = is-used (used (group s) id) (sym (ap (λ (p : Placed). p .answer) e) ∙ a) in
+    let at : r .rect ≡ win (group s) id .at =
+    ap (λ (p : Placed). p .rect) e ∙ ap (λ (t : Bool). cond t (win (group s) id .at) (rect 0 0 0 0)) u in
+    let low : suc id * s .c ≤ 16 * s .c = mul-le-mul-right (s .c) (used-small (group s) id (given-ok s h) u) in
+    let area : r .rect .dims .w * r .rect .dims .h ≤ s .c = rw at (given-ok s h .fits id .area≤) in
+    omega (arith, low, area)
+
+-- A visible list ------------------------------------------------------------------------------------------------------
+
+few : (u : Bool) (n m : ℕ) → 4 * cond (eqb (asked ((3 is u) ∷ (9 is leb (4 * n) m) ∷ [])) 0) n 0 ≤ m
+few u n m =
+    on-test (λ (k : ℕ). 4 * k ≤ m) (asked₂ 2 8 u (leb (4 * n) m)) n 0 (λ t. says-le (4 * n) m .fact (snd u (leb (4 * n) m) t)) (λ t. omega arith)
+
+-- it holds four numbers for each rectangle
+pub counted : (g : Group) (id : ℕ) (l : List ℕ) → 4 * visibleList g id l .count ≤ length l
+unfolding visibleList
+counted g id l = few (used g id) (length (visible g id)) (length l)
+
+-- A start -------------------------------------------------------------------------------------------------------------
+
+pub begun-c : (c : ℕ) (r : Done) → Starts c r → 16 * sessionC c ≤ 1048576 → 16 * r .session .c ≤ 1048576
+unfolding group
+begun-c c r h l = let e : r .session .c ≡ sessionC c = ap (λ (g : Group). g .c) (h .after) in rw e l
+
+pub low-c : (c : ℕ) → c ≤ 65536 → 16 * sessionC c ≤ 1048576
+low-c c h = on-cond (λ (k : ℕ). 16 * k ≤ 1048576) (allowedC c) c 1 (λ t. omega arith) (λ t. omega arith)
+
+pub high-c : (c : ℕ) → 1048576 < c → 16 * sessionC c ≤ 1048576
+high-c c h =
+    on-cond (λ (k : ℕ). 16 * k ≤ 1048576) (allowedC c) c 1
+    (λ t. let l : c ≤ 1048576 = says-le c 1048576 .fact (snd (leb 1 c) (leb c 1048576) t) in absurd (omega arith)) (λ t. omega arith)

@@ -1,0 +1,47 @@
+-- The call is the line's: its id, area and stride are the numbers'.
+use mathlib.Core.Path.{_≡_, subst}
+use Rattle.rules.specs.Calls as Call
+use Rattle.rules.specs.Calls.{Call}
+use Rattle.windows.specs.View.{MeetsStore}
+use Rattle.replay.specs.Numbers.{num, idOf, rectAt}
+use borrow.Author.Needs.{needs}
+use Rattle.replay.proofs.lend.blit.Statement.{statement}
+use Rattle.replay.proofs.lend.blit.Tie as tie
+
+rect-requires : tie.Need-rect-requires
+rect-requires c κs = search needs
+
+element-copy-out-wide : tie.Need-element-copy-out-wide
+element-copy-out-wide c = search needs
+
+wide-requires : tie.Need-wide-requires
+wide-requires c κs = search needs
+
+id-requires : tie.Need-id-requires
+id-requires c κs = search needs
+
+blit-requires : tie.Need-blit-requires
+blit-requires c κs = search needs
+
+same-length : tie.Need-same-length
+same-length c = search needs
+
+returns : tie.Need-returns
+returns c =
+    let ns = c .before .before .before .before .before .before .before .before .before .before .args .ns .now in
+    let made : Call.Blit (c .before .before .before .before .id .result .0) (c .before .before .before .before .before .before .before .rect .result) (c .before .before .before .before .before .before .before .before .before .before .args .«data» .now) (c .before .before .before .before .before .wide .result) (c .before .before .before .before .before .before .before .before .before .before .args .store .now)
+    ≡ Call.Blit (idOf ns) (rectAt ns 1) (c .before .before .before .before .before .before .before .before .before .before .args .«data» .now) (num ns 5) (c .before .before .before .before .before .before .before .before .before .before .args .store .now) =
+    λ i. Call.Blit (c .before .before .before .before .id .ensures i) (c .before .before .before .before .before .before .before .rect .ensures i) (c .before .before .before .before .before .before .before .before .before .before .args .«data» .now) (c .before .before .before .before .before .wide .ensures i) (c .before .before .before .before .before .before .before .before .before .before .args .store .now) in
+    subst (λ (k : Call). MeetsStore k (c .before .before .before .before .before .before .before .before .before .before .args .s) (c .before .before .blit .result) (c .before .before .blit .last .1 .1 .1 .1 .1 .0)) made (c .before .before .blit .ensures)
+
+pub blit-spec : {M : Type 1} → statement M
+blit-spec =
+    tie.close
+    (tie.spec
+    rect-requires
+    element-copy-out-wide
+    wide-requires
+    id-requires
+    blit-requires
+    same-length
+    returns)

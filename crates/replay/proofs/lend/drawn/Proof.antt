@@ -1,0 +1,26 @@
+-- The call on the parts that are lent is the line's, and what was said of the screen is used up.
+use lib.ListN.{take}
+use Rattle.replay.specs.Called.{redrawOf}
+use Rattle.replay.specs.Ready.{unset}
+use Rattle.replay.proofs.laws.Made.{makes}
+use borrow.Author.Needs.{needs}
+use Rattle.replay.proofs.lend.drawn.Statement.{statement}
+use Rattle.replay.proofs.lend.drawn.Tie as tie
+
+draw-requires : tie.Need-draw-requires
+draw-requires c κs = search needs
+
+answered-requires : tie.Need-answered-requires
+answered-requires c κs = search needs
+
+returns : tie.Need-returns
+returns c =
+    record {
+      makes =
+          makes (redrawOf (c .before .before .before .before .before .before .args .ns .now) (take (c .before .before .before .before .before .before .args .p .lent) (c .before .before .before .before .before .before .args .store .now)) (take (c .before .before .before .before .before .before .args .len) (c .before .before .before .before .before .before .args .screen .now))) (unset (c .before .before .before .before .before .before .args .p)) (c .answered .result) (c .before .before .draw .result) (c .before .before .draw .ensures .meets)
+          (c .answered .ensures);
+      shown = c .before .before .draw .ensures .shown;
+    }
+
+pub drawn-spec : {M : Type 1} → statement M
+drawn-spec = tie.close (tie.spec draw-requires answered-requires returns)

@@ -1,0 +1,34 @@
+-- The call is lent the front of the store.
+use mathlib.Core.List.{List}
+use Prim.Native.Nat.{ℕ, _-_}
+use native.Mathlib.Omega.{arith}
+use Rattle.replay.specs.Called.{storeCall}
+use Rattle.replay.proofs.laws.Made.{store-part}
+use borrow.Author.Needs.{needs}
+use Rattle.replay.proofs.lend.lent.Statement.{statement}
+use Rattle.replay.proofs.lend.lent.Tie as tie
+
+sub-write : tie.Need-sub-write
+sub-write c = search needs
+
+part-write-start : tie.Need-part-write-start
+part-write-start c = search needs
+
+part-write-end : tie.Need-part-write-end
+part-write-end c = search needs
+
+write-requires : tie.Need-write-requires
+write-requires c κs = search needs
+
+same-length : tie.Need-same-length
+same-length c = search needs
+
+returns : tie.Need-returns
+returns c =
+    store-part (storeCall (c .before .before .before .before .before .args .line .kind) (c .before .before .before .before .before .args .line .count) (c .before .before .before .before .before .args .ns .now)) (c .before .before .before .before .before .args .lent) (c .before .before .before .before .before .args .lent - 0) (c .before .before .before .before .before .args .store .now) (c .before .before .write .last .1 .1 .1 .0)
+    (c .before .before .before .before .before .args .s) (c .before .before .write .result) (omega arith) (c .before .before .write .ensures)
+
+pub lent-spec : {M : Type 1} → statement M
+lent-spec =
+    tie.close
+    (tie.spec sub-write part-write-start part-write-end write-requires same-length returns)

@@ -1,0 +1,68 @@
+-- The window's pixels lie in its part of the store.
+use Prim.Native.Nat.{_+_, _*_, _≤_}
+use native.Mathlib.Omega.{arith}
+use Rattle.replay.proofs.laws.Sizes.{in-store}
+use borrow.Author.Needs.{needs}
+use Rattle.replay.proofs.show.pixels.Statement.{statement}
+use Rattle.replay.proofs.show.pixels.Tie as tie
+
+-- the window's pixels lie in the store that the session wants
+inside : (c : tie.Then2) → c .before .before .before .before .before .id .result .0 * c .before .before .before .before .before .before .args .s .c + c .before .before .before .before .rect-of .result .rect .dims .w * c .before .before .before .before .rect-of .result .rect .dims .h ≤ 16 * c .before .before .before .before .before .before .args .s .c
+inside c = in-store (c .before .before .before .before .before .before .args .s) (c .before .before .before .before .before .id .result .0) (c .before .before .before .before .rect-of .result) (c .before .before .before .before .before .before .pre .0) (c .before .before .before .before .rect-of .ensures) (c .before .if1 .taken)
+
+id-requires : tie.Need-id-requires
+id-requires c κs = search needs
+
+rect-of-requires : tie.Need-rect-of-requires
+rect-of-requires c κs = search needs
+
+cast-c : tie.Need-cast-c
+cast-c c = search needs
+
+mul-if2 : tie.Need-mul-if2
+mul-if2 c = search needs
+
+cast-n : tie.Need-cast-n
+cast-n c = search needs
+
+cast-n-2 : tie.Need-cast-n-2
+cast-n-2 c = search needs
+
+mul-n : tie.Need-mul-n
+mul-n c = record { fits = omega (arith, inside (c .before .before .before), c .before .before .before .if2 .taken, c .before .before .before .before .before .before .before .before .before .pre .1) }
+
+cast-put : tie.Need-cast-put
+cast-put c = search needs
+
+mul-put : tie.Need-mul-put
+mul-put c = record { fits = omega (arith, inside (c .before .before .before .before .before), c .before .before .before .before .before .if2 .taken, c .before .before .before .before .before .before .before .before .before .before .before .pre .1) }
+
+put-requires : tie.Need-put-requires
+put-requires c κs = (omega (arith, inside (c .before .before .before .before .before .before), c .before .before .before .before .before .before .if2 .taken, c .before .before .before .before .before .before .before .before .before .before .before .before .pre .1, c .before .before .put-arg .given), c .before .before .before .before .before .before .before .before .before .before .before .before .pre .2)
+
+returns : tie.Need-returns
+returns c = search needs
+
+answer-requires : tie.Need-answer-requires
+answer-requires c κs = search needs
+
+returns-2 : tie.Need-returns-2
+returns-2 c = search needs
+
+pub pixels-spec : {M : Type 1} → statement M
+pixels-spec =
+    tie.close
+    (tie.spec
+    id-requires
+    rect-of-requires
+    cast-c
+    mul-if2
+    cast-n
+    cast-n-2
+    mul-n
+    cast-put
+    mul-put
+    put-requires
+    returns
+    answer-requires
+    returns-2)

@@ -1,0 +1,5 @@
+-- What the contracts of the program cite.
+pub mod Numbers
+pub mod Called
+pub mod Ready
+pub mod Played

@@ -1,0 +1,23 @@
+-- The numbers of a line as the library's calls take them.
+use Prim.Native.Nat.{ℕ, _+_, min}
+use mathlib.Core.List.{List}
+use lib.ListN.{getD}
+use Rattle.geom.specs.declared.Rect.{Rect}
+use Rattle.geom.specs.Geom.{rect}
+use Rattle.script.specs.declared.shape.Line.{Line}
+use Rattle.script.specs.Script.{Shaped}
+
+-- the numbers are those of the line
+abbrev pub Sound : Line → List ℕ → Type 0
+Sound l ns = Shaped (l .kind) (l .count) (l .name) ns
+
+abbrev pub num : List ℕ → ℕ → ℕ
+num ns i = getD ns i 0
+
+-- the window that a line names: a number above 15 is no window's, and becomes 16
+abbrev pub idOf : List ℕ → ℕ
+idOf ns = min (num ns 0) 16
+
+-- the rectangle of the four numbers from place i on
+abbrev pub rectAt : List ℕ → ℕ → Rect
+rectAt ns i = rect (num ns i) (num ns (i + 1)) (num ns (i + 2)) (num ns (i + 3))

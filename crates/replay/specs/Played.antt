@@ -1,0 +1,117 @@
+-- What playing a line does to the player and to the pixels that it lends: the tables of CALL-SCRIPT.md, a constructor for each row or
+-- for the rows that are alike.
+use Prim.Native.Nat.{ℕ, _*_, _≤_, _<_}
+use mathlib.Core.Path.{_≡_}
+use mathlib.Core.Bool.{cond}
+use mathlib.Core.List.{List, _++_}
+use lib.ListN.{take, drop}
+use Rattle.script.specs.declared.shape.Line.{Line}
+use Rattle.rules.specs.Group.{start, sessionC}
+use Rattle.rules.specs.Calls as Call
+use Rattle.rules.specs.Calls.{Call, does}
+use Rattle.windows.specs.declared.Session.{Session}
+use Rattle.windows.specs.declared.Done.{Done}
+use Rattle.windows.specs.View.{group, Meets}
+use Rattle.replay.specs.declared.player.Player.{Player}
+use Rattle.replay.specs.Numbers.{num, idOf}
+use Rattle.replay.specs.Called.{plainCall, storeCall, redrawOf}
+use Rattle.replay.specs.Ready.{Next, lendStore, lendScreen, unset, lendList}
+
+-- "The program owns one store, one screen"
+pub record Pixels : Type 0 where
+  pub store : List ℕ
+  pub screen : List ℕ
+
+abbrev pub pixels : List ℕ → List ℕ → Pixels
+pixels store screen = record { store = store; screen = screen }
+
+-- the call was made on p's session, and r has what it left; a refused call leaves the very session
+pub record Makes (k : Call) (p r : Player) : Type 0 where
+  pub next : Next p (r .session) r
+  pub after : group (r .session) ≡ does (group (p .session)) k .group
+  pub refused : (does (group (p .session)) k .answer ≡ 0 → ⊥) → r .session ≡ p .session
+
+-- "start; from here on the store lent has 16 pixels for each of the session's C (C = 1 after a refused start), all as they were"
+pub record Begins (c : ℕ) (p r : Player) : Type 0 where
+  pub next : Next (lendStore (16 * sessionC c) p) (r .session) r
+  pub after : group (r .session) ≡ start c .group
+
+-- how many pixels of the screen a redraw is lent: what `lend-screen` said, or "the screen lent has W × H pixels"
+abbrev pub screenLen : Player → List ℕ → ℕ
+screenLen p ns = cond (p .«is_set») (p .screen) (num ns 1 * num ns 2)
+
+-- a call that is lent the first n pixels of the store leaves the others as they were
+pub record MeetsPart (k : Call) (n : ℕ) (store : List ℕ) (s : Session) (r : Done) (after : List ℕ) : Type 0 where
+  pub meets : Meets k s r
+  pub stored : after ≡ does (group s) k .store ++ drop n store
+
+-- the same of the screen
+pub record DrawsPart (k : Call) (n : ℕ) (screen : List ℕ) (s : Session) (r : Done) (after : List ℕ) : Type 0 where
+  pub meets : Meets k s r
+  pub shown : after ≡ does (group s) k .screen ++ drop n screen
+
+-- `resize`, `fill` and `blit` are lent the store as `lend` says
+pub record Stores (l : Line) (ns : List ℕ) (p : Player) (store : List ℕ) (r : Player) (after : List ℕ) : Type 0 where
+  pub makes : Makes (storeCall (l .kind) (l .count) ns (take (p .lent) store)) p r
+  pub stored : after ≡ does (group (p .session)) (storeCall (l .kind) (l .count) ns (take (p .lent) store)) .store ++ drop (p .lent) store
+
+-- "lend the next `redraw` a screen of LEN pixels, whatever its W and H": a redraw uses that up
+pub record Draws (ns : List ℕ) (len : ℕ) (p : Player) (store screen : List ℕ) (r : Player) (after : List ℕ) : Type 0 where
+  pub makes : Makes (redrawOf ns (take (p .lent) store) (take len screen)) (unset p) r
+  pub shown : after ≡ does (group (p .session)) (redrawOf ns (take (p .lent) store) (take len screen)) .screen ++ drop len screen
+
+-- "A `start` whose C document 01 accepts but whose store the program cannot lend (C from 65,537 on), a `lend`, `lend-screen` or
+-- `lend-list` above those limits, and a `redraw` (with no `lend-screen` pending) … of more than 384,000 pixels are answered by `!`, and
+-- nothing is called."
+pub data Beyond (k : ℕ) (ns : List ℕ) (p : Player) : Type 0 where
+  no-start : k ≡ 2 → 65536 < num ns 0 → num ns 0 ≤ 1048576 → Beyond k ns p
+  no-redraw : k ≡ 22 → 384000 < screenLen p ns → Beyond k ns p
+  no-store : k ≡ 25 → 1048576 < num ns 0 → Beyond k ns p
+  no-screen : k ≡ 26 → 384000 < num ns 0 → Beyond k ns p
+  no-list : k ≡ 27 → 1984 < num ns 0 → Beyond k ns p
+
+-- `show` to `move`, and the events: 4 to 8, and 12 to 20
+pub record Plain (k : ℕ) : Type 0 where
+  pub low : 4 ≤ k
+  pub high : k ≤ 20
+  pub resize : k ≡ 9 → ⊥
+  pub fill : k ≡ 10 → ⊥
+  pub blit : k ≡ 11 → ⊥
+
+-- none of the kinds that are lent pixels or a list, or that say how much is lent; and one that can be played
+pub record Other (k : ℕ) : Type 0 where
+  pub low : 2 ≤ k
+  pub resize : k ≡ 9 → ⊥
+  pub fill : k ≡ 10 → ⊥
+  pub blit : k ≡ 11 → ⊥
+  pub redraw : k ≡ 22 → ⊥
+  pub visible : k ≡ 23 → ⊥
+  pub store : k ≡ 25 → ⊥
+  pub screen : k ≡ 26 → ⊥
+  pub list : k ≡ 27 → ⊥
+
+-- the player p with the pixels a is r with the pixels b after the line l with the numbers ns
+pub data Plays (l : Line) (ns : List ℕ) (p : Player) (a : Pixels) (r : Player) (b : Pixels) : Type 0 where
+  -- "An empty line and a line whose first character is `#` are passed over"; "A malformed line … makes no call, changes nothing"
+  unread : l .kind ≤ 1 → Next p (p .session) r → b ≡ a → Plays l ns p a r b
+  beyond : Beyond (l .kind) ns p → Next p (p .session) r → b ≡ a → Plays l ns p a r b
+  starts : l .kind ≡ 2 → Begins (num ns 0) p r → b ≡ a → Plays l ns p a r b
+  creates : l .kind ≡ 3 → Makes Call.Create p r → b ≡ a → Plays l ns p a r b
+  plain : Plain (l .kind) → Makes (plainCall (l .kind) ns) p r → b ≡ a → Plays l ns p a r b
+  stores : 9 ≤ l .kind → l .kind ≤ 11 → Stores l ns p (a .store) r (b .store) → b .screen ≡ a .screen → Plays l ns p a r b
+  pops : l .kind ≡ 21 → Makes (Call.Pop (idOf ns)) p r → b ≡ a → Plays l ns p a r b
+  redraws : l .kind ≡ 22 → screenLen p ns ≤ 384000 → Draws ns (screenLen p ns) p (a .store) (a .screen) r (b .screen) → b .store ≡ a .store
+      → Plays l ns p a r b
+  -- "the visible list, lent 1,984 numbers", or as many as `lend-list` said, which it uses up
+  lists : l .kind ≡ 23 → Next (lendList 1984 p) (p .session) r → b ≡ a → Plays l ns p a r b
+  asks-focus : l .kind ≡ 24 → Next p (p .session) r → b ≡ a → Plays l ns p a r b
+  -- "from here on lend a store of STORE pixels, until the next `start`"
+  lends : l .kind ≡ 25 → num ns 0 ≤ 1048576 → Next (lendStore (num ns 0) p) (p .session) r → b ≡ a → Plays l ns p a r b
+  lends-screen : l .kind ≡ 26 → num ns 0 ≤ 384000 → Next (lendScreen (num ns 0) p) (p .session) r → b ≡ a → Plays l ns p a r b
+  lends-list : l .kind ≡ 27 → num ns 0 ≤ 1984 → Next (lendList (num ns 0) p) (p .session) r → b ≡ a → Plays l ns p a r b
+  -- "no call"; bare geometry and bare pixels
+  shows : 28 ≤ l .kind → Next p (p .session) r → b ≡ a → Plays l ns p a r b
+
+-- a line of the kind k that is lent no pixels
+abbrev pub PlaysAt : ℕ → List ℕ → Player → Player → Type 0
+PlaysAt k ns p r = (l : Line) (a : Pixels) → l .kind ≡ k → Plays l ns p a r a

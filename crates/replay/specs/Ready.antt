@@ -1,0 +1,42 @@
+-- What holds of a player between two lines, and how a line leaves it.
+use Prim.Native.Nat.{ℕ, _≤_}
+use mathlib.Core.Path.{_≡_}
+use mathlib.Core.Bool.{Bool, true, false}
+use Rattle.windows.specs.declared.Session.{Session}
+use Rattle.windows.specs.View.{Given}
+use Rattle.replay.specs.declared.player.Player.{Player}
+
+-- "a store of at most 1,048,576 pixels, a screen of at most 384,000 (800 × 480), a list of at most 1,984 numbers"; the session is one
+-- that a start and later calls gave, and what waits to be written has its place in the block
+pub record Ready (p : Player) : Type 0 where
+  pub given : Given (p .session)
+  pub lent : p .lent ≤ 1048576
+  pub screen : p .screen ≤ 384000
+  pub list : p .list ≤ 1984
+  pub at : p .at ≤ 65536
+
+-- r is p with the session s; only what waits to be written may differ
+pub record Next (p : Player) (s : Session) (r : Player) : Type 0 where
+  pub ready : Ready r
+  pub session : r .session ≡ s
+  pub lent : r .lent ≡ p .lent
+  pub set : r .«is_set» ≡ p .«is_set»
+  pub screen : r .screen ≡ p .screen
+  pub list : r .list ≡ p .list
+  pub lines : r .lines ≡ p .lines
+
+-- a store of n pixels is lent
+abbrev pub lendStore : ℕ → Player → Player
+lendStore n p = record { session = p .session; lent = n; «is_set» = p .«is_set»; screen = p .screen; list = p .list; at = p .at; lines = p .lines }
+
+-- the next redraw is lent a screen of n pixels
+abbrev pub lendScreen : ℕ → Player → Player
+lendScreen n p = record { session = p .session; lent = p .lent; «is_set» = true; screen = n; list = p .list; at = p .at; lines = p .lines }
+
+-- nothing was said of the next redraw's screen
+abbrev pub unset : Player → Player
+unset p = record { session = p .session; lent = p .lent; «is_set» = false; screen = p .screen; list = p .list; at = p .at; lines = p .lines }
+
+-- the next visible list is lent n numbers
+abbrev pub lendList : ℕ → Player → Player
+lendList n p = record { session = p .session; lent = p .lent; «is_set» = p .«is_set»; screen = p .screen; list = n; at = p .at; lines = p .lines }

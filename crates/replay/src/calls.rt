@@ -1,0 +1,142 @@
+// The lines that are calls on a session and are lent nothing.
+ghost use Prim.Native.Nat.{_*_, _≤_};
+ghost use Rattle.rules.specs.Group.{sessionC};
+ghost use Rattle.rules.specs.Calls.{Call};
+ghost use Rattle.windows.specs.View.{Given, Meets};
+ghost use Rattle.replay.specs.Called.{plainCall};
+ghost use Rattle.replay.specs.Numbers.{idOf, Sound};
+ghost use Rattle.replay.specs.Ready.{Ready, Next};
+ghost use Rattle.replay.specs.Played.{Pixels, Makes, Begins, Other, Plays, PlaysAt};
+use crate::events;
+use crate::numbers;
+use crate::player::Player;
+use crate::text;
+use script::Line;
+use script::kind;
+use windows::Done;
+use windows::NewId;
+use windows::NextEvent;
+use windows::Session;
+
+// A line that hands back an answer alone.
+fn plain(s: Session, line: Line, ns: &[u32; 4102]) -> Done
+    requires { ⌜ Given s × Sound line (now ns) ⌝ }
+    ensures { λ r. ⌜ Meets (plainCall (line .kind) (now (ns .entry))) s r ⌝ }
+{
+    let k = line.kind;
+    let id = numbers::id(ns);
+    match k {
+        kind::SHOW => s.show(id),
+        kind::HIDE => s.hide(id),
+        kind::DROP => s.drop(id),
+        kind::MARK => s.mark(id),
+        kind::MOVE => s.move_window(id, numbers::pos(ns, 1)),
+        _ => s.route(events::event(line, ns)),
+    }
+}
+
+pub fn call(p: Player, line: Line, ns: &[u32; 4102], out: &mut [u8; 65536]) -> Player
+    requires { ⌜ Ready p × Sound line (now ns) × Other (line .kind) × (line .kind ≤ 24) ⌝ }
+    ensures { λ r. ⌜ ((a : Pixels) → Plays line (now (ns .entry)) p a r a) ⌝ }
+{
+    let k = line.kind;
+    match k {
+        kind::START => start(p, ns, out),
+        kind::CREATE => create(p, out),
+        kind::POP => pop(p, ns, out),
+        kind::FOCUS => focus(p, out),
+        _ => {
+            let s = p.session;
+            let done = plain(s, line, ns);
+            p.answered(done, out)
+        }
+    }
+}
+
+// A start that document 01 accepts but whose store the program cannot lend is not called.
+fn start(p: Player, ns: &[u32; 4102], out: &mut [u8; 65536]) -> Player
+    requires { ⌜ Ready p ⌝ }
+    ensures { λ r. ⌜ PlaysAt 2 (now (ns .entry)) p r ⌝ }
+{
+    let c = ns[0];
+    if c <= 65536 {
+        return started(p, c, out);
+    }
+    if c <= 1048576 {
+        return p.refused(out);
+    }
+    started(p, c, out)
+}
+
+// The store lent has 16 pixels for each of the session's C.
+fn started(mut p: Player, c: u32, out: &mut [u8; 65536]) -> Player
+    requires { ⌜ Ready p × (16 * sessionC c ≤ 1048576) ⌝ }
+    ensures { λ r. ⌜ Begins c p r ⌝ }
+{
+    let done = Session::start(c);
+    let session = done.session;
+    p.lent = 16 * session.c as usize;
+    p.answered(done, out)
+}
+
+fn put_id(id: NewId, out: &mut [u8; 65536], at: usize) -> usize
+    requires { ⌜ at ≤ 65536 ⌝ }
+    ensures { λ r. ⌜ r ≤ 65536 ⌝ }
+{
+    match id {
+        NewId::Id(i) => text::more(out, at, i.0 as u32),
+        NewId::Absent => at,
+    }
+}
+
+fn create(mut p: Player, out: &mut [u8; 65536]) -> Player
+    requires { ⌜ Ready p ⌝ }
+    ensures { λ r. ⌜ Makes Call.Create p r ⌝ }
+{
+    let s = p.session;
+    let made = s.create();
+    let session = made.session;
+    p.session = session;
+    let to = text::number(out, p.at, made.answer as u64);
+    let id = made.id;
+    let then = put_id(id, out, to);
+    p.at = text::end(out, then);
+    p
+}
+
+fn put_event(event: NextEvent, out: &mut [u8; 65536], at: usize) -> usize
+    requires { ⌜ at ≤ 65536 ⌝ }
+    ensures { λ r. ⌜ r ≤ 65536 ⌝ }
+{
+    match event {
+        NextEvent::Event(e) => events::put(e, out, at),
+        NextEvent::Absent => at,
+    }
+}
+
+fn pop(mut p: Player, ns: &[u32; 4102], out: &mut [u8; 65536]) -> Player
+    requires { ⌜ Ready p ⌝ }
+    ensures { λ r. ⌜ Makes (Call.Pop (idOf (now (ns .entry)))) p r ⌝ }
+{
+    let s = p.session;
+    let popped = s.pop(numbers::id(ns));
+    let session = popped.session;
+    p.session = session;
+    let to = text::number(out, p.at, popped.answer as u64);
+    let event = popped.event;
+    let then = put_event(event, out, to);
+    p.at = text::end(out, then);
+    p
+}
+
+fn focus(mut p: Player, out: &mut [u8; 65536]) -> Player
+    requires { ⌜ Ready p ⌝ }
+    ensures { λ r. ⌜ Next p (p .session) r ⌝ }
+{
+    let s = p.session;
+    let f = s.focus();
+    let to = text::number(out, p.at, 0);
+    let then = text::more(out, to, f.0 as u32);
+    p.at = text::end(out, then);
+    p
+}

@@ -1,0 +1,98 @@
+// The events of a script: those that a line routes, and the text of those that are popped.
+ghost use mathlib.Core.Path.{_≡_};
+ghost use Prim.Native.Nat.{_≤_};
+ghost use Rattle.replay.specs.Called.{eventOf};
+ghost use Rattle.replay.specs.Numbers.{Sound};
+use crate::text;
+use script::Line;
+use script::kind;
+use window::Event;
+
+// The event that a line routes: `resized` where it is no other.
+pub fn event(line: Line, ns: &[u32; 4102]) -> Event
+    requires { ⌜ Sound line (now ns) ⌝ }
+    ensures { λ r. ⌜ r ≡ eventOf (line .kind) (now (ns .entry)) ⌝ }
+{
+    let k = line.kind;
+    let x = ns[0];
+    let y = ns[1];
+    match k {
+        kind::KEYDOWN => Event::KeyDown(x),
+        kind::KEYUP => Event::KeyUp(x),
+        kind::KEYFIRE => Event::KeyFire(x),
+        kind::TEXT => Event::Text(x),
+        kind::MOUSEMOVE => Event::MouseMove { x, y, dx: 0, dy: 0 },
+        kind::MOUSEDOWN => Event::MouseDown {
+            x,
+            y,
+            button: ns[2] as u8,
+        },
+        kind::MOUSEUP => Event::MouseUp {
+            x,
+            y,
+            button: ns[2] as u8,
+        },
+        kind::MOUSECLICK => Event::MouseClick {
+            x,
+            y,
+            button: ns[2] as u8,
+            count: ns[3] as u8,
+        },
+        _ => Event::Resize,
+    }
+}
+
+fn put_key(name: &[u8], v: u32, out: &mut [u8; 65536], at: usize) -> usize
+    requires { ⌜ at ≤ 65536 ⌝ }
+    ensures { λ r. ⌜ r ≤ 65536 ⌝ }
+{
+    let to = text::word(out, at, name);
+    text::more(out, to, v)
+}
+
+fn put_point(name: &[u8], x: u32, y: u32, out: &mut [u8; 65536], at: usize) -> usize
+    requires { ⌜ at ≤ 65536 ⌝ }
+    ensures { λ r. ⌜ r ≤ 65536 ⌝ }
+{
+    let to = put_key(name, x, out, at);
+    text::more(out, to, y)
+}
+
+// A point and a button.
+fn put_press(name: &[u8], x: u32, y: u32, b: u8, out: &mut [u8; 65536], at: usize) -> usize
+    requires { ⌜ at ≤ 65536 ⌝ }
+    ensures { λ r. ⌜ r ≤ 65536 ⌝ }
+{
+    let to = put_point(name, x, y, out, at);
+    text::more(out, to, b as u32)
+}
+
+// The name of an event and its values.
+pub fn put(e: Event, out: &mut [u8; 65536], at: usize) -> usize
+    requires { ⌜ at ≤ 65536 ⌝ }
+    ensures { λ r. ⌜ r ≤ 65536 ⌝ }
+{
+    match e {
+        Event::Resize => text::word(out, at, b"Resize"),
+        Event::KeyDown(v) => put_key(b"KeyDown", v, out, at),
+        Event::KeyUp(v) => put_key(b"KeyUp", v, out, at),
+        Event::KeyFire(v) => put_key(b"KeyFire", v, out, at),
+        Event::Text(v) => put_key(b"Text", v, out, at),
+        Event::MouseMove { x, y, dx, dy } => {
+            let to = put_point(b"MouseMove", x, y, out, at);
+            let then = text::signed(out, to, dx);
+            text::signed(out, then, dy)
+        }
+        Event::MouseDown { x, y, button } => put_press(b"MouseDown", x, y, button, out, at),
+        Event::MouseClick {
+            x,
+            y,
+            button,
+            count,
+        } => {
+            let to = put_press(b"MouseClick", x, y, button, out, at);
+            text::more(out, to, count as u32)
+        }
+        Event::MouseUp { x, y, button } => put_press(b"MouseUp", x, y, button, out, at),
+    }
+}

@@ -1,0 +1,126 @@
+// The script, read in blocks from standard input.
+ghost use Prim.Native.Nat.{_≤_, _<_};
+ghost use lib.ListN.{length};
+ghost use Rattle.replay.specs.Ready.{Ready};
+use crate::player::Player;
+use libc::STDIN_FILENO;
+use script::Reading;
+
+// The player, and how far the line has been read that the next block goes on with.
+struct Played {
+    player: Player,
+    reading: Reading,
+}
+
+pub fn play(
+    store: &mut [u32; 1048576],
+    screen: &mut [u32; 384000],
+    list: &mut [u32; 1984],
+    ns: &mut [u32; 4102],
+    word: &mut [u8; 16],
+    name: &mut [u8; 64],
+    input: &mut [u8; 65536],
+    out: &mut [u8; 65536],
+) {
+    let mut p = Player::fresh();
+    let mut reading = Reading::fresh();
+    // A loop has to end, and nothing says that the input does: it counts blocks down, from a number that no run uses up.
+    let mut turns: u64 = 18446744073709551615;
+    while 0 < turns {
+        // A person at a terminal sees the answers before the next line is read.
+        p = p.flushed(out);
+        let n = next(input);
+        let played = block(
+            p,
+            reading,
+            input,
+            n,
+            store,
+            screen,
+            list,
+            ns,
+            word,
+            name,
+            out,
+        );
+        p = played.player;
+        reading = played.reading;
+        turns = left(turns, n);
+    }
+    // The last line may lack its newline.
+    p = ended(p, reading, store, screen, list, ns, word, name, out);
+    p.flushed(out);
+}
+
+// Plays the line that has been read.
+fn ended(
+    player: Player,
+    reading: Reading,
+    store: &mut [u32; 1048576],
+    screen: &mut [u32; 384000],
+    list: &mut [u32; 1984],
+    ns: &mut [u32; 4102],
+    word: &[u8; 16],
+    name: &[u8; 64],
+    out: &mut [u8; 65536],
+) -> Player
+    requires { ⌜ Ready player ⌝ }
+    ensures { λ r. ⌜ Ready r ⌝ }
+{
+    let line = script::line(reading, word, ns);
+    let p = player.counted();
+    p.line(line, ns, name, store, screen, list, out)
+}
+
+// The turns that are left after a block of n bytes: none after the end of the input.
+fn left(turns: u64, n: usize) -> u64
+    requires { ⌜ 0 < turns ⌝ }
+    ensures { λ r. ⌜ r < turns ⌝ }
+{
+    if n == 0 {
+        return 0;
+    }
+    turns - 1
+}
+
+// How many bytes the next block has: none at the end of the input.
+fn next(input: &mut [u8]) -> usize
+    ensures { λ r. ⌜ r ≤ length (now (input .exit)) ⌝ }
+{
+    let got = libc::read(STDIN_FILENO, input);
+    io::count(got, input)
+}
+
+// Plays the lines that end in a block.
+fn block(
+    player: Player,
+    begun: Reading,
+    input: &[u8],
+    n: usize,
+    store: &mut [u32; 1048576],
+    screen: &mut [u32; 384000],
+    list: &mut [u32; 1984],
+    ns: &mut [u32; 4102],
+    word: &mut [u8; 16],
+    name: &mut [u8; 64],
+    out: &mut [u8; 65536],
+) -> Played
+    requires { ⌜ Ready player × (n ≤ length (now input)) ⌝ }
+    ensures { λ r. ⌜ Ready (r .player) ⌝ }
+{
+    let bytes = &input[0..n];
+    let mut p = player;
+    let mut reading = begun;
+    let mut at: usize = 0;
+    while at < n {
+        let step = script::read(reading, bytes, at, word, ns, name);
+        reading = step.reading;
+        at = step.at;
+        if at < n {
+            p = ended(p, reading, store, screen, list, ns, word, name, out);
+            reading = Reading::fresh();
+            at += 1;
+        }
+    }
+    Played { player: p, reading }
+}

@@ -1,0 +1,212 @@
+// The lines that are lent a store, a screen or a list, and those that say how much of them is lent.
+ghost use mathlib.Core.Path.{_≡_};
+ghost use mathlib.Core.Bool.{cond};
+ghost use Prim.Native.Nat.{_-_, _*_, _≤_};
+ghost use lib.ListN.{length, take, drop};
+ghost use Rattle.rules.specs.Calls.{Call};
+ghost use Rattle.windows.specs.View.{Given, MeetsStore};
+ghost use Rattle.replay.specs.Called.{storeCall, redrawOf};
+ghost use Rattle.replay.specs.Numbers.{num, idOf, rectAt, Sound};
+ghost use Rattle.script.specs.declared.shape.Line.{Line};
+ghost use Rattle.replay.specs.Ready.{Ready, Next, lendList};
+ghost use Rattle.replay.specs.Played.{pixels, MeetsPart, DrawsPart, Stores, Draws, Plays, PlaysAt};
+use crate::numbers;
+use crate::player::Player;
+use crate::text;
+use script::Line;
+use script::kind;
+use windows::Done;
+use windows::Listing;
+use windows::Session;
+
+// The data of a blit are the numbers of the line after its first six.
+fn blit(s: Session, ns: &[u32; 4102], data: &[u32], store: &mut [u32]) -> Done
+    requires { ⌜ Given s ⌝ }
+    ensures { λ r. ⌜ MeetsStore (Call.Blit (idOf (now (ns .entry))) (rectAt (now (ns .entry)) 1) (now («data» .entry)) (num (now (ns .entry)) 5) (now (store .entry))) s r (now (store .exit)) ⌝ }
+{
+    let area = numbers::rect(ns, 1);
+    let stride = numbers::wide(ns[5]);
+    s.blit(numbers::id(ns), area, data, stride, store)
+}
+
+fn part(s: Session, ns: &[u32; 4102], all: &[u32], count: usize, store: &mut [u32]) -> Done
+    requires { ⌜ Given s × (6 ≤ count) × (count ≤ length (now all)) ⌝ }
+    ensures { λ r. ⌜ MeetsStore (Call.Blit (idOf (now (ns .entry))) (rectAt (now (ns .entry)) 1) (take (count - 6) (drop 6 (now (all .entry)))) (num (now (ns .entry)) 5) (now (store .entry))) s r (now (store .exit)) ⌝ }
+{
+    blit(s, ns, &all[6..count], store)
+}
+
+// The calls that write the store.
+fn write(s: Session, line: Line, ns: &[u32; 4102], store: &mut [u32]) -> Done
+    requires { ⌜ Given s × Sound line (now ns) ⌝ }
+    ensures { λ r. ⌜ MeetsStore (storeCall (line .kind) (line .count) (now (ns .entry)) (now (store .entry))) s r (now (store .exit)) ⌝ }
+{
+    let k = line.kind;
+    match k {
+        kind::FILL => s.fill(numbers::id(ns), numbers::rect(ns, 1), ns[5], store),
+        kind::BLIT => part(s, ns, ns, line.count, store),
+        _ => s.resize(numbers::id(ns), numbers::dims(ns, 1), store),
+    }
+}
+
+fn lent(s: Session, line: Line, ns: &[u32; 4102], store: &mut [u32], lent: usize) -> Done
+    requires { ⌜ Given s × Sound line (now ns) × (lent ≤ length (now store)) ⌝ }
+    ensures { λ r. ⌜ MeetsPart (storeCall (line .kind) (line .count) (now (ns .entry)) (take lent (now (store .entry)))) lent (now (store .entry)) s r (now (store .exit)) ⌝ }
+{
+    write(s, line, ns, &mut store[0..lent])
+}
+
+pub fn stored(
+    p: Player,
+    line: Line,
+    ns: &[u32; 4102],
+    store: &mut [u32; 1048576],
+    out: &mut [u8; 65536],
+) -> Player
+    requires { ⌜ Ready p × Sound line (now ns) ⌝ }
+    ensures { λ r. ⌜ Stores line (now (ns .entry)) p (now (store .entry)) r (now (store .exit)) ⌝ }
+{
+    let s = p.session;
+    let done = lent(s, line, ns, store, p.lent);
+    p.answered(done, out)
+}
+
+fn draw(
+    s: Session,
+    ns: &[u32; 4102],
+    store: &[u32],
+    lent: usize,
+    screen: &mut [u32],
+    len: usize,
+) -> Done
+    requires { ⌜ Given s × (lent ≤ length (now store)) × (len ≤ length (now screen)) ⌝ }
+    ensures { λ r. ⌜ DrawsPart (redrawOf (now (ns .entry)) (take lent (now (store .entry))) (take len (now (screen .entry)))) len (now (screen .entry)) s r (now (screen .exit)) ⌝ }
+{
+    let told = ns[0] == 1;
+    s.redraw(told, &store[0..lent], &mut screen[0..len], ns[1], ns[2])
+}
+
+// How many pixels of the screen a redraw is lent: what was said, or what the line's size asks for.
+fn screen_len(p: Player, w: u32, h: u32) -> u64
+    ensures { λ r. ⌜ r ≡ cond (p .«is_set») (p .screen) (w * h) ⌝ }
+{
+    if p.is_set {
+        return p.screen as u64;
+    }
+    numbers::size(w, h)
+}
+
+fn drawn(
+    mut p: Player,
+    ns: &[u32; 4102],
+    store: &[u32; 1048576],
+    screen: &mut [u32; 384000],
+    len: usize,
+    out: &mut [u8; 65536],
+) -> Player
+    requires { ⌜ Ready p × (len ≤ 384000) ⌝ }
+    ensures { λ r. ⌜ Draws (now (ns .entry)) len p (now (store .entry)) (now (screen .entry)) r (now (screen .exit)) ⌝ }
+{
+    let s = p.session;
+    let done = draw(s, ns, store, p.lent, screen, len);
+    p.is_set = false;
+    p.answered(done, out)
+}
+
+pub fn redraw(
+    p: Player,
+    ns: &[u32; 4102],
+    store: &[u32; 1048576],
+    screen: &mut [u32; 384000],
+    out: &mut [u8; 65536],
+) -> Player
+    requires { ⌜ Ready p ⌝ }
+    ensures { λ r. ⌜ ((l : Line) → l .kind ≡ 22 → Plays l (now (ns .entry)) p (pixels (now (store .entry)) (now (screen .entry))) r (pixels (now (store .entry)) (now (screen .exit)))) ⌝ }
+{
+    let len = screen_len(p, ns[1], ns[2]);
+    if len <= 384000 {
+        return drawn(p, ns, store, screen, len as usize, out);
+    }
+    p.refused(out)
+}
+
+fn listed(s: Session, ns: &[u32; 4102], list: &mut [u32], len: usize) -> Listing
+    requires { ⌜ Given s × (len ≤ length (now list)) ⌝ }
+    ensures { λ r. ⌜ 4 * r .count ≤ len ⌝ }
+{
+    s.visible(numbers::id(ns), &mut list[0..len])
+}
+
+fn put_list(list: &[u32], n: usize, out: &mut [u8; 65536], at: usize) -> usize
+    requires { ⌜ (n ≤ length (now list)) × (at ≤ 65536) ⌝ }
+    ensures { λ r. ⌜ r ≤ 65536 ⌝ }
+{
+    text::all(out, at, &list[0..n])
+}
+
+fn put_listing(found: Listing, list: &[u32; 1984], out: &mut [u8; 65536], at: usize) -> usize
+    requires { ⌜ (4 * found .count ≤ 1984) × (at ≤ 65536) ⌝ }
+    ensures { λ r. ⌜ r ≤ 65536 ⌝ }
+{
+    if found.answer == 0 {
+        let to = text::number(out, at, 0);
+        let then = text::more(out, to, found.count as u32);
+        let last = put_list(list, 4 * found.count, out, then);
+        return text::end(out, last);
+    }
+    text::answer(out, at, found.answer)
+}
+
+pub fn visible(
+    mut p: Player,
+    ns: &[u32; 4102],
+    list: &mut [u32; 1984],
+    out: &mut [u8; 65536],
+) -> Player
+    requires { ⌜ Ready p ⌝ }
+    ensures { λ r. ⌜ Next (lendList 1984 p) (p .session) r ⌝ }
+{
+    let s = p.session;
+    let found = listed(s, ns, list, p.list);
+    p.list = 1984;
+    p.at = put_listing(found, list, out, p.at);
+    p
+}
+
+// The lend lines: more than the program has is refused.
+pub fn lend_store(mut p: Player, ns: &[u32; 4102], out: &mut [u8; 65536]) -> Player
+    requires { ⌜ Ready p ⌝ }
+    ensures { λ r. ⌜ PlaysAt 25 (now (ns .entry)) p r ⌝ }
+{
+    let n = numbers::wide(ns[0]);
+    if n <= 1048576 {
+        p.lent = n;
+        return p.accepted(out);
+    }
+    p.refused(out)
+}
+
+pub fn lend_screen(mut p: Player, ns: &[u32; 4102], out: &mut [u8; 65536]) -> Player
+    requires { ⌜ Ready p ⌝ }
+    ensures { λ r. ⌜ PlaysAt 26 (now (ns .entry)) p r ⌝ }
+{
+    let n = numbers::wide(ns[0]);
+    if n <= 384000 {
+        p.is_set = true;
+        p.screen = n;
+        return p.accepted(out);
+    }
+    p.refused(out)
+}
+
+pub fn lend_list(mut p: Player, ns: &[u32; 4102], out: &mut [u8; 65536]) -> Player
+    requires { ⌜ Ready p ⌝ }
+    ensures { λ r. ⌜ PlaysAt 27 (now (ns .entry)) p r ⌝ }
+{
+    let n = numbers::wide(ns[0]);
+    if n <= 1984 {
+        p.list = n;
+        return p.accepted(out);
+    }
+    p.refused(out)
+}

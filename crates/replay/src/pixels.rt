@@ -1,0 +1,114 @@
+// The lines of bare pixels. The pixels are numbers of the line.
+ghost use Prim.Native.Nat.{_+_, _≤_};
+ghost use lib.ListN.{length};
+ghost use Rattle.replay.specs.Numbers.{num, Sound};
+use crate::numbers;
+use crate::text;
+use script::Line;
+use script::kind;
+
+pub fn asked(line: Line, ns: &mut [u32; 4102], out: &mut [u8; 65536], at: usize) -> usize
+    requires { ⌜ Sound line (now ns) × (37 ≤ line .kind) × (at ≤ 65536) ⌝ }
+    ensures { λ r. ⌜ r ≤ 65536 ⌝ }
+{
+    let k = line.kind;
+    let count = line.count;
+    match k {
+        kind::SCANLINE => scanline(ns, count, out, at),
+        kind::FILL_SCANLINE => fill_scanline(ns, count, out, at),
+        kind::SET_SCANLINE => set_scanline(ns, count, out, at),
+        _ => region(ns, count, out, at),
+    }
+}
+
+// A line of the answer and, where it is 0, the numbers of a part.
+fn put(answer: u32, part: &[u32], out: &mut [u8; 65536], at: usize) -> usize
+    requires { ⌜ at ≤ 65536 ⌝ }
+    ensures { λ r. ⌜ r ≤ 65536 ⌝ }
+{
+    if answer == 0 {
+        let to = text::number(out, at, 0);
+        let then = text::all(out, to, part);
+        return text::end(out, then);
+    }
+    text::answer(out, at, answer)
+}
+
+fn scanline(ns: &[u32], count: usize, out: &mut [u8; 65536], at: usize) -> usize
+    requires { ⌜ (5 ≤ count) × (count ≤ length (now ns)) × (at ≤ 65536) ⌝ }
+    ensures { λ r. ⌜ r ≤ 65536 ⌝ }
+{
+    let mut answer: u32 = 0;
+    let pixels = &ns[5..count];
+    let part = winbuf::scanline_rgn(pixels, ns[0], ns[1], ns[2], ns[3], ns[4], &mut answer);
+    put(answer, part, out, at)
+}
+
+fn region(ns: &[u32], count: usize, out: &mut [u8; 65536], at: usize) -> usize
+    requires { ⌜ (5 ≤ count) × (count ≤ length (now ns)) × (at ≤ 65536) ⌝ }
+    ensures { λ r. ⌜ r ≤ 65536 ⌝ }
+{
+    let mut answer: u32 = 0;
+    let pixels = &ns[5..count];
+    let stride = numbers::wide(ns[4]);
+    let part = stride::region_of(pixels, stride, ns[0], ns[1], ns[2], ns[3], &mut answer);
+    put(answer, part, out, at)
+}
+
+fn fill_scanline(ns: &mut [u32], count: usize, out: &mut [u8; 65536], at: usize) -> usize
+    requires { ⌜ (6 ≤ count) × (count ≤ length (now ns)) × (at ≤ 65536) ⌝ }
+    ensures { λ r. ⌜ r ≤ 65536 ⌝ }
+{
+    let w = ns[0];
+    let h = ns[1];
+    let line = ns[2];
+    let ofs = ns[3];
+    let len = ns[4];
+    let value = ns[5];
+    let answer = winbuf::fill_scanline(&mut ns[6..count], w, h, line, ofs, len, value);
+    put(answer, &ns[6..count], out, at)
+}
+
+// The data of the line, apart from its pixels, so that these can be written.
+fn copied(ns: &[u32], n: usize) -> [u32; 4096]
+    requires { ⌜ (n ≤ 4096) × (6 + n ≤ length (now ns)) ⌝ }
+{
+    let mut data = [0u32; 4096];
+    let mut i: usize = 0;
+    while i < n {
+        data[i] = ns[6 + i];
+        i += 1;
+    }
+    data
+}
+
+fn set(
+    pixels: &mut [u32],
+    w: u32,
+    h: u32,
+    line: u32,
+    ofs: u32,
+    len: u32,
+    data: &[u32],
+    n: usize,
+) -> u32
+    requires { ⌜ n ≤ length (now «data») ⌝ }
+{
+    winbuf::set_scanline(pixels, w, h, line, ofs, len, &data[0..n])
+}
+
+fn set_scanline(ns: &mut [u32], count: usize, out: &mut [u8; 65536], at: usize) -> usize
+    requires { ⌜ (6 + num (now ns) 5 ≤ count) × (count ≤ 4102) × (count ≤ length (now ns)) × (at ≤ 65536) ⌝ }
+    ensures { λ r. ⌜ r ≤ 65536 ⌝ }
+{
+    let w = ns[0];
+    let h = ns[1];
+    let line = ns[2];
+    let ofs = ns[3];
+    let len = ns[4];
+    let n = numbers::wide(ns[5]);
+    let data = copied(ns, n);
+    let from = 6 + n;
+    let answer = set(&mut ns[from..count], w, h, line, ofs, len, &data, n);
+    put(answer, &ns[from..count], out, at)
+}

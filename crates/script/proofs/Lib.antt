@@ -1,0 +1,2 @@
+-- Lemmas on the lines of a call script.
+pub mod laws

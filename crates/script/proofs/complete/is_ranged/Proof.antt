@@ -1,0 +1,79 @@
+-- One kind after the other.
+use Rattle.script.specs.Script.{ranged}
+use borrow.Author.Tests.{ne-eqb, le-leb, lt-leb}
+use borrow.Author.Needs.{needs}
+use Rattle.script.proofs.complete.is_ranged.Statement.{statement}
+use Rattle.script.proofs.complete.is_ranged.Tie as tie
+
+shared-slice-read-result : tie.Need-shared-slice-read-result
+shared-slice-read-result c = search needs
+
+returns : tie.Need-returns
+unfolding ranged
+returns c = rw (c .before .if1 .taken)
+
+shared-slice-read-result-2 : tie.Need-shared-slice-read-result-2
+shared-slice-read-result-2 c = search needs
+
+returns-2 : tie.Need-returns-2
+unfolding ranged
+returns-2 c = rw (c .before .if2 .taken)
+
+shared-slice-read-if4 : tie.Need-shared-slice-read-if4
+shared-slice-read-if4 c = search needs
+
+returns-3 : tie.Need-returns-3
+unfolding ranged
+returns-3 c = rw (c .before .before .if3 .taken, lt-leb _ 255 (c .if4 .taken))
+
+shared-slice-read-result-3 : tie.Need-shared-slice-read-result-3
+shared-slice-read-result-3 c = search needs
+
+returns-4 : tie.Need-returns-4
+unfolding ranged
+returns-4 c = rw (c .before .before .before .if3 .taken, le-leb _ 255 (c .before .if4 .left))
+
+shared-slice-read-result-4 : tie.Need-shared-slice-read-result-4
+shared-slice-read-result-4 c = search needs
+
+returns-5 : tie.Need-returns-5
+unfolding ranged
+returns-5 c = rw (c .before .if5 .taken)
+
+shared-slice-read-wide : tie.Need-shared-slice-read-wide
+shared-slice-read-wide c = search needs
+
+wide-requires : tie.Need-wide-requires
+wide-requires c κs = search needs
+
+add-result : tie.Need-add-result
+add-result c = search needs
+
+returns-6 : tie.Need-returns-6
+unfolding ranged
+returns-6 c = rw (c .before .before .if6 .taken, c .wide .ensures .0)
+
+returns-7 : tie.Need-returns-7
+unfolding ranged
+returns-7 c =
+    rw (ne-eqb _ 17 (c .before .before .before .before .if1 .left), ne-eqb _ 18 (c .before .before .before .if2 .left), ne-eqb _ 19 (c .before .before .if3 .left), ne-eqb _ 22 (c .before .if5 .left), ne-eqb _ 39 (c .if6 .left))
+
+pub is-ranged-spec : {M : Type 1} → statement M
+is-ranged-spec =
+    tie.close
+    (tie.spec
+    shared-slice-read-result
+    returns
+    shared-slice-read-result-2
+    returns-2
+    shared-slice-read-if4
+    returns-3
+    shared-slice-read-result-3
+    returns-4
+    shared-slice-read-result-4
+    returns-5
+    shared-slice-read-wide
+    wide-requires
+    add-result
+    returns-6
+    returns-7)

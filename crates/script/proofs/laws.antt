@@ -1,0 +1,9 @@
+-- Each file uses the ones before it.
+pub mod Tables
+pub mod Stages
+pub mod Kinds
+pub mod Calls
+pub mod Steps
+pub mod Blocks
+pub mod Letters
+pub mod Meaning
