@@ -1,0 +1,26 @@
+//! Stand-ins: counted references.
+pub use std::sync::Arc;
+
+pub mod aref {
+    use std::ops::Deref;
+    pub use std::sync::Arc as ArefBorrow;
+
+    /// An owner that lends its value.
+    pub struct Aref<T>(ArefBorrow<T>);
+
+    impl<T> Aref<T> {
+        pub fn new(value: T) -> Aref<T> {
+            Aref(ArefBorrow::new(value))
+        }
+        pub fn borrow(&self) -> ArefBorrow<T> {
+            self.0.clone()
+        }
+    }
+
+    impl<T> Deref for Aref<T> {
+        type Target = T;
+        fn deref(&self) -> &T {
+            &self.0
+        }
+    }
+}

@@ -1,0 +1,3 @@
+//! The original's displays.
+#[allow(warnings)]
+pub mod video;

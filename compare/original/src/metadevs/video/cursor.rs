@@ -1,0 +1,2 @@
+//! Stand-in: no mouse cursor is drawn.
+pub struct CursorHandle;

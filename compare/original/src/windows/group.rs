@@ -1,0 +1,99 @@
+//! The calls of document 01 on the original's `WindowGroup`, each by the like-named function.
+use super::{Window, WindowGroup};
+use input::Event;
+use kernel::lib::mem::aref::Aref;
+use kernel::lib::ring_buffer::dropped;
+use kernel::user_async::woken;
+use {Colour, Dims, Pos, Rect};
+
+/// What became of an event.
+#[derive(PartialEq)]
+pub enum Routed {
+    Taken,
+    NoWindow,
+    NoRoom,
+}
+
+pub struct Group(WindowGroup);
+
+impl Group {
+    pub fn new() -> Group {
+        Group(WindowGroup::new(String::new()))
+    }
+    pub fn is_used(&self, id: u32) -> bool {
+        self.0.windows.get(id as usize).is_some()
+    }
+    pub fn count(&self) -> usize {
+        self.0.windows.count()
+    }
+    pub fn focus(&self) -> u16 {
+        self.0.focussed_window
+    }
+    /// The visible list that the original keeps; none for a hidden window.
+    pub fn visible(&self, id: u32) -> &[Rect] {
+        match self.0.get_render_idx(id as u16) {
+            Some(place) => &self.0.render_order[place].1,
+            None => &[],
+        }
+    }
+    pub fn pixels(&self, id: u32) -> Vec<u32> {
+        let buffer = self.window(id).get_buffer();
+        let size = buffer.dims();
+        let rows = 0..size.h as usize;
+        rows.flat_map(|row| buffer.scanline_rgn(row, 0, size.w as usize).to_vec()).collect()
+    }
+
+    /// As in the original's `create_window`.
+    pub fn create(&mut self) -> usize {
+        let window = Aref::new(Window::new(String::new()));
+        self.0.windows.insert((Pos::new(0, 0), window))
+    }
+    pub fn show(&mut self, id: u32) {
+        self.0.show_window(id as u16)
+    }
+    pub fn hide(&mut self, id: u32) {
+        self.0.hide_window(id as u16)
+    }
+    pub fn drop(&mut self, id: u32) {
+        self.0.drop_window(id as u16)
+    }
+    pub fn move_window(&mut self, id: u32, x: u32, y: u32) {
+        self.0.move_window(id as u16, Pos::new(x, y))
+    }
+    pub fn mark(&mut self, id: u32) {
+        self.window(id).mark_dirty()
+    }
+    /// "resize is `Window::resize` then `recalc_vis`"
+    pub fn resize(&mut self, id: u32, w: u32, h: u32) {
+        self.window(id).resize(Dims::new(w, h));
+        self.0.recalc_vis(id as u16)
+    }
+    pub fn fill(&mut self, id: u32, area: Rect, colour: u32) {
+        self.window(id).fill_rect(area, Colour(colour))
+    }
+    pub fn blit(&mut self, id: u32, area: Rect, data: &[u32], stride: usize) {
+        self.window(id).blit_rect(area, data, stride)
+    }
+    pub fn redraw(&mut self, full: bool) {
+        self.0.redraw(full)
+    }
+    pub fn pop(&mut self, id: u32) -> Option<Event> {
+        self.window(id).input.pop_event()
+    }
+    /// The original says nothing of what became of the event: a window that takes it wakes its queue, and a full one drops it.
+    pub fn route(&mut self, event: Event) -> Routed {
+        let before = (woken(), dropped());
+        self.0.handle_input(event);
+        if woken() == before.0 {
+            return Routed::NoWindow;
+        }
+        if dropped() != before.1 {
+            return Routed::NoRoom;
+        }
+        Routed::Taken
+    }
+
+    fn window(&self, id: u32) -> &Window {
+        &self.0.windows[id as usize].1
+    }
+}

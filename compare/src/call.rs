@@ -1,0 +1,184 @@
+//! A line of a call script, read as CALL-SCRIPT.md says.
+use original::input::Event;
+use original::Rect;
+
+pub enum Line {
+    Passed,
+    Malformed,
+    Call(Call),
+}
+
+/// A scanline: width and height of the pixels, then line, ofs and len.
+#[derive(Clone, Copy)]
+pub struct Scan {
+    pub w: u32,
+    pub h: u32,
+    pub line: u32,
+    pub ofs: u32,
+    pub len: u32,
+}
+
+pub enum Call {
+    Start(u32),
+    Create,
+    Show(u32),
+    Hide(u32),
+    Drop(u32),
+    Mark(u32),
+    Move(u32, u32, u32),
+    Resize(u32, u32, u32),
+    Fill(u32, Rect, u32),
+    Blit(u32, Rect, u32, Vec<u32>),
+    Route(Event),
+    Pop(u32),
+    Redraw(bool, u32, u32),
+    Visible(u32),
+    Focus,
+    Lend(u32),
+    LendScreen(u32),
+    LendList(u32),
+    Screen(u32, u32),
+    Pixels(u32),
+    Picture(u32, u32, String),
+    Intersect(Rect, Rect),
+    Pieces(Rect, Rect),
+    Union(Rect, Rect),
+    Contains(Rect, u32, u32),
+    ContainsRect(Rect, Rect),
+    Within(Rect, u32, u32),
+    Scanline(Scan, Vec<u32>),
+    FillScanline(Scan, u32, Vec<u32>),
+    SetScanline(Scan, Vec<u32>, Vec<u32>),
+    Region(Rect, u32, Vec<u32>),
+}
+
+/// "DATA is 0 to 4,096 numbers"; "PIXELS and DATA are at most 4,096 numbers together".
+const MOST: usize = 4096;
+
+/// Reads a line, which comes without its newline.
+pub fn read(line: &[u8]) -> Line {
+    if line.is_empty() || line[0] == b'#' {
+        return Line::Passed;
+    }
+    match std::str::from_utf8(line).ok().and_then(call) {
+        Some(call) => Line::Call(call),
+        None => Line::Malformed,
+    }
+}
+
+fn call(line: &str) -> Option<Call> {
+    let mut words = line.split(' ').filter(|word| !word.is_empty());
+    let word = words.next()?;
+    if word == "picture" {
+        return picture(&words.collect::<Vec<_>>());
+    }
+    let numbers = words.map(number).collect::<Option<Vec<_>>>()?;
+    session(word, &numbers)
+        .or_else(|| event(word, &numbers).map(Call::Route))
+        .or_else(|| program(word, &numbers))
+        .or_else(|| geometry(word, &numbers))
+        .or_else(|| pixels(word, &numbers))
+}
+
+/// "A number is decimal digits, 0 to 4294967295, leading zeros allowed"
+fn number(word: &str) -> Option<u32> {
+    let digits = word.bytes().all(|b| b.is_ascii_digit());
+    let significant = word.trim_start_matches('0');
+    match (digits, significant) {
+        (false, _) => None,
+        (true, "") => Some(0),
+        (true, digits) => digits.parse().ok(),
+    }
+}
+
+fn session(word: &str, numbers: &[u32]) -> Option<Call> {
+    Some(match (word, numbers) {
+        ("start", &[c]) => Call::Start(c),
+        ("create", &[]) => Call::Create,
+        ("show", &[id]) => Call::Show(id),
+        ("hide", &[id]) => Call::Hide(id),
+        ("drop", &[id]) => Call::Drop(id),
+        ("mark", &[id]) => Call::Mark(id),
+        ("move", &[id, x, y]) => Call::Move(id, x, y),
+        ("resize", &[id, w, h]) => Call::Resize(id, w, h),
+        ("fill", &[id, x, y, w, h, colour]) => Call::Fill(id, Rect::new(x, y, w, h), colour),
+        ("blit", &[id, x, y, w, h, stride, ref data @ ..]) if data.len() <= MOST => {
+            Call::Blit(id, Rect::new(x, y, w, h), stride, data.to_vec())
+        }
+        ("pop", &[id]) => Call::Pop(id),
+        ("redraw", &[full, w, h]) if full <= 1 => Call::Redraw(full == 1, w, h),
+        ("visible", &[id]) => Call::Visible(id),
+        ("focus", &[]) => Call::Focus,
+        _ => return None,
+    })
+}
+
+fn event(word: &str, numbers: &[u32]) -> Option<Event> {
+    let byte = |n: u32| u8::try_from(n).ok();
+    Some(match (word, numbers) {
+        ("keydown", &[v]) => Event::KeyDown(v),
+        ("keyup", &[v]) => Event::KeyUp(v),
+        ("keyfire", &[v]) => Event::KeyFire(v),
+        ("text", &[v]) => Event::Text(v),
+        ("mousemove", &[x, y]) => Event::MouseMove(x, y, 0, 0),
+        ("mousedown", &[x, y, b]) => Event::MouseDown(x, y, byte(b)?),
+        ("mouseup", &[x, y, b]) => Event::MouseUp(x, y, byte(b)?),
+        ("mouseclick", &[x, y, b, n]) => Event::MouseClick(x, y, byte(b)?, byte(n)?),
+        ("resized", &[]) => Event::Resize,
+        _ => return None,
+    })
+}
+
+fn program(word: &str, numbers: &[u32]) -> Option<Call> {
+    Some(match (word, numbers) {
+        ("lend", &[pixels]) => Call::Lend(pixels),
+        ("lend-screen", &[pixels]) => Call::LendScreen(pixels),
+        ("lend-list", &[numbers]) => Call::LendList(numbers),
+        ("screen", &[w, h]) => Call::Screen(w, h),
+        ("pixels", &[id]) => Call::Pixels(id),
+        _ => return None,
+    })
+}
+
+/// "1 to 64 letters, digits, `-`, `_`, `.`, the first no `.`"
+fn picture(words: &[&str]) -> Option<Call> {
+    let &[w, h, name] = words else { return None };
+    let plain = name.bytes().all(|b| b.is_ascii_alphanumeric() || b"-_.".contains(&b));
+    let good = plain && name.len() <= 64 && !name.starts_with('.');
+    good.then_some(Call::Picture(number(w)?, number(h)?, name.to_string()))
+}
+
+fn geometry(word: &str, numbers: &[u32]) -> Option<Call> {
+    let &[x, y, w, h, ref rest @ ..] = numbers else { return None };
+    let a = Rect::new(x, y, w, h);
+    Some(match (word, rest) {
+        ("intersect", &[x, y, w, h]) => Call::Intersect(a, Rect::new(x, y, w, h)),
+        ("pieces", &[x, y, w, h]) => Call::Pieces(a, Rect::new(x, y, w, h)),
+        ("union", &[x, y, w, h]) => Call::Union(a, Rect::new(x, y, w, h)),
+        ("contains", &[x, y]) => Call::Contains(a, x, y),
+        ("contains-rect", &[x, y, w, h]) => Call::ContainsRect(a, Rect::new(x, y, w, h)),
+        ("within", &[w, h]) => Call::Within(a, w, h),
+        _ => return None,
+    })
+}
+
+fn pixels(word: &str, numbers: &[u32]) -> Option<Call> {
+    let &[a, b, c, d, e, ref rest @ ..] = numbers else { return None };
+    let scan = Scan { w: a, h: b, line: c, ofs: d, len: e };
+    let call = match (word, rest) {
+        ("scanline", pixels) => Call::Scanline(scan, few(pixels)?),
+        ("fill-scanline", &[value, ref pixels @ ..]) => Call::FillScanline(scan, value, few(pixels)?),
+        ("set-scanline", &[n, ref both @ ..]) if n as usize <= both.len() => {
+            let (data, pixels) = both.split_at(n as usize);
+            few(both)?;
+            Call::SetScanline(scan, data.to_vec(), pixels.to_vec())
+        }
+        ("region", pixels) => Call::Region(Rect::new(a, b, c, d), e, few(pixels)?),
+        _ => return None,
+    };
+    Some(call)
+}
+
+fn few(numbers: &[u32]) -> Option<Vec<u32>> {
+    (numbers.len() <= MOST).then(|| numbers.to_vec())
+}

@@ -1,0 +1,45 @@
+//! The entries of "Not common" that an accepted call can fall under.
+
+#[derive(Clone, Copy, Debug, PartialEq, Eq, PartialOrd, Ord)]
+pub enum Entry {
+    SomeEntriesMet,
+    PiecesApart,
+    BarePixels,
+    MergeLeft,
+    MergeUp,
+    BlitEmpty,
+    BlitStride,
+    WidenRows,
+    NarrowTaller,
+    SeventeenthEntry,
+}
+
+impl Entry {
+    pub const ALL: [Entry; 10] = [
+        Entry::SomeEntriesMet,
+        Entry::PiecesApart,
+        Entry::BarePixels,
+        Entry::MergeLeft,
+        Entry::MergeUp,
+        Entry::BlitEmpty,
+        Entry::BlitStride,
+        Entry::WidenRows,
+        Entry::NarrowTaller,
+        Entry::SeventeenthEntry,
+    ];
+
+    pub fn text(self) -> &'static str {
+        match self {
+            Entry::SomeEntriesMet => "a higher window meets some entries",
+            Entry::PiecesApart => "bare pieces of rectangles that don't meet",
+            Entry::BarePixels => "bare pixels of another length",
+            Entry::MergeLeft => "a merge to the left",
+            Entry::MergeUp => "a merge upward",
+            Entry::BlitEmpty => "a blit of an empty area",
+            Entry::BlitStride => "a blit with stride above the width",
+            Entry::WidenRows => "a widening from two or more rows",
+            Entry::NarrowTaller => "a narrowing to greater height",
+            Entry::SeventeenthEntry => "a 17th dirty entry",
+        }
+    }
+}

@@ -1,0 +1,52 @@
+//! Events routed and popped.
+use super::{Maker, Step};
+
+impl Maker<'_> {
+    /// Mostly a point in a shown window.
+    fn point(&mut self) -> (u32, u32) {
+        let places = &self.script.player.shadow.places;
+        if places.order.is_empty() || self.random.chance(300) {
+            return (self.coordinate(), self.coordinate());
+        }
+        let at = places.at[self.random.pick(&places.order)];
+        (self.random.from_to(at.left, at.right), self.random.from_to(at.top, at.bottom))
+    }
+
+    pub fn event(&mut self) -> Step {
+        let (x, y) = self.point();
+        let value = self.colour();
+        let (button, count) = (self.random.from_to(0, 255), self.random.from_to(0, 255));
+        match self.random.from_to(0, 11) {
+            0 => self.say(&format!("keydown {value}")),
+            1 => self.say(&format!("keyup {value}")),
+            2 => self.say(&format!("keyfire {value}")),
+            3 => self.say(&format!("text {value}")),
+            4..=6 => self.say(&format!("mousemove {x} {y}")),
+            7..=8 => self.say(&format!("mousedown {x} {y} {button}")),
+            9 => self.say(&format!("mouseup {x} {y} {button}")),
+            10 => self.say(&format!("mouseclick {x} {y} {button} {count}")),
+            _ => self.say("resized"),
+        }
+    }
+
+    pub fn pop(&mut self) -> Step {
+        let id = self.id();
+        for _ in 0..self.random.from_to(1, 3) {
+            self.say(&format!("pop {id}"))?;
+        }
+        Ok(())
+    }
+
+    /// More events than a queue holds.
+    pub fn flood(&mut self) -> Step {
+        let (x, y) = self.point();
+        let keys = self.random.chance(500);
+        for value in 0..self.random.from_to(15, 20) {
+            match keys {
+                true => self.say(&format!("keydown {value}"))?,
+                false => self.say(&format!("mousedown {x} {y} {value}"))?,
+            }
+        }
+        Ok(())
+    }
+}

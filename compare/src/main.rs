@@ -1,0 +1,86 @@
+//! Compares the library with the original by playing the same call scripts on both.
+mod area;
+mod bare;
+mod call;
+mod compare;
+mod damage;
+mod entry;
+mod events;
+mod lists;
+mod panics;
+mod picture;
+mod places;
+mod player;
+mod questions;
+mod random;
+mod record;
+mod replay;
+mod script;
+mod shadow;
+mod shrink;
+mod sides;
+mod tally;
+mod text;
+
+use player::{Mode, Player};
+use replay::Replay;
+use std::env;
+use std::fs;
+use std::io::{self, Read, Write};
+use std::process::ExitCode;
+use text::Text;
+
+const USAGE: &str = "compare random REPLAY CALLS SEED
+compare sides REPLAY all|unasked FILE
+compare record FILE STDIN STDOUT
+compare play all|unasked";
+
+fn main() -> ExitCode {
+    panics::keep();
+    let words: Vec<String> = env::args().skip(1).collect();
+    let words: Vec<&str> = words.iter().map(String::as_str).collect();
+    match command(&words) {
+        Ok(true) => ExitCode::SUCCESS,
+        Ok(false) => ExitCode::FAILURE,
+        Err(error) => {
+            eprintln!("{error}");
+            ExitCode::from(2)
+        }
+    }
+}
+
+fn command(words: &[&str]) -> io::Result<bool> {
+    match *words {
+        ["random", replay, calls, seed] => compare::run(&Replay(replay.into()), number(calls)?, number(seed)?),
+        ["sides", replay, word, file] => {
+            sides::print(&Replay(replay.into()), &fs::read(file)?, mode(word)?).map(|()| true)
+        }
+        ["record", first, stdin, stdout] => record::write(first, stdin, stdout).map(|()| true),
+        ["play", word] => play(mode(word)?).map(|()| true),
+        _ => Err(io::Error::other(USAGE)),
+    }
+}
+
+fn mode(word: &str) -> io::Result<Mode> {
+    match word {
+        "all" => Ok(Mode::All),
+        "unasked" => Ok(Mode::Unasked),
+        _ => Err(io::Error::other(USAGE)),
+    }
+}
+
+fn number(word: &str) -> io::Result<u64> {
+    word.parse().map_err(|_| io::Error::other(format!("not a number: {word}")))
+}
+
+/// Plays the standard input on the original.
+fn play(mode: Mode) -> io::Result<()> {
+    let mut script = Vec::new();
+    io::stdin().read_to_end(&mut script)?;
+    let mut player = Player::new(mode);
+    let mut out = Text::default();
+    for line in script.split(|&b| b == b'\n') {
+        player.line(line, &mut out);
+    }
+    io::stdout().write_all(&out.0)
+}

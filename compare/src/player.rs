@@ -1,0 +1,190 @@
+//! Plays call scripts on the original.
+use crate::bare;
+use crate::call::{read, Call, Line};
+use crate::entry::Entry;
+use crate::events;
+use crate::panics;
+use crate::picture;
+use crate::questions::{answer, cannot, Lent, SCREEN};
+use crate::shadow::{Seen, Shadow};
+use crate::text::Text;
+use original::metadevs::video::lent::{lend_screen, Pixels};
+use original::sync::mutex::Mutex;
+use original::windows::group::Group;
+use std::sync::Arc;
+
+/// How far a player goes.
+#[derive(Clone, Copy, PartialEq)]
+pub enum Mode {
+    /// A call under an entry of "Not common" is not made.
+    Common,
+    /// Such a call is made too.
+    All,
+    /// So is a call that question 3 to 7, 13 or 14 refuses.
+    Unasked,
+}
+
+pub enum Played {
+    Passed,
+    Written,
+    Outside(Entry),
+}
+
+pub struct Player {
+    mode: Mode,
+    group: Group,
+    screen: Pixels,
+    lines: u64,
+    lent: Lent,
+    pub shadow: Shadow,
+}
+
+impl Player {
+    /// "Before the first `start` the session is that of a refused one."
+    pub fn new(mode: Mode) -> Player {
+        Player {
+            mode,
+            group: Group::new(),
+            screen: Arc::new(Mutex::new(vec![0; SCREEN as usize])),
+            lines: 0,
+            lent: Lent { c: 1, store: 16, screen: None, list: None },
+            shadow: Shadow::fresh(Seen::default()),
+        }
+    }
+
+    /// Plays one line, without its newline, and writes its answer. A call that is outside the common ground leaves all as it was.
+    pub fn line(&mut self, line: &[u8], out: &mut Text) -> Played {
+        self.lines += 1;
+        match read(line) {
+            Line::Passed => return Played::Passed,
+            Line::Malformed => out.line(&format!("? {}", self.lines)),
+            Line::Call(call) if cannot(&call, &self.lent) => out.line("!"),
+            Line::Call(call) => {
+                let answer = answer(&call, &self.group, &self.lent);
+                if let Some(entry) = self.entry(&call, answer) {
+                    self.lines -= 1;
+                    return Played::Outside(entry);
+                }
+                self.call(&call, answer, out);
+            }
+        }
+        Played::Written
+    }
+
+    fn entry(&self, call: &Call, answer: u8) -> Option<Entry> {
+        if self.mode != Mode::Common || answer != 0 {
+            return None;
+        }
+        self.shadow.entry(call)
+    }
+
+    fn call(&mut self, call: &Call, answer: u8, out: &mut Text) {
+        let unasked = self.mode == Mode::Unasked && matches!(answer, 3..=7 | 13 | 14);
+        let before = out.0.len();
+        if answer == 0 || unasked {
+            let made = panics::caught(|| self.make(call, out));
+            match made {
+                Ok(id) if answer == 0 => self.shadow.follow(call, id),
+                Ok(_) => {}
+                Err(panic) => {
+                    out.0.truncate(before);
+                    out.0.extend_from_slice(panic.as_bytes());
+                }
+            }
+            out.end();
+        } else {
+            self.refuse(call);
+            out.answer(answer);
+            out.end();
+        }
+        match call {
+            Call::Redraw(..) => self.lent.screen = None,
+            Call::Visible(_) => self.lent.list = None,
+            _ => {}
+        }
+    }
+
+    /// "On a no the session handed over is a fresh one with C = 1."
+    fn refuse(&mut self, call: &Call) {
+        if let Call::Start(_) = call {
+            self.start(1);
+        }
+    }
+
+    fn start(&mut self, c: u32) {
+        self.group = Group::new();
+        self.lent.c = c;
+        self.lent.store = 16 * c;
+        self.shadow = Shadow::fresh(self.shadow.seen);
+    }
+
+    /// Makes the call on the original and writes what it gives; the id is that of a create.
+    fn make(&mut self, call: &Call, out: &mut Text) -> usize {
+        match *call {
+            Call::Route(event) => out.answer(events::route(&mut self.group, event)),
+            Call::Pop(id) => events::pop(&mut self.group, id, out),
+            Call::Create => {
+                let id = self.group.create();
+                out.answer(0);
+                out.number(id as u32);
+                return id;
+            }
+            _ => {
+                self.change(call);
+                out.answer(0);
+                self.tell(call, out);
+            }
+        }
+        0
+    }
+
+    fn change(&mut self, call: &Call) {
+        let group = &mut self.group;
+        match *call {
+            Call::Start(c) => self.start(c),
+            Call::Show(id) => group.show(id),
+            Call::Hide(id) => group.hide(id),
+            Call::Drop(id) => group.drop(id),
+            Call::Mark(id) => group.mark(id),
+            Call::Move(id, x, y) => group.move_window(id, x, y),
+            Call::Resize(id, w, h) => group.resize(id, w, h),
+            Call::Fill(id, area, colour) => group.fill(id, area, colour),
+            Call::Blit(id, area, stride, ref data) => group.blit(id, area, data, stride as usize),
+            Call::Redraw(told, w, h) => {
+                lend_screen(&self.screen, w, h);
+                group.redraw(told || self.shadow.owed)
+            }
+            Call::Lend(pixels) => self.lent.store = pixels,
+            Call::LendScreen(pixels) => self.lent.screen = Some(pixels),
+            Call::LendList(numbers) => self.lent.list = Some(numbers),
+            _ => {}
+        }
+    }
+
+    fn tell(&mut self, call: &Call, out: &mut Text) {
+        match *call {
+            Call::Visible(id) => {
+                let list = self.group.visible(id);
+                out.number(list.len() as u32);
+                list.iter().for_each(|rect| out.rect(rect));
+            }
+            Call::Focus => out.number(u32::from(self.group.focus())),
+            Call::Screen(w, h) => out.numbers(&self.screen.lock()[..(w * h) as usize]),
+            Call::Pixels(id) => out.numbers(&self.pixels(id)),
+            Call::Picture(w, h, ref name) => {
+                if picture::write(&self.screen.lock(), w, h, name).is_err() {
+                    out.instead("!");
+                }
+            }
+            _ => bare::make(call, out),
+        }
+    }
+
+    /// "the w × h pixels of window ID in the store, if at least 16 × C pixels are lent; of an unused id none"
+    fn pixels(&self, id: u32) -> Vec<u32> {
+        if id < 16 && self.group.is_used(id) && self.lent.store >= 16 * self.lent.c {
+            return self.group.pixels(id);
+        }
+        Vec::new()
+    }
+}

@@ -1,0 +1,126 @@
+//! The questions of document 01 that the original does not ask: all but 10, 11 and 12. And the limits of the program itself.
+use crate::call::{Call, Scan};
+use original::input::Event;
+use original::windows::group::Group;
+use original::Rect;
+
+/// What is lent, and the session's C.
+pub struct Lent {
+    pub c: u32,
+    pub store: u32,
+    /// The lengths for the next `redraw` and the next `visible`.
+    pub screen: Option<u32>,
+    pub list: Option<u32>,
+}
+
+pub const STORE: u32 = 1_048_576;
+pub const SCREEN: u32 = 384_000;
+pub const LIST: u32 = 1_984;
+
+/// Must the program answer `!`?
+pub fn cannot(call: &Call, lent: &Lent) -> bool {
+    let large = |w: u32, h: u32| u64::from(w) * u64::from(h) > u64::from(SCREEN);
+    match *call {
+        Call::Start(c) => (STORE / 16 + 1..=1_048_576).contains(&c),
+        Call::Lend(pixels) => pixels > STORE,
+        Call::LendScreen(pixels) => pixels > SCREEN,
+        Call::LendList(numbers) => numbers > LIST,
+        Call::Redraw(_, w, h) => lent.screen.is_none() && large(w, h),
+        Call::Screen(w, h) | Call::Picture(w, h, _) => large(w, h),
+        _ => false,
+    }
+}
+
+/// The number of the first question with a no, or 0.
+pub fn answer(call: &Call, group: &Group, lent: &Lent) -> u8 {
+    let store = || (1, u64::from(lent.store) == 16 * u64::from(lent.c));
+    let used = |id: u32| (3, id < 16 && group.is_used(id));
+    match call {
+        Call::Start(c) => first_no(&[(2, (1..=1_048_576).contains(c))]),
+        Call::Create => first_no(&[(4, group.count() < 16)]),
+        Call::Show(id) | Call::Hide(id) | Call::Drop(id) | Call::Mark(id) | Call::Pop(id) => first_no(&[used(*id)]),
+        Call::Move(id, x, y) => first_no(&[used(*id), small(&[*x, *y])]),
+        Call::Resize(id, w, h) => {
+            let fits = u64::from(*w) * u64::from(*h) <= u64::from(lent.c);
+            first_no(&[store(), used(*id), small(&[*w, *h]), (6, fits)])
+        }
+        Call::Fill(id, area, _) => first_no(&[store(), used(*id), small_rect(area)]),
+        Call::Blit(id, area, stride, _) => first_no(&[store(), used(*id), small_rect(area), (7, *stride >= 1)]),
+        Call::Route(event) => first_no(&[small_point(event)]),
+        Call::Redraw(_, w, h) => first_no(&[store(), (8, is_screen(*w, *h, lent.screen))]),
+        Call::Visible(id) => {
+            let needed = |id| 4 * group.visible(id).len() as u64;
+            let room = u64::from(lent.list.unwrap_or(LIST));
+            first_no(&[used(*id), (9, needed(*id) <= room)])
+        }
+        _ => bare(call),
+    }
+}
+
+fn bare(call: &Call) -> u8 {
+    match call {
+        Call::Intersect(a, b) | Call::Pieces(a, b) | Call::Union(a, b) | Call::ContainsRect(a, b) => {
+            first_no(&[ends(a), ends(b)])
+        }
+        Call::Contains(a, ..) | Call::Within(a, ..) => first_no(&[ends(a)]),
+        Call::Scanline(scan, pixels) => {
+            let inside = scan.w == 0 || scan.line < scan.h && scan.ofs < scan.w && reaches(scan, pixels);
+            first_no(&[small_scan(scan), (13, inside)])
+        }
+        Call::FillScanline(scan, _, pixels) | Call::SetScanline(scan, _, pixels) => {
+            let inside = scan.line >= scan.h || scan.ofs >= scan.w || reaches(scan, pixels);
+            first_no(&[small_scan(scan), (13, inside)])
+        }
+        Call::Region(area, stride, pixels) => first_no(&[small_rect(area), (13, is_region(area, *stride, pixels))]),
+        _ => 0,
+    }
+}
+
+fn first_no(questions: &[(u8, bool)]) -> u8 {
+    questions.iter().find(|(_, yes)| !yes).map_or(0, |(number, _)| *number)
+}
+
+fn small(numbers: &[u32]) -> (u8, bool) {
+    (5, numbers.iter().all(|&number| number <= 32_767))
+}
+
+fn small_rect(area: &Rect) -> (u8, bool) {
+    small(&[area.pos.x, area.pos.y, area.dims.w, area.dims.h])
+}
+
+fn small_scan(scan: &Scan) -> (u8, bool) {
+    small(&[scan.w, scan.h, scan.line, scan.ofs, scan.len])
+}
+
+fn small_point(event: &Event) -> (u8, bool) {
+    use Event::{MouseClick, MouseDown, MouseMove, MouseUp};
+    match *event {
+        MouseMove(x, y, ..) | MouseDown(x, y, _) | MouseClick(x, y, ..) | MouseUp(x, y, _) => small(&[x, y]),
+        _ => small(&[]),
+    }
+}
+
+fn is_screen(w: u32, h: u32, length: Option<u32>) -> bool {
+    let side = 1..=32_767;
+    side.contains(&w) && side.contains(&h) && length.is_none_or(|length| length == w * h)
+}
+
+fn ends(rect: &Rect) -> (u8, bool) {
+    let sides = (rect.pos.x.checked_add(rect.dims.w), rect.pos.y.checked_add(rect.dims.h));
+    (14, matches!(sides, (Some(_), Some(_))))
+}
+
+/// Does the part, cut to the width, end in the pixels?
+fn reaches(scan: &Scan, pixels: &[u32]) -> bool {
+    let start = u64::from(scan.line) * u64::from(scan.w) + u64::from(scan.ofs);
+    start + u64::from(scan.len.min(scan.w.saturating_sub(scan.ofs))) <= pixels.len() as u64
+}
+
+fn is_region(area: &Rect, stride: u32, pixels: &[u32]) -> bool {
+    let wide = |number: u32| u64::from(number);
+    if area.dims.h == 0 || area.dims.w > stride {
+        return false;
+    }
+    let start = wide(area.pos.x) + wide(area.pos.y) * wide(stride);
+    start + wide(area.dims.h - 1) * wide(stride) + wide(area.dims.w) <= pixels.len() as u64
+}

@@ -1,0 +1,32 @@
+//! Writes a script and the original's answers to it, for the gate.
+use crate::lists::{append, Scene};
+use crate::random::Random;
+use crate::script::{text_of, Script};
+use crate::tally::Tally;
+use std::fs;
+use std::io;
+
+/// The script ends with the first list that reaches so many lines.
+const LINES: usize = 4000;
+
+/// Records the lines of the first file, and then random lists.
+pub fn write(first: &str, stdin: &str, stdout: &str) -> io::Result<()> {
+    let mut script = Script::new();
+    let mut tally = Tally::default();
+    for line in fs::read_to_string(first)?.lines() {
+        let played = script.play(line, &mut tally);
+        played.map_err(|entry| {
+            io::Error::other(format!("{first}: {line}: not in the common ground: {}", entry.text()))
+        })?;
+    }
+    let mut seed = 0;
+    while script.lines.len() < LINES {
+        seed += 1;
+        let mut random = Random::new(seed);
+        let kind = random.pick(&[Scene::small as fn(&mut Random) -> Scene, Scene::many]);
+        let scene = Scene { actions: 40, ..kind(&mut random) };
+        append(&mut random, &mut script, &mut tally, scene);
+    }
+    fs::write(stdin, text_of(&script.lines))?;
+    fs::write(stdout, &script.answers.0)
+}

@@ -1,0 +1,138 @@
+//! A small shadow of the session. It is asked for one thing: whether an accepted call falls under an entry of "Not common".
+use crate::area::Area;
+use crate::call::Call;
+use crate::damage::{Damage, Direction, Joined};
+use crate::entry::Entry;
+use crate::places::Places;
+
+/// What the shadow saw, for the table.
+#[derive(Clone, Copy, Default)]
+pub struct Seen {
+    pub contained: u64,
+    pub right: u64,
+    pub down: u64,
+    pub appended: u64,
+    pub changed: u64,
+    pub meeting: u64,
+}
+
+#[derive(Clone, Default)]
+pub struct Shadow {
+    pub places: Places,
+    damage: [Damage; 16],
+    marked: [bool; 16],
+    /// "A full redraw is owed"
+    pub owed: bool,
+    pub seen: Seen,
+}
+
+impl Shadow {
+    /// A fresh session.
+    pub fn fresh(seen: Seen) -> Shadow {
+        Shadow { owed: true, seen, ..Shadow::default() }
+    }
+
+    /// The entry that this accepted call falls under.
+    pub fn entry(&self, call: &Call) -> Option<Entry> {
+        match call {
+            Call::Fill(id, area, _) => {
+                let window = self.places.at[*id as usize];
+                let within = Area::new(0, 0, window.w(), window.h());
+                let cut = Area::of(area).common(&within)?;
+                self.damage_entry(*id, &cut)
+            }
+            Call::Blit(id, area, stride, _) => match Area::of(area) {
+                area if area.is_empty() => Some(Entry::BlitEmpty),
+                area if *stride > area.w() => Some(Entry::BlitStride),
+                area => self.damage_entry(*id, &area),
+            },
+            Call::Resize(id, w, h) => self.resize_entry(*id, *w, *h).or_else(|| self.list_entry(call)),
+            Call::Pieces(a, b) => (!Area::of(a).meets(&Area::of(b))).then_some(Entry::PiecesApart),
+            Call::Scanline(scan, pixels) | Call::FillScanline(scan, _, pixels) | Call::SetScanline(scan, _, pixels) => {
+                let size = scan.w as usize * scan.h as usize;
+                (size != pixels.len()).then_some(Entry::BarePixels)
+            }
+            _ => self.list_entry(call),
+        }
+    }
+
+    /// How many dirty entries the window has.
+    pub fn entries(&self, id: u32) -> usize {
+        self.damage[id as usize].count()
+    }
+
+    /// Follows an accepted call, which gave the id if it is a create.
+    pub fn follow(&mut self, call: &Call, id: usize) {
+        if let Some(places) = self.places.after(call) {
+            self.owed |= places.owes(&self.places, call);
+            self.places = places;
+            self.seen.changed += 1;
+            self.seen.meeting += u64::from(self.places.any_meet());
+        }
+        match call {
+            Call::Create => self.create(id),
+            Call::Mark(id) => self.marked[*id as usize] = true,
+            Call::Resize(id, w, h) => self.damage[*id as usize].set(Area::new(0, 0, *w, *h)),
+            Call::Fill(id, area, _) => self.fill(*id as usize, Area::of(area)),
+            Call::Blit(id, area, ..) => self.hurt(*id as usize, Area::of(area)),
+            Call::Redraw(told, ..) => self.redraw(*told),
+            _ => {}
+        }
+    }
+
+    fn create(&mut self, id: usize) {
+        self.places.create(id);
+        self.damage[id] = Damage::default();
+        self.marked[id] = false;
+    }
+
+    fn fill(&mut self, id: usize, area: Area) {
+        let window = self.places.at[id];
+        if let Some(cut) = area.common(&Area::new(0, 0, window.w(), window.h())) {
+            self.hurt(id, cut);
+        }
+    }
+
+    fn hurt(&mut self, id: usize, area: Area) {
+        match self.damage[id].add(area) {
+            Joined::Contained => self.seen.contained += 1,
+            Joined::Merged(_, Direction::Right) => self.seen.right += 1,
+            Joined::Merged(_, Direction::Down) => self.seen.down += 1,
+            Joined::Merged(..) => {}
+            Joined::Appended => self.seen.appended += 1,
+        }
+    }
+
+    fn redraw(&mut self, told: bool) {
+        for &id in &self.places.order {
+            if told || self.owed || self.marked[id] {
+                self.marked[id] = false;
+                self.damage[id] = Damage::default();
+            }
+        }
+        self.owed = false;
+    }
+
+    fn damage_entry(&self, id: u32, area: &Area) -> Option<Entry> {
+        let damage = &self.damage[id as usize];
+        match damage.join(area) {
+            Joined::Merged(_, Direction::Left) => Some(Entry::MergeLeft),
+            Joined::Merged(_, Direction::Up) => Some(Entry::MergeUp),
+            Joined::Appended if damage.is_full() => Some(Entry::SeventeenthEntry),
+            _ => None,
+        }
+    }
+
+    fn resize_entry(&self, id: u32, w: u32, h: u32) -> Option<Entry> {
+        let old = &self.places.at[id as usize];
+        if w > old.w() && old.h() >= 2 {
+            return Some(Entry::WidenRows);
+        }
+        (w < old.w() && h > old.h()).then_some(Entry::NarrowTaller)
+    }
+
+    fn list_entry(&self, call: &Call) -> Option<Entry> {
+        let places = self.places.after(call)?;
+        places.any_list_mixed().then_some(Entry::SomeEntriesMet)
+    }
+}

@@ -1,0 +1,85 @@
+//! What was compared, for the table at the end.
+use crate::entry::Entry;
+use crate::shadow::Seen;
+use std::collections::BTreeMap;
+
+#[derive(Default)]
+pub struct Tally {
+    words: BTreeMap<String, u64>,
+    answers: BTreeMap<String, u64>,
+    entries: BTreeMap<Entry, u64>,
+    /// Calls in the common ground: accepted, or refused by 10, 11 or 12, and so made on both.
+    pub calls: u64,
+    pub lists: u64,
+    seen: Seen,
+    longest: BTreeMap<&'static str, usize>,
+}
+
+/// Lines that make no call.
+const NO_CALL: [&str; 6] = ["lend", "lend-screen", "lend-list", "screen", "pixels", "picture"];
+
+impl Tally {
+    /// Counts a line and its answer.
+    pub fn count(&mut self, line: &str, answer: &[u8]) {
+        let answer = String::from_utf8_lossy(answer);
+        let answer = answer.split_whitespace().next().unwrap_or("");
+        let word = line.split_whitespace().next().unwrap_or("");
+        if matches!(answer, "?" | "!") {
+            return add(&mut self.answers, answer);
+        }
+        add(&mut self.words, word);
+        if NO_CALL.contains(&word) {
+            return;
+        }
+        add(&mut self.answers, answer);
+        self.calls += u64::from(matches!(answer, "0" | "10" | "11" | "12"));
+    }
+
+    /// Counts a list that a call under the entry ended.
+    pub fn ended_by(&mut self, entry: Entry) {
+        *self.entries.entry(entry).or_default() += 1;
+    }
+
+    /// The most rectangles in a visible list, the most windows shown, and the like.
+    pub fn at_most(&mut self, what: &'static str, count: usize) {
+        let most = self.longest.entry(what).or_default();
+        *most = count.max(*most);
+    }
+
+    pub fn saw(&mut self, seen: &Seen) {
+        self.seen.contained += seen.contained;
+        self.seen.right += seen.right;
+        self.seen.down += seen.down;
+        self.seen.appended += seen.appended;
+        self.seen.changed += seen.changed;
+        self.seen.meeting += seen.meeting;
+    }
+
+    pub fn print(&self) {
+        println!("lines, by word:");
+        self.words.iter().for_each(|(word, count)| println!("  {word:14} {count:9}"));
+        println!("answers of calls, and `?` and `!` lines:");
+        for answer in (0..=14).map(|answer| answer.to_string()).chain(["?".into(), "!".into()]) {
+            println!("  {answer:14} {:9}", self.answers.get(&answer).unwrap_or(&0));
+        }
+        println!("damage:");
+        let seen = &self.seen;
+        let damage = [("contained", seen.contained), ("merged right", seen.right), ("merged down", seen.down)];
+        damage.iter().for_each(|(how, count)| println!("  {how:14} {count:9}"));
+        println!("  {:14} {:9}", "appended", seen.appended);
+        println!("show, hide, drop, move, resize: {}, of these {} left windows that meet", seen.changed, seen.meeting);
+        self.longest.iter().for_each(|(what, most)| println!("{what}: at most {most}"));
+        println!("lists ended by a call outside the common ground:");
+        for entry in Entry::ALL {
+            println!("  {:44} {:9}", entry.text(), self.entries.get(&entry).unwrap_or(&0));
+        }
+        println!("{} lists", self.lists);
+    }
+}
+
+fn add(counts: &mut BTreeMap<String, u64>, key: &str) {
+    match counts.get_mut(key) {
+        Some(count) => *count += 1,
+        None => drop(counts.insert(key.to_string(), 1)),
+    }
+}
