@@ -1,0 +1,3 @@
+-- Lemmas over plain lists and numbers.
+pub mod Events
+pub mod Parts

@@ -1,0 +1,20 @@
+-- What create and pop promise of the numbers that they hand back: s is the session before the call, t the session after it.
+use Prim.Native.Nat.{ℕ}
+use mathlib.Core.Path.{_≡_}
+use Rattle.rules.specs.Group.{idOr}
+use Rattle.rules.specs.Calls.{Create, Pop, does}
+use Rattle.windows.specs.declared.Session.{Session}
+use Rattle.windows.specs.View.{group, done, Meets}
+use Rattle.station.specs.declared.values.RoqCreated.{RoqCreated}
+use Rattle.station.specs.declared.values.RoqPopped.{RoqPopped}
+use Rattle.station.specs.Events.{numbersOf}
+
+-- "an id … asked for is then absent": 65,535, which is no window's
+pub record Creates (s t : Session) (r : RoqCreated) : Type 0 where
+  pub meets : Meets Create s (done t (r .answer))
+  pub id : r .id .0 ≡ idOr 65535 (does (group s) Create .id)
+
+-- "an … event asked for is then absent": its kind is 0
+pub record Pops (id : ℕ) (s t : Session) (r : RoqPopped) : Type 0 where
+  pub meets : Meets (Pop id) s (done t (r .answer))
+  pub event : r .event ≡ numbersOf (does (group s) (Pop id) .event)

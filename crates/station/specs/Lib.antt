@@ -1,0 +1,5 @@
+-- What the exported calls promise, beside what the crates below them do.
+pub mod Answers
+pub mod Events
+pub mod Parts
+pub mod Rects

@@ -1,0 +1,202 @@
+// The calls of a session, which lies behind a pointer. Each copies it out, makes the call by value, and puts back the session that it gets.
+//
+// Before `roq_start` the memory holds zeros or a session; before any other call, a session that `roq_start` and later calls left.
+ghost use mathlib.Core.Path.{_≡_};
+ghost use Rattle.rules.specs.Calls.{Call};
+ghost use Rattle.windows.specs.View.{group, done, Given, Meets, MeetsStore, MeetsScreen, Starts, Lists, placed};
+ghost use Rattle.station.specs.Answers.{Creates, Pops};
+ghost use Rattle.station.specs.Events.{eventOf, Routes};
+use crate::events::RoqEvent;
+use crate::values;
+use crate::values::RoqCreated;
+use crate::values::RoqPopped;
+use geom::Rect;
+use windows::Listing;
+use windows::Placed;
+use windows::Session;
+use windows::WinId;
+
+#[no_mangle]
+pub extern "C" fn roq_start(s: &mut Session, c: u32) -> u32
+    ensures { λ r. ⌜ Starts c (done (now (s .exit)) r) ⌝ }
+{
+    let d = values::start(*s, c);
+    let t = d.session;
+    *s = t;
+    d.answer
+}
+
+#[no_mangle]
+pub extern "C" fn roq_create(s: &mut Session) -> RoqCreated
+    requires { ⌜ Given (now s) ⌝ }
+    ensures { λ r. ⌜ Creates (now (s .entry)) (now (s .exit)) r ⌝ }
+{
+    let d = values::create(*s);
+    let t = d.session;
+    *s = t;
+    d.created
+}
+
+#[no_mangle]
+pub extern "C" fn roq_show(s: &mut Session, id: WinId) -> u32
+    requires { ⌜ Given (now s) ⌝ }
+    ensures { λ r. ⌜ Meets (Call.Show (id .0)) (now (s .entry)) (done (now (s .exit)) r) ⌝ }
+{
+    let d = (*s).show(id);
+    let t = d.session;
+    *s = t;
+    d.answer
+}
+
+#[no_mangle]
+pub extern "C" fn roq_hide(s: &mut Session, id: WinId) -> u32
+    requires { ⌜ Given (now s) ⌝ }
+    ensures { λ r. ⌜ Meets (Call.Hide (id .0)) (now (s .entry)) (done (now (s .exit)) r) ⌝ }
+{
+    let d = (*s).hide(id);
+    let t = d.session;
+    *s = t;
+    d.answer
+}
+
+#[no_mangle]
+pub extern "C" fn roq_drop(s: &mut Session, id: WinId) -> u32
+    requires { ⌜ Given (now s) ⌝ }
+    ensures { λ r. ⌜ Meets (Call.Drop (id .0)) (now (s .entry)) (done (now (s .exit)) r) ⌝ }
+{
+    let d = (*s).drop(id);
+    let t = d.session;
+    *s = t;
+    d.answer
+}
+
+#[no_mangle]
+pub extern "C" fn roq_mark(s: &mut Session, id: WinId) -> u32
+    requires { ⌜ Given (now s) ⌝ }
+    ensures { λ r. ⌜ Meets (Call.Mark (id .0)) (now (s .entry)) (done (now (s .exit)) r) ⌝ }
+{
+    let d = (*s).mark(id);
+    let t = d.session;
+    *s = t;
+    d.answer
+}
+
+#[no_mangle]
+pub extern "C" fn roq_move(s: &mut Session, id: WinId, x: u32, y: u32) -> u32
+    requires { ⌜ Given (now s) ⌝ }
+    ensures { λ r. ⌜ Meets (Call.Move (id .0) x y) (now (s .entry)) (done (now (s .exit)) r) ⌝ }
+{
+    let d = values::move_window(*s, id, x, y);
+    let t = d.session;
+    *s = t;
+    d.answer
+}
+
+#[no_mangle]
+pub extern "C" fn roq_resize(s: &mut Session, id: WinId, w: u32, h: u32, store: &mut [u32]) -> u32
+    requires { ⌜ Given (now s) ⌝ }
+    ensures { λ r. ⌜ MeetsStore (Call.Resize (id .0) w h (now (store .entry))) (now (s .entry)) (done (now (s .exit)) r) (now (store .exit)) ⌝ }
+{
+    let d = values::resize(*s, id, w, h, store);
+    let t = d.session;
+    *s = t;
+    d.answer
+}
+
+#[no_mangle]
+pub extern "C" fn roq_fill(
+    s: &mut Session,
+    id: WinId,
+    area: Rect,
+    colour: u32,
+    store: &mut [u32],
+) -> u32
+    requires { ⌜ Given (now s) ⌝ }
+    ensures { λ r. ⌜ MeetsStore (Call.Fill (id .0) area colour (now (store .entry))) (now (s .entry)) (done (now (s .exit)) r) (now (store .exit)) ⌝ }
+{
+    let d = (*s).fill(id, area, colour, store);
+    let t = d.session;
+    *s = t;
+    d.answer
+}
+
+#[no_mangle]
+pub extern "C" fn roq_blit(
+    s: &mut Session,
+    id: WinId,
+    area: Rect,
+    stride: usize,
+    data: &[u32],
+    store: &mut [u32],
+) -> u32
+    requires { ⌜ Given (now s) ⌝ }
+    ensures { λ r. ⌜ MeetsStore (Call.Blit (id .0) area (now («data» .entry)) stride (now (store .entry))) (now (s .entry)) (done (now (s .exit)) r) (now (store .exit)) ⌝ }
+{
+    let d = values::blit(*s, id, area, stride, data, store);
+    let t = d.session;
+    *s = t;
+    d.answer
+}
+
+#[no_mangle]
+pub extern "C" fn roq_route(s: &mut Session, e: RoqEvent) -> u32
+    requires { ⌜ Given (now s) ⌝ }
+    ensures { λ r. ⌜ Routes (eventOf e) (now (s .entry)) (done (now (s .exit)) r) ⌝ }
+{
+    let d = values::route(*s, e);
+    let t = d.session;
+    *s = t;
+    d.answer
+}
+
+#[no_mangle]
+pub extern "C" fn roq_pop(s: &mut Session, id: WinId) -> RoqPopped
+    requires { ⌜ Given (now s) ⌝ }
+    ensures { λ r. ⌜ Pops (id .0) (now (s .entry)) (now (s .exit)) r ⌝ }
+{
+    let d = values::pop(*s, id);
+    let t = d.session;
+    *s = t;
+    d.popped
+}
+
+#[no_mangle]
+pub extern "C" fn roq_redraw(
+    s: &mut Session,
+    told: bool,
+    width: u32,
+    height: u32,
+    store: &[u32],
+    screen: &mut [u32],
+) -> u32
+    requires { ⌜ Given (now s) ⌝ }
+    ensures { λ r. ⌜ MeetsScreen (Call.Redraw told width height (now (store .entry)) (now (screen .entry))) (now (s .entry)) (done (now (s .exit)) r) (now (screen .exit)) ⌝ }
+{
+    let d = values::redraw(*s, told, width, height, store, screen);
+    let t = d.session;
+    *s = t;
+    d.answer
+}
+
+#[no_mangle]
+pub extern "C" fn roq_visible(s: &Session, id: WinId, list: &mut [u32]) -> Listing
+    requires { ⌜ Given (now s) ⌝ }
+    ensures { λ r. ⌜ Lists (group (now (s .entry))) (id .0) (now (list .entry)) r (now (list .exit)) ⌝ }
+{
+    (*s).visible(id, list)
+}
+
+#[no_mangle]
+pub extern "C" fn roq_focus(s: &Session) -> WinId
+    ensures { λ r. ⌜ r .0 ≡ group (now (s .entry)) .focus ⌝ }
+{
+    (*s).focus()
+}
+
+#[no_mangle]
+pub extern "C" fn roq_rect_of(s: &Session, id: WinId) -> Placed
+    requires { ⌜ Given (now s) ⌝ }
+    ensures { λ r. ⌜ r ≡ placed (group (now (s .entry))) (id .0) ⌝ }
+{
+    (*s).rect_of(id)
+}

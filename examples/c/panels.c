@@ -1,0 +1,118 @@
+/* The calls of panels.calls, made from C. Writes what the program `replay` writes for that script. */
+#include "roqshyn.h"
+
+#include <stdio.h>
+
+enum { C = 72, WIDTH = 12, HEIGHT = 6, STORE = 16 * C, SCREEN = WIDTH * HEIGHT };
+
+static RoqSession s;
+static uint32_t store[STORE];
+static uint32_t screen[SCREEN];
+
+/* The answer of a call that hands nothing else back. */
+static void say(uint32_t answer) {
+    printf("%u\n", (unsigned)answer);
+}
+
+static void say_numbers(uint32_t answer, const uint32_t *numbers, size_t count) {
+    printf("%u", (unsigned)answer);
+    for (size_t i = 0; i < count; i++)
+        printf(" %u", (unsigned)numbers[i]);
+    printf("\n");
+}
+
+static void create(void) {
+    RoqCreated made = roq_create(&s);
+    uint32_t id = made.id;
+    say_numbers(made.answer, &id, made.answer == 0);
+}
+
+static void fill(uint16_t id, uint32_t x, uint32_t y, uint32_t w, uint32_t h, uint32_t colour) {
+    RoqRect area = {{x, y}, {w, h}};
+    say(roq_fill(&s, id, area, colour, store, STORE));
+}
+
+static void visible(uint16_t id) {
+    uint32_t list[1984];
+    RoqListing seen = roq_visible(&s, id, list, 1984);
+    if (seen.answer != 0) {
+        say(seen.answer);
+        return;
+    }
+    printf("0 %zu", seen.count);
+    for (size_t i = 0; i < 4 * seen.count; i++)
+        printf(" %u", (unsigned)list[i]);
+    printf("\n");
+}
+
+static void press(uint32_t x, uint32_t y) {
+    RoqEvent e = {.kind = ROQ_MOUSE_DOWN, .x = x, .y = y, .button = 1};
+    say(roq_route(&s, e));
+}
+
+static void finger(uint32_t x, uint32_t y) {
+    RoqEvent e = {.kind = ROQ_MOUSE_MOVE, .x = x, .y = y};
+    say(roq_route(&s, e));
+}
+
+static void pop(uint16_t id) {
+    RoqPopped popped = roq_pop(&s, id);
+    RoqEvent e = popped.event;
+    printf("%u", (unsigned)popped.answer);
+    if (popped.answer == 0 && e.kind == ROQ_RESIZE)
+        printf(" Resize");
+    else if (popped.answer == 0 && e.kind == ROQ_MOUSE_DOWN)
+        printf(" MouseDown %u %u %u", (unsigned)e.x, (unsigned)e.y, (unsigned)e.button);
+    else if (popped.answer == 0 && e.kind == ROQ_MOUSE_MOVE)
+        printf(" MouseMove %u %u %d %d", (unsigned)e.x, (unsigned)e.y, e.dx, e.dy);
+    printf("\n");
+}
+
+/* Draws, and shows the screen. */
+static void redraw(void) {
+    say(roq_redraw(&s, false, WIDTH, HEIGHT, store, STORE, screen, SCREEN));
+    say_numbers(0, screen, SCREEN);
+}
+
+static void draw_panels(void) {
+    static const uint32_t track[WIDTH] = {2, 2, 2, 2, 2, 2, 2, 2, 2, 2, 2, 2};
+    RoqRect line = {{0, 3}, {WIDTH, 1}};
+    say(roq_start(&s, C));
+    create();
+    create();
+    say(roq_resize(&s, 0, 12, 6, store, STORE));
+    say(roq_resize(&s, 1, 6, 3, store, STORE));
+    fill(0, 0, 0, 12, 6, 1);
+    say(roq_blit(&s, 0, line, WIDTH, track, WIDTH, store, STORE));
+    fill(1, 0, 0, 6, 3, 3);
+    fill(1, 1, 1, 2, 1, 4);
+    say(roq_move(&s, 1, 4, 2));
+    say(roq_show(&s, 0));
+    say(roq_show(&s, 1));
+    redraw();
+    visible(0);
+}
+
+static void press_panels(void) {
+    press(5, 3);
+    press(1, 3);
+    press(12, 0);
+    finger(7, 4);
+    printf("0 %u\n", (unsigned)roq_focus(&s));
+    for (int i = 0; i < 4; i++)
+        pop(1);
+    for (int i = 0; i < 3; i++)
+        pop(0);
+}
+
+int main(void) {
+    draw_panels();
+    press_panels();
+    fill(1, 1, 1, 2, 1, 5);
+    say(roq_mark(&s, 1));
+    redraw();
+    say(roq_drop(&s, 1));
+    redraw();
+    pop(1);
+    return 0;
+}

@@ -1,0 +1,134 @@
+/* Whether the structs of roqshyn.h lie in memory as the library has them: sizes by the compiler, fields by calls that read and set
+ * them, and the session by what lies around it. */
+#include "roqshyn.h"
+
+#include <stdio.h>
+
+#define SIZE(type, bytes) _Static_assert(sizeof(type) == (bytes), #type)
+SIZE(RoqPos, 8);
+SIZE(RoqDims, 8);
+SIZE(RoqRect, 16);
+SIZE(RoqEvent, 20);
+SIZE(RoqSession, 5616);
+SIZE(RoqCreated, 8);
+SIZE(RoqPopped, 24);
+SIZE(RoqListing, 16);
+SIZE(RoqPlaced, 20);
+SIZE(RoqTested, 8);
+SIZE(RoqIntersection, 24);
+SIZE(RoqUnited, 20);
+SIZE(RoqPieces, 72);
+SIZE(RoqNotIntersect, 80);
+SIZE(RoqPart, 24);
+
+static int failed = 0;
+
+#define EXPECT(what)                                                 \
+    do {                                                             \
+        if (!(what)) {                                               \
+            printf("%s:%d: not so: %s\n", __FILE__, __LINE__, #what); \
+            failed = 1;                                              \
+        }                                                            \
+    } while (0)
+
+enum { C = 40000, LAST = 15 };
+static uint32_t store[16 * C];
+static uint32_t screen[64];
+
+/* The session, between words that no call may touch. */
+#define GUARD UINT64_C(0x5a5aa5a5c3c33c3c)
+static struct {
+    uint64_t before;
+    RoqSession session;
+    uint64_t after;
+} kept = {GUARD, {{0}}, GUARD};
+static RoqSession *const s = &kept.session;
+
+static bool is_rect(RoqRect r, uint32_t x, uint32_t y, uint32_t w, uint32_t h) {
+    return r.pos.x == x && r.pos.y == y && r.dims.w == w && r.dims.h == h;
+}
+
+static RoqRect rect(uint32_t x, uint32_t y, uint32_t w, uint32_t h) {
+    RoqRect r = {{x, y}, {w, h}};
+    return r;
+}
+
+/* A session as large as the library's: its last word holds C, the focus and the debt, and nothing is written beyond. */
+static void session(void) {
+    EXPECT(roq_start(s, C) == 0 && (uint32_t)s->words[701] == C);
+    for (int id = 0; id < 16; id++) {
+        RoqCreated made = roq_create(s);
+        EXPECT(made.answer == 0 && made.id == id);
+    }
+    RoqCreated none = roq_create(s);
+    EXPECT(none.answer == 4 && none.id == ROQ_NO_ID);
+    EXPECT(roq_resize(s, LAST, 200, 150, store, 16 * C) == 0 && roq_move(s, LAST, 3000, 4000) == 0);
+    EXPECT(roq_show(s, 7) == 0 && roq_show(s, LAST) == 0 && roq_focus(s) == LAST);
+    EXPECT((s->words[701] >> 32 & 0xffff) == LAST && (s->words[701] >> 48 & 0xff) == 1);
+    EXPECT(roq_mark(s, LAST) == 0 && roq_redraw(s, false, 8, 8, store, 16 * C, screen, 64) == 0);
+    EXPECT((s->words[701] >> 48 & 0xff) == 0);
+    EXPECT(roq_fill(s, LAST, rect(9, 5, 7, 3), 6, store, 16 * C) == 0);
+    EXPECT(store[LAST * C + 5 * 200 + 9] == 6 && store[LAST * C + 7 * 200 + 15] == 6 && store[LAST * C + 7 * 200 + 16] == 0);
+    uint32_t data[6] = {11, 12, 13, 21, 22, 23};
+    EXPECT(roq_blit(s, LAST, rect(20, 30, 2, 2), 3, data, 6, store, 16 * C) == 0);
+    EXPECT(store[LAST * C + 31 * 200 + 21] == 22 && store[LAST * C + 31 * 200 + 22] == 0);
+    RoqPlaced at = roq_rect_of(s, LAST);
+    EXPECT(at.answer == 0 && is_rect(at.rect, 3000, 4000, 200, 150));
+}
+
+static RoqEvent mouse(uint8_t kind, uint32_t x, uint32_t y, uint8_t button, uint8_t count) {
+    RoqEvent e = {x, y, 0, 0, 0, kind, button, count};
+    return e;
+}
+
+/* The fields of an event, there and back. */
+static void events(void) {
+    EXPECT(roq_pop(s, LAST).event.kind == ROQ_RESIZE);
+    RoqEvent key = {0, 0, 0x12345678, 0, 0, ROQ_TEXT, 0, 0};
+    EXPECT(roq_route(s, key) == 0);
+    EXPECT(roq_route(s, mouse(ROQ_MOUSE_CLICK, 3011, 4022, 33, 44)) == 0);
+    EXPECT(roq_route(s, mouse(ROQ_MOUSE_MOVE, 3055, 4066, 0, 0)) == 0);
+    RoqPopped text = roq_pop(s, LAST);
+    EXPECT(text.answer == 0 && text.event.kind == ROQ_TEXT && text.event.value == 0x12345678);
+    RoqEvent click = roq_pop(s, LAST).event;
+    EXPECT(click.kind == ROQ_MOUSE_CLICK && click.x == 11 && click.y == 22 && click.button == 33 && click.count == 44);
+    EXPECT(roq_pop(s, LAST).event.dx == 55);
+    EXPECT(roq_route(s, mouse(ROQ_MOUSE_MOVE, 3052, 4070, 0, 0)) == 0);
+    RoqEvent moved = roq_pop(s, LAST).event;
+    EXPECT(moved.kind == ROQ_MOUSE_MOVE && moved.x == 52 && moved.y == 70 && moved.dx == -3 && moved.dy == 4);
+    RoqPopped none = roq_pop(s, LAST);
+    EXPECT(none.answer == 10 && none.event.kind == ROQ_NO_EVENT);
+    EXPECT(roq_route(s, mouse(200, 3052, 4070, 0, 0)) == 11);
+}
+
+/* What the other calls hand back. */
+static void values(void) {
+    uint32_t list[8] = {9, 9, 9, 9, 9, 9, 9, 9};
+    RoqListing seen = roq_visible(s, LAST, list, 8);
+    EXPECT(seen.answer == 0 && seen.count == 1 && list[2] == 200 && list[3] == 150 && list[4] == 9);
+    RoqPos corner = {3, 2};
+    EXPECT(roq_contains(rect(1, 2, 3, 4), corner).yes && roq_within(rect(1, 2, 3, 4), 4, 6).yes);
+    EXPECT(roq_contains_rect(rect(1, 2, 3, 4), rect(2, 3, 1, 1)).yes);
+    EXPECT(roq_contains(rect(UINT32_MAX, 0, 1, 1), corner).answer == 14);
+    RoqIntersection common = roq_intersect(rect(0, 0, 10, 10), rect(4, 3, 9, 2));
+    EXPECT(common.answer == 0 && common.meets && is_rect(common.rect, 4, 3, 6, 2));
+    EXPECT(is_rect(roq_union(rect(1, 2, 3, 4), rect(5, 6, 7, 8)).rect, 1, 2, 11, 12));
+    RoqNotIntersect outside = roq_not_intersect(rect(0, 0, 10, 10), rect(4, 3, 4, 2));
+    EXPECT(outside.answer == 0 && outside.pieces.count == 4 && is_rect(outside.pieces.rects[3], 0, 5, 10, 5));
+    RoqPart line = roq_scanline(screen, 64, 8, 8, 3, 2, 100);
+    EXPECT(line.answer == 0 && line.start == 26 && line.count == 6);
+    RoqPart region = roq_region(screen, 64, 8, 1, 2, 3, 4);
+    EXPECT(region.answer == 0 && region.start == 17 && region.count == 27);
+    EXPECT(roq_fill_scanline(screen, 64, 8, 8, 1, 6, 9, 77) == 0 && screen[13] == 0 && screen[14] == 77 && screen[15] == 77);
+    EXPECT(roq_set_scanline(screen, 64, 8, 8, 2, 0, 8, list, 4) == 0 && screen[18] == 200 && screen[16] == 0);
+}
+
+int main(void) {
+    session();
+    events();
+    values();
+    EXPECT(kept.before == GUARD && kept.after == GUARD);
+    if (!failed)
+        printf("roqshyn.h agrees with the library\n");
+    return failed;
+}

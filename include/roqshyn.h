@@ -1,0 +1,235 @@
+/* The window group for programs in C and C++: link target/staticlib/libstation.a.
+ *
+ * Answers. Every call answers 0, or the number of the first question of document 01 that it answers with a no; then it has changed
+ * nothing. "Asks" below names the questions of a call, in their order:
+ *    1  the lent store has exactly 16 x C pixels       8  the screen's width and height are 1 to 32,767, its length their product
+ *    2  C is 1 to 1,048,576                            9  the lent list holds 4 numbers for each visible rectangle
+ *    3  the id is below 16 and in use                 10  there is an event to pop
+ *    4  an id is unused                               11  there is a window to take the event
+ *    5  coordinates and sizes are at most 32,767      12  its queue has a free place
+ *    6  w x h is at most C                            13  the part lies in the pixels
+ *    7  the stride is at least 1                      14  x + w and y + h are at most 4,294,967,295
+ *
+ * Sessions. A session is one that roq_start, also a refused one, and these calls made, in the caller's memory; to keep to that is all
+ * that a call asks of its caller. It may be copied and moved as a whole; nobody else writes it. One thread at a time uses it.
+ *
+ * Lent memory. A pointer and the number after it are an array of that many pixels or numbers. It is lent for the call alone: nothing
+ * of it is kept. It is aligned and not null, also where its length is 0. No two arrays of a call overlap, nor do they overlap the
+ * session, unless both are only read (const). A bool is 0 or 1.
+ *
+ * The store has 16 x C pixels. Window i has the C from i x C on, in rows of its own width. The screen has width x height pixels. */
+#ifndef ROQSHYN_H
+#define ROQSHYN_H
+
+#include <stdbool.h>
+#include <stddef.h>
+#include <stdint.h>
+
+#ifdef __cplusplus
+extern "C" {
+#endif
+
+typedef struct RoqPos {
+    uint32_t x, y;
+} RoqPos;
+
+typedef struct RoqDims {
+    uint32_t w, h;
+} RoqDims;
+
+typedef struct RoqRect {
+    RoqPos pos;
+    RoqDims dims;
+} RoqRect;
+
+/* The kinds of events. */
+enum {
+    ROQ_NO_EVENT = 0,
+    ROQ_RESIZE = 1,
+    ROQ_KEY_DOWN = 2,
+    ROQ_KEY_UP = 3,
+    ROQ_KEY_FIRE = 4,
+    ROQ_TEXT = 5,
+    ROQ_MOUSE_MOVE = 6,
+    ROQ_MOUSE_DOWN = 7,
+    ROQ_MOUSE_CLICK = 8,
+    ROQ_MOUSE_UP = 9
+};
+
+/* An event. Keys and Text carry `value`; pointer events a point, MouseDown and MouseUp a button too, MouseClick a button and a count,
+ * a MouseMove that was popped its difference from the last one. A field that the kind does not have is handed back as 0 and not read. */
+typedef struct RoqEvent {
+    uint32_t x, y, value;
+    int16_t dx, dy;
+    uint8_t kind, button, count;
+} RoqEvent;
+
+/* ---- A session ---- */
+
+/* 5,616 bytes. */
+typedef struct RoqSession {
+    uint64_t words[702];
+} RoqSession;
+
+/* Begins a session without windows, whose windows will have room for c pixels each. Asks 2; on a no the session has C = 1.
+ * Before the call the memory holds zeros (RoqSession s = {0};) or a session, which ends. */
+uint32_t roq_start(RoqSession *s, uint32_t c);
+
+/* The id that there is not. */
+#define ROQ_NO_ID 65535
+
+/* What a create gives: on a no the id is ROQ_NO_ID. */
+typedef struct RoqCreated {
+    uint32_t answer;
+    uint16_t id;
+} RoqCreated;
+
+/* A window with the smallest unused id, at (0,0), of size (0,0), hidden. Asks 4. */
+RoqCreated roq_create(RoqSession *s);
+
+/* Puts a window on top and gives it the focus; does nothing where it is shown. Asks 3. */
+uint32_t roq_show(RoqSession *s, uint16_t id);
+
+/* Takes a window off the screen; a focus goes to the next lower one. Does nothing where it is hidden. Asks 3. */
+uint32_t roq_hide(RoqSession *s, uint16_t id);
+
+/* Hides a window and frees its id; its pixels stay in the store. Asks 3. */
+uint32_t roq_drop(RoqSession *s, uint16_t id);
+
+/* Has the next redraw draw a window's damage, or all that is seen of it where it has none. Asks 3. */
+uint32_t roq_mark(RoqSession *s, uint16_t id);
+
+/* Places a window's top left corner. Asks 3, 5. */
+uint32_t roq_move(RoqSession *s, uint16_t id, uint32_t x, uint32_t y);
+
+/* Gives a window another size: the pixels of both sizes stay, all others of its C become 0. Queues a Resize for it, if there is room.
+ * Writes the store. Asks 1, 3, 5, 6. */
+uint32_t roq_resize(RoqSession *s, uint16_t id, uint32_t w, uint32_t h, uint32_t *store, size_t store_len);
+
+/* Fills the part of the area, relative to the window, that lies in it. Writes the store. Asks 1, 3, 5. */
+uint32_t roq_fill(RoqSession *s, uint16_t id, RoqRect area, uint32_t colour, uint32_t *store, size_t store_len);
+
+/* Rows of the area, relative to the window, take successive chunks of `stride` data, cut to the area's width; data may end early, and
+ * what lies outside the window is left out. Reads the data, writes the store. Asks 1, 3, 5, 7. */
+uint32_t roq_blit(RoqSession *s, uint16_t id, RoqRect area, size_t stride, const uint32_t *data, size_t data_len, uint32_t *store,
+                  size_t store_len);
+
+/* Hands an event on: keys and Text to the focus, if it is shown; pointer events to the topmost window at the point, relative to it;
+ * Resize to nobody, with answer 0. Differences (dx, dy) are not read. A kind that is none of ROQ_RESIZE to ROQ_MOUSE_UP is answered
+ * by 11. Keys ask 11, 12; a MouseMove 5, 11; other pointer events 5, 11, 12. */
+uint32_t roq_route(RoqSession *s, RoqEvent e);
+
+/* What a pop gives: on a no the event is all zeros. */
+typedef struct RoqPopped {
+    uint32_t answer;
+    RoqEvent event;
+} RoqPopped;
+
+/* The oldest event of a window's queue, or else its unread MouseMove. Asks 3, 10. */
+RoqPopped roq_pop(RoqSession *s, uint16_t id);
+
+/* Draws the shown windows on the screen, lowest first: everything where `told` or where a show, hide, move or resize came before,
+ * else the marked windows. Reads the store, writes the screen. Asks 1, 8. */
+uint32_t roq_redraw(RoqSession *s, bool told, uint32_t width, uint32_t height, const uint32_t *store, size_t store_len,
+                    uint32_t *screen, size_t screen_len);
+
+/* How many rectangles a list has: on a no none. */
+typedef struct RoqListing {
+    uint32_t answer;
+    size_t count;
+} RoqListing;
+
+/* The visible rectangles of a window, relative to it, as x, y, w, h each. Writes the front of the list; 1,984 numbers always suffice.
+ * A hidden window has none. Asks 3, 9. */
+RoqListing roq_visible(const RoqSession *s, uint16_t id, uint32_t *list, size_t list_len);
+
+/* The window that has the focus; 0 where none is shown. Asks nothing. */
+uint16_t roq_focus(const RoqSession *s);
+
+/* Where a window is: on a no (0,0,0,0). */
+typedef struct RoqPlaced {
+    uint32_t answer;
+    RoqRect rect;
+} RoqPlaced;
+
+/* A window's position and size. Asks 3. */
+RoqPlaced roq_rect_of(const RoqSession *s, uint16_t id);
+
+/* ---- Rectangles alone: these ask 14 ---- */
+
+/* On a no `yes` is false. */
+typedef struct RoqTested {
+    uint32_t answer;
+    bool yes;
+} RoqTested;
+
+/* Whether the point lies in r. */
+RoqTested roq_contains(RoqRect r, RoqPos pt);
+
+/* Whether b lies in a; of an empty b its corner has to. */
+RoqTested roq_contains_rect(RoqRect a, RoqRect b);
+
+/* Whether r lies in (0,0,w,h), its corner included. */
+RoqTested roq_within(RoqRect r, uint32_t w, uint32_t h);
+
+/* Where two rectangles do not meet, and on a no, `meets` is false and the rectangle (0,0,0,0). */
+typedef struct RoqIntersection {
+    uint32_t answer;
+    bool meets;
+    RoqRect rect;
+} RoqIntersection;
+
+/* What a and b have in common. */
+RoqIntersection roq_intersect(RoqRect a, RoqRect b);
+
+/* On a no the rectangle is (0,0,0,0). */
+typedef struct RoqUnited {
+    uint32_t answer;
+    RoqRect rect;
+} RoqUnited;
+
+/* The smallest rectangle that contains a and b. */
+RoqUnited roq_union(RoqRect a, RoqRect b);
+
+typedef struct RoqPieces {
+    size_t count;
+    RoqRect rects[4];
+} RoqPieces;
+
+/* On a no there are no pieces. Rectangles from `count` on are not defined. */
+typedef struct RoqNotIntersect {
+    uint32_t answer;
+    RoqPieces pieces;
+} RoqNotIntersect;
+
+/* The pieces of a outside b: above, left, right, below. Where they do not meet, a itself. */
+RoqNotIntersect roq_not_intersect(RoqRect a, RoqRect b);
+
+/* ---- Pixels alone: these ask 5, 13 ---- */
+
+/* A part of lent pixels: `count` of them from `start` on. On a no, and where it is empty, both are 0. */
+typedef struct RoqPart {
+    uint32_t answer;
+    size_t start, count;
+} RoqPart;
+
+/* `len` pixels of a line from `ofs` on, cut to the width, of a picture of width by height. */
+RoqPart roq_scanline(const uint32_t *pixels, size_t pixels_len, uint32_t width, uint32_t height, uint32_t line, uint32_t ofs,
+                     uint32_t len);
+
+/* Fills such a part; does nothing, with answer 0, where the line or the offset lies beside the picture. */
+uint32_t roq_fill_scanline(uint32_t *pixels, size_t pixels_len, uint32_t width, uint32_t height, uint32_t line, uint32_t ofs,
+                           uint32_t len, uint32_t value);
+
+/* Writes data to such a part, as far as both go; does nothing, with answer 0, where it lies beside the picture. */
+uint32_t roq_set_scanline(uint32_t *pixels, size_t pixels_len, uint32_t width, uint32_t height, uint32_t line, uint32_t ofs,
+                          uint32_t len, const uint32_t *data, size_t data_len);
+
+/* The rows of (x,y,w,h) in a picture whose rows begin `stride` apart, with what lies between them. */
+RoqPart roq_region(const uint32_t *pixels, size_t pixels_len, size_t stride, uint32_t x, uint32_t y, uint32_t w, uint32_t h);
+
+#ifdef __cplusplus
+}
+#endif
+
+#endif
