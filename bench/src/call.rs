@@ -1,0 +1,63 @@
+//! What both sides are told, and what they say.
+
+/// A rectangle: x, y, w, h.
+#[derive(Clone, Copy, Debug, PartialEq)]
+pub struct Area(pub u32, pub u32, pub u32, pub u32);
+
+#[derive(Clone, Debug)]
+pub enum Call {
+    Create,
+    Show(u16),
+    Hide(u16),
+    Drop(u16),
+    Mark(u16),
+    Move(u16, u32, u32),
+    Resize(u16, u32, u32),
+    Fill(u16, Area, u32),
+    /// The data have the area's width as their stride.
+    Blit(u16, Area, Vec<u32>),
+    Press(u32, u32),
+    Release(u32, u32),
+    /// A MouseMove.
+    Point(u32, u32),
+    Pop(u16),
+    Redraw(bool),
+    Visible(u16),
+}
+
+/// An event that was popped.
+#[derive(Clone, Copy, Debug, PartialEq)]
+pub enum Popped {
+    Resize,
+    Press(u32, u32),
+    Release(u32, u32),
+    Point(u32, u32, i16, i16),
+    /// The lists of this benchmark queue no other.
+    Other,
+}
+
+#[derive(Clone, Copy, Debug, PartialEq)]
+pub enum Reply {
+    Answer(u32),
+    Id(u32),
+    Event(Option<Popped>),
+    /// How many rectangles a visible list has.
+    Count(usize),
+}
+
+/// All that a side shows of itself.
+#[derive(PartialEq)]
+pub struct State {
+    pub focus: u16,
+    /// Of each window.
+    pub visible: Vec<Vec<Area>>,
+    pub pixels: Vec<Vec<u32>>,
+    pub screen: Vec<u32>,
+}
+
+/// One of the two implementations, with a session, pixels and a screen.
+pub trait Side {
+    fn call(&mut self, call: &Call) -> Reply;
+    fn is_screen(&self, like: &dyn Fn(&[u32]) -> bool) -> bool;
+    fn state(&mut self) -> State;
+}

@@ -1,0 +1,121 @@
+//! Our side: a station's session with the store and the screen that it is lent.
+use crate::call::{Area, Call, Popped, Reply, Side, State};
+use crate::plain::{Piece, Plain};
+use crate::station::{Event, Station, MOUSE_DOWN, MOUSE_MOVE, MOUSE_UP, RESIZE};
+
+pub struct Ours {
+    station: Station,
+    c: usize,
+    store: Vec<u32>,
+    screen: Vec<u32>,
+    list: Vec<u32>,
+    width: u32,
+    height: u32,
+}
+
+impl Ours {
+    pub fn new(c: u32, width: u32, height: u32) -> Ours {
+        let (answer, station) = Station::start(c);
+        assert_eq!(answer, 0, "start");
+        Ours {
+            station,
+            c: c as usize,
+            store: vec![0; 16 * c as usize],
+            screen: vec![0; (width * height) as usize],
+            list: vec![0; 4 * 496],
+            width,
+            height,
+        }
+    }
+
+    fn pixels(&self, id: u16) -> Vec<u32> {
+        let start = usize::from(id) * self.c;
+        match self.station.rect_of(id) {
+            Some([_, _, w, h]) => self.store[start..start + (w * h) as usize].to_vec(),
+            None => Vec::new(),
+        }
+    }
+
+    /// The visible rectangles of windows that were shown in the order of their ids, drawn by `memcpy`.
+    pub fn plain(&mut self) -> Plain {
+        let mut pieces = Vec::new();
+        for id in 0..16 {
+            let [x, y, w, _] = self.station.rect_of(id).unwrap_or_default();
+            for Area(left, top, width, height) in self.visible(id) {
+                let from = usize::from(id) * self.c + (top * w + left) as usize;
+                pieces.push(Piece { from, pitch: w as usize, to: Area(x + left, y + top, width, height) });
+            }
+        }
+        Plain::drawn(pieces, self.store.clone(), &self.screen, self.width)
+    }
+
+    fn visible(&mut self, id: u16) -> Vec<Area> {
+        let (_, count) = self.station.visible(id, &mut self.list);
+        self.list[..4 * count].chunks(4).map(|r| Area(r[0], r[1], r[2], r[3])).collect()
+    }
+}
+
+fn mouse(kind: u8, x: u32, y: u32) -> Event {
+    let button = u8::from(kind != MOUSE_MOVE);
+    Event { x, y, kind, button, ..Event::default() }
+}
+
+fn popped(answer: u32, e: Event) -> Option<Popped> {
+    if answer != 0 {
+        return None;
+    }
+    Some(match e.kind {
+        RESIZE => Popped::Resize,
+        MOUSE_DOWN => Popped::Press(e.x, e.y),
+        MOUSE_UP => Popped::Release(e.x, e.y),
+        MOUSE_MOVE => Popped::Point(e.x, e.y, e.dx, e.dy),
+        _ => Popped::Other,
+    })
+}
+
+fn numbers(a: Area) -> [u32; 4] {
+    [a.0, a.1, a.2, a.3]
+}
+
+impl Side for Ours {
+    fn call(&mut self, call: &Call) -> Reply {
+        let s = &mut self.station;
+        Reply::Answer(match *call {
+            Call::Create => {
+                let (answer, id) = s.create();
+                assert_eq!(answer, 0, "create");
+                return Reply::Id(u32::from(id));
+            }
+            Call::Pop(id) => {
+                let (answer, event) = s.pop(id);
+                return Reply::Event(popped(answer, event));
+            }
+            Call::Visible(id) => return Reply::Count(s.visible(id, &mut self.list).1),
+            Call::Show(id) => s.show(id),
+            Call::Hide(id) => s.hide(id),
+            Call::Drop(id) => s.drop(id),
+            Call::Mark(id) => s.mark(id),
+            Call::Move(id, x, y) => s.move_window(id, x, y),
+            Call::Resize(id, w, h) => s.resize(id, w, h, &mut self.store),
+            Call::Fill(id, area, colour) => s.fill(id, numbers(area), colour, &mut self.store),
+            Call::Blit(id, area, ref data) => s.blit(id, numbers(area), data, area.2 as usize, &mut self.store),
+            Call::Press(x, y) => s.route(mouse(MOUSE_DOWN, x, y)),
+            Call::Release(x, y) => s.route(mouse(MOUSE_UP, x, y)),
+            Call::Point(x, y) => s.route(mouse(MOUSE_MOVE, x, y)),
+            Call::Redraw(told) => s.redraw(told, &self.store, &mut self.screen, self.width, self.height),
+        })
+    }
+
+    fn is_screen(&self, like: &dyn Fn(&[u32]) -> bool) -> bool {
+        like(&self.screen)
+    }
+
+    fn state(&mut self) -> State {
+        State {
+            focus: self.station.focus(),
+            visible: (0..16).map(|id| self.visible(id)).collect(),
+            pixels: (0..16).map(|id| self.pixels(id)).collect(),
+            screen: self.screen.clone(),
+        }
+    }
+}

@@ -1,0 +1,95 @@
+//! Windows on a screen, and the calls that bring them there.
+//!
+//! The original loses parts of a window where a higher one meets some entries of its visible list and misses others. In the scenes
+//! without `free` in their name no window does, so both sides draw the same.
+use crate::call::{Area, Call};
+
+/// The screen of a station.
+pub const WIDTH: u32 = 800;
+pub const HEIGHT: u32 = 480;
+
+#[derive(Clone)]
+pub struct Scene {
+    pub width: u32,
+    pub height: u32,
+    /// The pixels of a window.
+    pub c: u32,
+    pub setup: Vec<Call>,
+    /// Whether the original draws the same.
+    pub common: bool,
+}
+
+/// Windows at these places, the first one lowest, painted in two colours each, drawn, and their events read.
+fn scene(width: u32, height: u32, places: &[Area]) -> Scene {
+    let mut setup = Vec::new();
+    for (id, &Area(x, y, w, h)) in (0u16..).zip(places) {
+        let colour = 0x0020_3040 + 0x000f_0b07 * u32::from(id);
+        setup.extend([Call::Create, Call::Resize(id, w, h), Call::Pop(id)]);
+        setup.push(Call::Fill(id, Area(0, 0, w, h), colour));
+        setup.push(Call::Fill(id, Area(w / 3, h / 4, w / 2, h / 2), !colour));
+        setup.extend([Call::Move(id, x, y), Call::Show(id)]);
+    }
+    setup.push(Call::Redraw(true));
+    let c = places.iter().map(|a| a.2 * a.3).max().unwrap_or(1);
+    Scene { width, height, c, setup, common: true }
+}
+
+/// How far a window of a cascade lies from the next lower one.
+pub const STEP: (u32, u32) = (25, 15);
+
+/// n windows, each reaching from its own corner to the right and bottom edge of the screen: every window is seen.
+pub fn cascade(n: u32) -> Scene {
+    let place = |k| Area(k * STEP.0, k * STEP.1, WIDTH - k * STEP.0, HEIGHT - k * STEP.1);
+    scene(WIDTH, HEIGHT, &(0..n).map(place).collect::<Vec<_>>())
+}
+
+/// The panel that is dragged.
+pub const DRAGGED: u16 = 6;
+const PANEL: (u32, u32) = (200, 150);
+
+/// A plan that fills the screen, five panels along its edges, and over them one that is dragged, at `start`.
+pub fn station(start: (u32, u32)) -> Scene {
+    let edges = [
+        Area(0, 0, 800, 480),
+        Area(0, 0, 800, 48),
+        Area(0, 432, 800, 48),
+        Area(0, 48, 100, 384),
+        Area(700, 48, 100, 384),
+        Area(100, 48, 600, 40),
+        Area(start.0, start.1, PANEL.0, PANEL.1),
+    ];
+    scene(WIDTH, HEIGHT, &edges)
+}
+
+/// A plan that fills the screen, and six panels anywhere over it, the highest one dragged.
+pub fn free_station(start: (u32, u32)) -> Scene {
+    let mut places = vec![Area(0, 0, WIDTH, HEIGHT)];
+    for (x, y) in [(60, 50), (180, 120), (420, 90), (520, 200), (250, 270), start] {
+        places.push(Area(x, y, PANEL.0, PANEL.1));
+    }
+    Scene { common: false, ..scene(WIDTH, HEIGHT, &places) }
+}
+
+/// A plan, and over it n - 1 bars from edge to edge that cross each other, every second one upright.
+pub fn free_crossing(n: u32) -> Scene {
+    let mut places = vec![Area(0, 0, WIDTH, HEIGHT)];
+    for k in 0..n - 1 {
+        let at = 20 + k / 2 * 50;
+        places.push(if k % 2 == 0 { Area(0, at, WIDTH, 20) } else { Area(at, 0, 20, HEIGHT) });
+    }
+    Scene { common: false, ..scene(WIDTH, HEIGHT, &places) }
+}
+
+/// Plans side by side, as wide as a station's screen or as the screen, whichever is less.
+pub fn plans(width: u32) -> Scene {
+    let one = width.min(WIDTH);
+    let place = |k| Area(k * one, 0, one, HEIGHT);
+    scene(width, HEIGHT, &(0..width / one).map(place).collect::<Vec<_>>())
+}
+
+/// Eight displays side by side as one screen, on each a plan with a panel.
+pub fn eight() -> Scene {
+    let plans = (0..8).map(|k| Area(k * WIDTH, 0, WIDTH, HEIGHT));
+    let panels = (0..8).map(|k| Area(k * WIDTH + 100, 100, 300, 200));
+    scene(8 * WIDTH, HEIGHT, &plans.chain(panels).collect::<Vec<_>>())
+}

@@ -1,0 +1,100 @@
+//! The original's side: its window group, with a lent screen as its only display.
+use crate::call::{Area, Call, Popped, Reply, Side, State};
+use original::input::Event;
+use original::metadevs::video::lent::{lend_screen, Pixels};
+use original::sync::mutex::Mutex;
+use original::windows::group::{Group, Routed};
+use original::Rect;
+use std::sync::Arc;
+
+pub struct Theirs {
+    group: Group,
+    screen: Pixels,
+    /// A full redraw is owed: the original leaves this note to its caller.
+    owed: bool,
+}
+
+impl Theirs {
+    /// There is one display at a time, so one of these at a time.
+    pub fn new(width: u32, height: u32) -> Theirs {
+        let screen = Arc::new(Mutex::new(vec![0; (width * height) as usize]));
+        lend_screen(&screen, width, height);
+        Theirs { group: Group::new(), screen, owed: true }
+    }
+
+    fn route(&mut self, event: Event) -> u32 {
+        match self.group.route(event) {
+            Routed::Taken => 0,
+            Routed::NoWindow => 11,
+            Routed::NoRoom => 12,
+        }
+    }
+
+    fn pixels(&self, id: u32) -> Vec<u32> {
+        if self.group.is_used(id) {
+            return self.group.pixels(id);
+        }
+        Vec::new()
+    }
+}
+
+fn rect(a: Area) -> Rect {
+    Rect::new(a.0, a.1, a.2, a.3)
+}
+
+fn area(r: &Rect) -> Area {
+    Area(r.x(), r.y(), r.w(), r.h())
+}
+
+fn popped(event: Event) -> Popped {
+    match event {
+        Event::Resize => Popped::Resize,
+        Event::MouseDown(x, y, _) => Popped::Press(x, y),
+        Event::MouseUp(x, y, _) => Popped::Release(x, y),
+        Event::MouseMove(x, y, dx, dy) => Popped::Point(x, y, dx, dy),
+        _ => Popped::Other,
+    }
+}
+
+impl Side for Theirs {
+    fn call(&mut self, call: &Call) -> Reply {
+        let g = &mut self.group;
+        match *call {
+            Call::Create => return Reply::Id(g.create() as u32),
+            Call::Pop(id) => return Reply::Event(g.pop(u32::from(id)).map(popped)),
+            Call::Visible(id) => return Reply::Count(g.visible(u32::from(id)).len()),
+            Call::Press(x, y) => return Reply::Answer(self.route(Event::MouseDown(x, y, 1))),
+            Call::Release(x, y) => return Reply::Answer(self.route(Event::MouseUp(x, y, 1))),
+            Call::Point(x, y) => return Reply::Answer(self.route(Event::MouseMove(x, y, 0, 0))),
+            Call::Show(id) => g.show(u32::from(id)),
+            Call::Hide(id) => g.hide(u32::from(id)),
+            Call::Drop(id) => g.drop(u32::from(id)),
+            Call::Mark(id) => g.mark(u32::from(id)),
+            Call::Move(id, x, y) => g.move_window(u32::from(id), x, y),
+            Call::Resize(id, w, h) => g.resize(u32::from(id), w, h),
+            Call::Fill(id, a, colour) => g.fill(u32::from(id), rect(a), colour),
+            Call::Blit(id, a, ref data) => g.blit(u32::from(id), rect(a), data, a.2 as usize),
+            Call::Redraw(told) => g.redraw(told || self.owed),
+        }
+        match call {
+            Call::Redraw(_) => self.owed = false,
+            // A drop is none of these: the lists drop hidden windows only.
+            Call::Show(_) | Call::Hide(_) | Call::Move(..) | Call::Resize(..) => self.owed = true,
+            _ => {}
+        }
+        Reply::Answer(0)
+    }
+
+    fn is_screen(&self, like: &dyn Fn(&[u32]) -> bool) -> bool {
+        like(&self.screen.lock())
+    }
+
+    fn state(&mut self) -> State {
+        State {
+            focus: self.group.focus(),
+            visible: (0..16).map(|id| self.group.visible(id).iter().map(area).collect()).collect(),
+            pixels: (0..16).map(|id| self.pixels(id)).collect(),
+            screen: self.screen.lock().clone(),
+        }
+    }
+}
