@@ -6,16 +6,19 @@ use mathlib.Core.Bool.{cond}
 use mathlib.Core.List.{List, _++_}
 use lib.ListN.{take, drop}
 use Rattle.script.specs.declared.shape.Line.{Line}
-use Rattle.rules.specs.Group.{start, sessionC}
+use Rattle.script.specs.Script.{hears, heardOf}
+use Rattle.rules.specs.Group.{Group, start, sessionC}
+use Rattle.rules.specs.Visible.{visibleList}
 use Rattle.rules.specs.Calls as Call
 use Rattle.rules.specs.Calls.{Call, does}
 use Rattle.windows.specs.declared.Session.{Session}
 use Rattle.windows.specs.declared.Done.{Done}
+use Rattle.windows.specs.declared.Listing.{Listing}
 use Rattle.windows.specs.View.{group, Meets}
 use Rattle.replay.specs.declared.player.Player.{Player}
 use Rattle.replay.specs.Numbers.{num, idOf}
 use Rattle.replay.specs.Called.{plainCall, storeCall, redrawOf}
-use Rattle.replay.specs.Ready.{Next, lendStore, lendScreen, unset, lendList}
+use Rattle.replay.specs.Ready.{Next, lendStore, lendScreen, unset, lendList, counted}
 
 -- "The program owns one store, one screen"
 pub record Pixels : Type 0 where
@@ -49,6 +52,13 @@ pub record MeetsPart (k : Call) (n : ℕ) (store : List ℕ) (s : Session) (r : 
 pub record DrawsPart (k : Call) (n : ℕ) (screen : List ℕ) (s : Session) (r : Done) (after : List ℕ) : Type 0 where
   pub meets : Meets k s r
   pub shown : after ≡ does (group s) k .screen ++ drop n screen
+
+-- the visible list of a window, lent the first n numbers of the list
+pub record ListsPart (g : Group) (id n : ℕ) (list : List ℕ) (r : Listing) (after : List ℕ) : Type 0 where
+  pub answer : r .answer ≡ visibleList g id (take n list) .answer
+  pub count : r .count ≡ visibleList g id (take n list) .count
+  pub listed : after ≡ visibleList g id (take n list) .list ++ drop n list
+  pub room : 4 * r .count ≤ n
 
 -- `resize`, `fill` and `blit` are lent the store as `lend` says
 pub record Stores (l : Line) (ns : List ℕ) (p : Player) (store : List ℕ) (r : Player) (after : List ℕ) : Type 0 where
@@ -115,3 +125,11 @@ pub data Plays (l : Line) (ns : List ℕ) (p : Player) (a : Pixels) (r : Player)
 -- a line of the kind k that is lent no pixels
 abbrev pub PlaysAt : ℕ → List ℕ → Player → Player → Type 0
 PlaysAt k ns p r = (l : Line) (a : Pixels) → l .kind ≡ k → Plays l ns p a r a
+
+-- the bytes bs of a line were played: the line that they mean, counted
+pub record Hears (bs : List ℕ) (p : Player) (a : Pixels) (r : Player) (b : Pixels) : Type 0 where
+  pub line : Line
+  pub numbers : List ℕ
+  pub name : List ℕ
+  pub heard : hears bs ≡ heardOf line numbers name
+  pub plays : Plays line numbers (counted p) a r b

@@ -1,7 +1,8 @@
 -- What holds of a player between two lines, and how a line leaves it.
-use Prim.Native.Nat.{ℕ, _≤_}
+use Prim.Native.Nat.{ℕ, _+_, _≤_}
 use mathlib.Core.Path.{_≡_}
-use mathlib.Core.Bool.{Bool, true, false}
+use mathlib.Core.Bool.{true, false, cond}
+use lib.Dec.{ltb}
 use Rattle.windows.specs.declared.Session.{Session}
 use Rattle.windows.specs.View.{Given}
 use Rattle.replay.specs.declared.player.Player.{Player}
@@ -40,3 +41,16 @@ unset p = record { session = p .session; lent = p .lent; «is_set» = false; scr
 -- the next visible list is lent n numbers
 abbrev pub lendList : ℕ → Player → Player
 lendList n p = record { session = p .session; lent = p .lent; «is_set» = p .«is_set»; screen = p .screen; list = n; at = p .at; lines = p .lines }
+
+-- "N being the line's number counted from 1, all lines counted", as far as 64 bits go
+abbrev pub counted : Player → Player
+counted p =
+    record {
+      session = p .session;
+      lent = p .lent;
+      «is_set» = p .«is_set»;
+      screen = p .screen;
+      list = p .list;
+      at = p .at;
+      lines = cond (ltb (p .lines) 18446744073709551615) (p .lines + 1) (p .lines);
+    }

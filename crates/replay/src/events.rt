@@ -67,17 +67,26 @@ fn put_press(name: &[u8], x: u32, y: u32, b: u8, out: &mut [u8; 65536], at: usiz
     text::more(out, to, b as u32)
 }
 
+// The name of an event that has no point, and its value.
+fn put_plain(e: Event, out: &mut [u8; 65536], at: usize) -> usize
+    requires { ⌜ at ≤ 65536 ⌝ }
+    ensures { λ r. ⌜ r ≤ 65536 ⌝ }
+{
+    match e {
+        Event::KeyDown(v) => put_key(b"KeyDown", v, out, at),
+        Event::KeyUp(v) => put_key(b"KeyUp", v, out, at),
+        Event::KeyFire(v) => put_key(b"KeyFire", v, out, at),
+        Event::Text(v) => put_key(b"Text", v, out, at),
+        _ => text::word(out, at, b"Resize"),
+    }
+}
+
 // The name of an event and its values.
 pub fn put(e: Event, out: &mut [u8; 65536], at: usize) -> usize
     requires { ⌜ at ≤ 65536 ⌝ }
     ensures { λ r. ⌜ r ≤ 65536 ⌝ }
 {
     match e {
-        Event::Resize => text::word(out, at, b"Resize"),
-        Event::KeyDown(v) => put_key(b"KeyDown", v, out, at),
-        Event::KeyUp(v) => put_key(b"KeyUp", v, out, at),
-        Event::KeyFire(v) => put_key(b"KeyFire", v, out, at),
-        Event::Text(v) => put_key(b"Text", v, out, at),
         Event::MouseMove { x, y, dx, dy } => {
             let to = put_point(b"MouseMove", x, y, out, at);
             let then = text::signed(out, to, dx);
@@ -94,5 +103,6 @@ pub fn put(e: Event, out: &mut [u8; 65536], at: usize) -> usize
             text::more(out, to, count as u32)
         }
         Event::MouseUp { x, y, button } => put_press(b"MouseUp", x, y, button, out, at),
+        _ => put_plain(e, out, at),
     }
 }

@@ -1,7 +1,11 @@
 // The script, read in blocks from standard input.
-ghost use Prim.Native.Nat.{_≤_, _<_};
+ghost use mathlib.Core.Path.{_≡_};
+ghost use mathlib.Core.List.{List};
+ghost use Prim.Native.Nat.{ℕ, _≤_, _<_};
+ghost use Rattle.script.specs.Machine.{Reads};
 ghost use lib.ListN.{length};
 ghost use Rattle.replay.specs.Ready.{Ready};
+ghost use Rattle.replay.specs.Played.{pixels, Hears};
 use crate::player::Player;
 use libc::STDIN_FILENO;
 use script::Reading;
@@ -66,6 +70,8 @@ fn ended(
 ) -> Player
     requires { ⌜ Ready player ⌝ }
     ensures { λ r. ⌜ Ready r ⌝ }
+    ensures { λ r. ⌜ ((bs : List ℕ) → length (now (name .entry)) ≡ 64 → Reads bs reading (now (word .entry)) (now (ns .entry)) (now (name .entry))
+        → Hears bs player (pixels (now (store .entry)) (now (screen .entry))) r (pixels (now (store .exit)) (now (screen .exit)))) ⌝ }
 {
     let line = script::line(reading, word, ns);
     let p = player.counted();

@@ -4,12 +4,12 @@ ghost use mathlib.Core.Bool.{cond};
 ghost use Prim.Native.Nat.{_-_, _*_, _≤_};
 ghost use lib.ListN.{length, take, drop};
 ghost use Rattle.rules.specs.Calls.{Call};
-ghost use Rattle.windows.specs.View.{Given, MeetsStore};
+ghost use Rattle.windows.specs.View.{group, Given, MeetsStore};
 ghost use Rattle.replay.specs.Called.{storeCall, redrawOf};
 ghost use Rattle.replay.specs.Numbers.{num, idOf, rectAt, Sound};
 ghost use Rattle.script.specs.declared.shape.Line.{Line};
 ghost use Rattle.replay.specs.Ready.{Ready, Next, lendList};
-ghost use Rattle.replay.specs.Played.{pixels, MeetsPart, DrawsPart, Stores, Draws, Plays, PlaysAt};
+ghost use Rattle.replay.specs.Played.{pixels, MeetsPart, DrawsPart, ListsPart, Stores, Draws, Plays, PlaysAt};
 use crate::numbers;
 use crate::player::Player;
 use crate::text;
@@ -132,7 +132,7 @@ pub fn redraw(
 
 fn listed(s: Session, ns: &[u32; 4102], list: &mut [u32], len: usize) -> Listing
     requires { ⌜ Given s × (len ≤ length (now list)) ⌝ }
-    ensures { λ r. ⌜ 4 * r .count ≤ len ⌝ }
+    ensures { λ r. ⌜ ListsPart (group s) (idOf (now (ns .entry))) len (now (list .entry)) r (now (list .exit)) ⌝ }
 {
     s.visible(numbers::id(ns), &mut list[0..len])
 }

@@ -1,6 +1,6 @@
 // Plays call scripts: reads calls from standard input, one on a line, makes each on the library, and writes one line for each.
 //
-// docs/CALL-SCRIPT.md says what a line means. The store, the screen and the visible list are the program's own: it lends them.
+// CALL-SCRIPT.md says what a line means. The store, the screen and the visible list are the program's own: it lends them.
 mod calls;
 mod events;
 mod geometry;

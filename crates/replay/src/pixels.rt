@@ -34,13 +34,35 @@ fn put(answer: u32, part: &[u32], out: &mut [u8; 65536], at: usize) -> usize
     text::answer(out, at, answer)
 }
 
+// The picture and the part of its scanline that a line names.
+struct Scan {
+    w: u32,
+    h: u32,
+    line: u32,
+    ofs: u32,
+    len: u32,
+}
+
+fn scan_of(ns: &[u32]) -> Scan
+    requires { ⌜ 5 ≤ length (now ns) ⌝ }
+{
+    Scan {
+        w: ns[0],
+        h: ns[1],
+        line: ns[2],
+        ofs: ns[3],
+        len: ns[4],
+    }
+}
+
 fn scanline(ns: &[u32], count: usize, out: &mut [u8; 65536], at: usize) -> usize
     requires { ⌜ (5 ≤ count) × (count ≤ length (now ns)) × (at ≤ 65536) ⌝ }
     ensures { λ r. ⌜ r ≤ 65536 ⌝ }
 {
     let mut answer: u32 = 0;
     let pixels = &ns[5..count];
-    let part = winbuf::scanline_rgn(pixels, ns[0], ns[1], ns[2], ns[3], ns[4], &mut answer);
+    let s = scan_of(ns);
+    let part = winbuf::scanline_rgn(pixels, s.w, s.h, s.line, s.ofs, s.len, &mut answer);
     put(answer, part, out, at)
 }
 
@@ -59,13 +81,9 @@ fn fill_scanline(ns: &mut [u32], count: usize, out: &mut [u8; 65536], at: usize)
     requires { ⌜ (6 ≤ count) × (count ≤ length (now ns)) × (at ≤ 65536) ⌝ }
     ensures { λ r. ⌜ r ≤ 65536 ⌝ }
 {
-    let w = ns[0];
-    let h = ns[1];
-    let line = ns[2];
-    let ofs = ns[3];
-    let len = ns[4];
+    let s = scan_of(ns);
     let value = ns[5];
-    let answer = winbuf::fill_scanline(&mut ns[6..count], w, h, line, ofs, len, value);
+    let answer = winbuf::fill_scanline(&mut ns[6..count], s.w, s.h, s.line, s.ofs, s.len, value);
     put(answer, &ns[6..count], out, at)
 }
 
@@ -82,33 +100,20 @@ fn copied(ns: &[u32], n: usize) -> [u32; 4096]
     data
 }
 
-fn set(
-    pixels: &mut [u32],
-    w: u32,
-    h: u32,
-    line: u32,
-    ofs: u32,
-    len: u32,
-    data: &[u32],
-    n: usize,
-) -> u32
+fn set(pixels: &mut [u32], s: Scan, data: &[u32], n: usize) -> u32
     requires { ⌜ n ≤ length (now «data») ⌝ }
 {
-    winbuf::set_scanline(pixels, w, h, line, ofs, len, &data[0..n])
+    winbuf::set_scanline(pixels, s.w, s.h, s.line, s.ofs, s.len, &data[0..n])
 }
 
 fn set_scanline(ns: &mut [u32], count: usize, out: &mut [u8; 65536], at: usize) -> usize
     requires { ⌜ (6 + num (now ns) 5 ≤ count) × (count ≤ 4102) × (count ≤ length (now ns)) × (at ≤ 65536) ⌝ }
     ensures { λ r. ⌜ r ≤ 65536 ⌝ }
 {
-    let w = ns[0];
-    let h = ns[1];
-    let line = ns[2];
-    let ofs = ns[3];
-    let len = ns[4];
+    let s = scan_of(ns);
     let n = numbers::wide(ns[5]);
     let data = copied(ns, n);
     let from = 6 + n;
-    let answer = set(&mut ns[from..count], w, h, line, ofs, len, &data, n);
+    let answer = set(&mut ns[from..count], s, &data, n);
     put(answer, &ns[from..count], out, at)
 }

@@ -1,7 +1,8 @@
 // What is played: the session, what is lent to its calls, and how far the script and its answers have come.
+ghost use mathlib.Core.Path.{_≡_};
 ghost use Rattle.windows.specs.View.{Given};
 ghost use Rattle.replay.specs.Numbers.{Sound};
-ghost use Rattle.replay.specs.Ready.{Ready, Next};
+ghost use Rattle.replay.specs.Ready.{Ready, Next, counted};
 ghost use Rattle.replay.specs.Played.{Pixels, pixels, Other, Plays};
 use crate::calls;
 use crate::geometry;
@@ -47,10 +48,12 @@ impl Player {
     // One more line has been read.
     pub fn counted(mut self) -> Player
         requires { ⌜ Ready self ⌝ }
-        ensures { λ r. ⌜ Ready r ⌝ }
+        ensures { λ r. ⌜ Ready r × (r ≡ counted self) ⌝ }
     {
-        if self.lines < 18446744073709551615 {
-            self.lines += 1;
+        let n = self.lines;
+        if n < 18446744073709551615 {
+            self.lines = n + 1;
+            return self;
         }
         self
     }

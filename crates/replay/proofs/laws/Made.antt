@@ -1,18 +1,22 @@
 -- What a call's own contract says of the session is what the line promises of the player.
-use Prim.Native.Nat.{ℕ, _*_}
+use Prim.Native.Nat.{ℕ, _*_, _≤_}
 use mathlib.Core.Path.{_≡_, refl, sym, ap, subst, _∙_}
 use mathlib.Core.List.{List, _++_}
-use lib.ListN.{take, drop}
+use native.Mathlib.Omega.{arith}
+use lib.ListN.{length, take, drop}
+use lib.Seq.{length-take-le}
 use Rattle.script.specs.declared.shape.Line.{Line}
 use Rattle.rules.specs.Group.{Group, sessionC}
+use Rattle.rules.specs.Visible.{visibleList}
 use Rattle.rules.specs.Calls.{Call}
 use Rattle.windows.specs.declared.Session.{Session}
 use Rattle.windows.specs.declared.Done.{Done}
-use Rattle.windows.specs.View.{group, Meets, MeetsStore, MeetsScreen, Starts}
+use Rattle.windows.specs.declared.Listing.{Listing}
+use Rattle.windows.specs.View.{group, Meets, MeetsStore, MeetsScreen, Starts, Lists}
 use Rattle.replay.specs.declared.player.Player.{Player}
-use Rattle.replay.specs.Called.{redrawOf}
 use Rattle.replay.specs.Ready.{Ready, Next, lendStore}
-use Rattle.replay.specs.Played.{Pixels, Makes, Begins, MeetsPart, DrawsPart, Plays}
+use Rattle.replay.specs.Played.{Pixels, Makes, Begins, MeetsPart, DrawsPart, ListsPart, Plays}
+use Rattle.replay.proofs.laws.Sizes.{counted}
 use Rattle.replay.specs.Played.{unread, beyond, starts, creates, plain, stores, pops, redraws, lists, asks-focus, lends, lends-screen, lends-list, shows}
 
 -- the session that r has is the next
@@ -48,6 +52,18 @@ pub screen-part : (k : List ℕ → Call) (n m : ℕ) (screen last : List ℕ) (
 screen-part k n m screen last s r e =
     subst (λ (m : ℕ). MeetsScreen (k (take m (drop 0 screen))) s r last → DrawsPart (k (take n screen)) n screen s r (take 0 screen ++ (last ++ drop m (drop 0 screen)))) e
     (λ h. record { meets = h .meets; shown = ap (λ (l : List ℕ). l ++ drop n screen) (h .shown) })
+
+pub list-part : (g : Group) (id j n m : ℕ) (list last : List ℕ) (r : Listing) → j ≡ id → n ≡ m → n ≤ length list
+    → Lists g j (take m (drop 0 list)) r last → ListsPart g id n list r (take 0 list ++ (last ++ drop m (drop 0 list)))
+list-part g id j n m list last r i e l h =
+    subst (λ (m : ℕ). Lists g j (take m (drop 0 list)) r last → ListsPart g id n list r (take 0 list ++ (last ++ drop m (drop 0 list)))) e
+    (subst (λ (k : ℕ). Lists g j (take n list) r last → ListsPart g k n list r (last ++ drop n list)) i
+    (λ q. record {
+      answer = q .answer;
+      count = q .count;
+      listed = ap (λ (t : List ℕ). t ++ drop n list) (q .list);
+      room = omega (arith, counted g j (take n list), length-take-le n list l, q .count);
+    })) h
 
 -- A line --------------------------------------------------------------------------------------------------------------
 

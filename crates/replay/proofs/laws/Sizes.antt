@@ -7,11 +7,10 @@ use native.Mathlib.Nat.{mul-le-mul-right}
 use native.Mathlib.Omega.{arith}
 use lib.Dec.{leb, eqb}
 use lib.ListN.{length}
-use Rattle.geom.specs.declared.Rect.{Rect}
 use Rattle.geom.specs.Questions.{_is_, asked}
 use Rattle.geom.specs.Geom.{rect}
 use Rattle.geom.proofs.basics.Questions.{asked₂}
-use Rattle.geom.proofs.basics.Tests.{fst, snd, on-cond, on-test, says-le}
+use Rattle.geom.proofs.basics.Tests.{snd, on-cond, on-test, says-le}
 use Rattle.rules.specs.Group.{Group, used, win, allowedC, sessionC}
 use Rattle.rules.specs.Visible.{visible, visibleList}
 use Rattle.rules.proofs.group.Invariant.{used-small}

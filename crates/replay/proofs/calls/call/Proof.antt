@@ -50,9 +50,11 @@ returns-4 : tie.Need-returns-4
 returns-4 c = λ a. asks-focus (c .before .before .match .keys4) (c .focus .ensures) refl
 
 returns-5 : tie.Need-returns-5
-returns-5 c = λ a.
+returns-5 c =
+    let args = c .before .before .before .before .before .args in
+    λ a.
     plain (known (c .before))
-    (makes (plainCall (c .before .before .before .before .before .args .line .kind) (c .before .before .before .before .before .args .ns .now)) (c .before .before .before .before .before .args .p) (c .answered .result) (c .before .before .plain .result) (c .before .before .plain .ensures) (c .answered .ensures)) refl
+    (makes (plainCall (args .line .kind) (args .ns .now)) (args .p) (c .answered .result) (c .before .before .plain .result) (c .before .before .plain .ensures) (c .answered .ensures)) refl
 
 pub call-spec : {M : Type 1} → statement M
 call-spec =

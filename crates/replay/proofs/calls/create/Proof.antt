@@ -26,22 +26,26 @@ end-requires c κs = search needs
 -- the player that is handed back
 abbrev next : tie.After-end → Player
 next c =
+    let args = c .before .before .before .before .before .before .before .before .before .before .args in
     record {
       session = c .before .before .before .before .before .before .before .before .create .result .session;
-      lent = c .before .before .before .before .before .before .before .before .before .before .args .p .lent;
-      «is_set» = c .before .before .before .before .before .before .before .before .before .before .args .p .«is_set»;
-      screen = c .before .before .before .before .before .before .before .before .before .before .args .p .screen;
-      list = c .before .before .before .before .before .before .before .before .before .before .args .p .list;
+      lent = args .p .lent;
+      «is_set» = args .p .«is_set»;
+      screen = args .p .screen;
+      list = args .p .list;
       at = c .end .result;
-      lines = c .before .before .before .before .before .before .before .before .before .before .args .p .lines;
+      lines = args .p .lines;
     }
 
 returns : tie.Need-returns
 returns c =
     let r = c .before .before .before .before .before .before .before .before .before .before .pre in
-    makes Create (c .before .before .before .before .before .before .before .before .before .before .args .p) (next c) (done (c .before .before .before .before .before .before .before .before .create .result .session) (c .before .before .before .before .before .before .before .before .create .result .answer)) (c .before .before .before .before .before .before .before .before .create .ensures .meets)
+    let a = c .before .before .before .before .before .before .before .before .before .before .args in
+    let made = c .before .before .before .before .before .before .before .before .create in
+    let d = done (made .result .session) (made .result .answer) in
+    makes Create (a .p) (next c) d (made .ensures .meets)
     (record {
-      ready = record { given = c .before .before .before .before .before .before .before .before .create .ensures .meets .given; lent = r .lent; screen = r .screen; list = r .list; at = c .end .ensures };
+      ready = record { given = made .ensures .meets .given; lent = r .lent; screen = r .screen; list = r .list; at = c .end .ensures };
       session = refl;
       lent = refl;
       set = refl;

@@ -40,37 +40,43 @@ route-requires c κs = search needs
 
 returns : tie.Need-returns
 returns c =
-    plain-at (c .before .before .before .args .line .kind) (c .before .before .before .args .ns .now) (c .before .before .before .args .s) (c .show .result) 4 (c .before .match .keys1)
-    (subst (λ (n : ℕ). Meets (Call.Show n) (c .before .before .before .args .s) (c .show .result)) (c .before .before .id .ensures) (c .show .ensures))
+    let args = c .before .before .before .args in
+    plain-at (args .line .kind) (args .ns .now) (args .s) (c .show .result) 4 (c .before .match .keys1)
+    (subst (λ (n : ℕ). Meets (Call.Show n) (args .s) (c .show .result)) (c .before .before .id .ensures) (c .show .ensures))
 
 returns-2 : tie.Need-returns-2
 returns-2 c =
-    plain-at (c .before .before .before .args .line .kind) (c .before .before .before .args .ns .now) (c .before .before .before .args .s) (c .hide .result) 5 (c .before .match .keys2)
-    (subst (λ (n : ℕ). Meets (Call.Hide n) (c .before .before .before .args .s) (c .hide .result)) (c .before .before .id .ensures) (c .hide .ensures))
+    let args = c .before .before .before .args in
+    plain-at (args .line .kind) (args .ns .now) (args .s) (c .hide .result) 5 (c .before .match .keys2)
+    (subst (λ (n : ℕ). Meets (Call.Hide n) (args .s) (c .hide .result)) (c .before .before .id .ensures) (c .hide .ensures))
 
 returns-3 : tie.Need-returns-3
 returns-3 c =
-    plain-at (c .before .before .before .args .line .kind) (c .before .before .before .args .ns .now) (c .before .before .before .args .s) (c .drop .result) 6 (c .before .match .keys3)
-    (subst (λ (n : ℕ). Meets (Call.Drop n) (c .before .before .before .args .s) (c .drop .result)) (c .before .before .id .ensures) (c .drop .ensures))
+    let args = c .before .before .before .args in
+    plain-at (args .line .kind) (args .ns .now) (args .s) (c .drop .result) 6 (c .before .match .keys3)
+    (subst (λ (n : ℕ). Meets (Call.Drop n) (args .s) (c .drop .result)) (c .before .before .id .ensures) (c .drop .ensures))
 
 returns-4 : tie.Need-returns-4
 returns-4 c =
-    plain-at (c .before .before .before .args .line .kind) (c .before .before .before .args .ns .now) (c .before .before .before .args .s) (c .mark .result) 7 (c .before .match .keys4)
-    (subst (λ (n : ℕ). Meets (Call.Mark n) (c .before .before .before .args .s) (c .mark .result)) (c .before .before .id .ensures) (c .mark .ensures))
+    let args = c .before .before .before .args in
+    plain-at (args .line .kind) (args .ns .now) (args .s) (c .mark .result) 7 (c .before .match .keys4)
+    (subst (λ (n : ℕ). Meets (Call.Mark n) (args .s) (c .mark .result)) (c .before .before .id .ensures) (c .mark .ensures))
 
 returns-5 : tie.Need-returns-5
 returns-5 c =
-    let ns = c .before .before .before .before .args .ns .now in
+    let args = c .before .before .before .before .args in
+    let ns = args .ns .now in
     let made = c .before .pos .ensures in
     let to : Call.Move (c .before .before .before .id .result .0) (c .before .pos .result .x) (c .before .pos .result .y) ≡ Call.Move (idOf ns) (num ns 1) (num ns 2) =
     λ i. Call.Move (c .before .before .before .id .ensures i) (made .0 i) (made .1 i) in
-    plain-at (c .before .before .before .before .args .line .kind) ns (c .before .before .before .before .args .s) (c .move-window .result) 8 (c .before .before .match .keys5)
-    (subst (λ (k : Call). Meets k (c .before .before .before .before .args .s) (c .move-window .result)) to (c .move-window .ensures))
+    plain-at (args .line .kind) ns (args .s) (c .move-window .result) 8 (c .before .before .match .keys5)
+    (subst (λ (k : Call). Meets k (args .s) (c .move-window .result)) to (c .move-window .ensures))
 
 returns-6 : tie.Need-returns-6
 returns-6 c =
-    plain-last (c .before .before .before .before .args .line .kind) (c .before .before .before .before .args .ns .now) (c .before .before .before .before .args .s) (c .route .result) (c .before .before .match .rest .0 .0 .0 .0 .1) (c .before .before .match .rest .0 .0 .0 .1) (c .before .before .match .rest .0 .0 .1) (c .before .before .match .rest .0 .1) (c .before .before .match .rest .1)
-    (subst (λ (e : Event). Meets (Call.Route e) (c .before .before .before .before .args .s) (c .route .result)) (c .before .event .ensures) (c .route .ensures))
+    let args = c .before .before .before .before .args in
+    plain-last (args .line .kind) (args .ns .now) (args .s) (c .route .result) (c .before .before .match .rest .0 .0 .0 .0 .1) (c .before .before .match .rest .0 .0 .0 .1) (c .before .before .match .rest .0 .0 .1) (c .before .before .match .rest .0 .1) (c .before .before .match .rest .1)
+    (subst (λ (e : Event). Meets (Call.Route e) (args .s) (c .route .result)) (c .before .event .ensures) (c .route .ensures))
 
 pub plain-spec : {M : Type 1} → statement M
 plain-spec =

@@ -31,22 +31,26 @@ end-requires c κs = search needs
 -- the player that is handed back
 abbrev next : tie.After-end → Player
 next c =
+    let args = c .before .before .before .before .before .before .before .before .before .before .before .args in
     record {
       session = c .before .before .before .before .before .before .before .before .pop .result .session;
-      lent = c .before .before .before .before .before .before .before .before .before .before .before .args .p .lent;
-      «is_set» = c .before .before .before .before .before .before .before .before .before .before .before .args .p .«is_set»;
-      screen = c .before .before .before .before .before .before .before .before .before .before .before .args .p .screen;
-      list = c .before .before .before .before .before .before .before .before .before .before .before .args .p .list;
+      lent = args .p .lent;
+      «is_set» = args .p .«is_set»;
+      screen = args .p .screen;
+      list = args .p .list;
       at = c .end .result;
-      lines = c .before .before .before .before .before .before .before .before .before .before .before .args .p .lines;
+      lines = args .p .lines;
     }
 
 returns : tie.Need-returns
 returns c =
     let r = c .before .before .before .before .before .before .before .before .before .before .before .pre in
-    makes (Pop (idOf (c .before .before .before .before .before .before .before .before .before .before .before .args .ns .now))) (c .before .before .before .before .before .before .before .before .before .before .before .args .p) (next c) (done (c .before .before .before .before .before .before .before .before .pop .result .session) (c .before .before .before .before .before .before .before .before .pop .result .answer)) (subst (λ (i : ℕ). Meets (Pop i) (c .before .before .before .before .before .before .before .before .before .before .before .args .p .session) (done (c .before .before .before .before .before .before .before .before .pop .result .session) (c .before .before .before .before .before .before .before .before .pop .result .answer))) (c .before .before .before .before .before .before .before .before .before .id .ensures) (c .before .before .before .before .before .before .before .before .pop .ensures .meets))
+    let a = c .before .before .before .before .before .before .before .before .before .before .before .args in
+    let made = c .before .before .before .before .before .before .before .before .pop in
+    let d = done (made .result .session) (made .result .answer) in
+    makes (Pop (idOf (a .ns .now))) (a .p) (next c) d (subst (λ (i : ℕ). Meets (Pop i) (a .p .session) d) (c .before .before .before .before .before .before .before .before .before .id .ensures) (made .ensures .meets))
     (record {
-      ready = record { given = c .before .before .before .before .before .before .before .before .pop .ensures .meets .given; lent = r .lent; screen = r .screen; list = r .list; at = c .end .ensures };
+      ready = record { given = made .ensures .meets .given; lent = r .lent; screen = r .screen; list = r .list; at = c .end .ensures };
       session = refl;
       lent = refl;
       set = refl;

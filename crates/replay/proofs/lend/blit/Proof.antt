@@ -28,11 +28,12 @@ same-length c = search needs
 
 returns : tie.Need-returns
 returns c =
-    let ns = c .before .before .before .before .before .before .before .before .before .before .args .ns .now in
-    let made : Call.Blit (c .before .before .before .before .id .result .0) (c .before .before .before .before .before .before .before .rect .result) (c .before .before .before .before .before .before .before .before .before .before .args .«data» .now) (c .before .before .before .before .before .wide .result) (c .before .before .before .before .before .before .before .before .before .before .args .store .now)
-    ≡ Call.Blit (idOf ns) (rectAt ns 1) (c .before .before .before .before .before .before .before .before .before .before .args .«data» .now) (num ns 5) (c .before .before .before .before .before .before .before .before .before .before .args .store .now) =
-    λ i. Call.Blit (c .before .before .before .before .id .ensures i) (c .before .before .before .before .before .before .before .rect .ensures i) (c .before .before .before .before .before .before .before .before .before .before .args .«data» .now) (c .before .before .before .before .before .wide .ensures i) (c .before .before .before .before .before .before .before .before .before .before .args .store .now) in
-    subst (λ (k : Call). MeetsStore k (c .before .before .before .before .before .before .before .before .before .before .args .s) (c .before .before .blit .result) (c .before .before .blit .last .1 .1 .1 .1 .1 .0)) made (c .before .before .blit .ensures)
+    let args = c .before .before .before .before .before .before .before .before .before .before .args in
+    let ns = args .ns .now in
+    let made : Call.Blit (c .before .before .before .before .id .result .0) (c .before .before .before .before .before .before .before .rect .result) (args .«data» .now) (c .before .before .before .before .before .wide .result) (args .store .now)
+    ≡ Call.Blit (idOf ns) (rectAt ns 1) (args .«data» .now) (num ns 5) (args .store .now) =
+    λ i. Call.Blit (c .before .before .before .before .id .ensures i) (c .before .before .before .before .before .before .before .rect .ensures i) (args .«data» .now) (c .before .before .before .before .before .wide .ensures i) (args .store .now) in
+    subst (λ (k : Call). MeetsStore k (args .s) (c .before .before .blit .result) (c .before .before .blit .last .1 .1 .1 .1 .1 .0)) made (c .before .before .blit .ensures)
 
 pub blit-spec : {M : Type 1} → statement M
 blit-spec =

@@ -1,12 +1,10 @@
 -- The call is lent the fronts of the store and of the screen.
-use mathlib.Core.List.{List}
 use mathlib.Core.Path.{_≡_, subst}
 use Prim.Native.Nat.{ℕ, _-_}
 use native.Mathlib.Omega.{arith}
 use lib.ListN.{take, drop}
 use Rattle.windows.specs.View.{MeetsScreen}
 use Rattle.replay.specs.Called.{redrawOf}
-use Rattle.replay.specs.Played.{DrawsPart}
 use Rattle.replay.proofs.laws.Made.{screen-part}
 use borrow.Author.Needs.{needs}
 use Rattle.replay.proofs.lend.draw.Statement.{statement}
@@ -50,10 +48,11 @@ whole n = omega arith
 
 returns : tie.Need-returns
 returns c =
-    screen-part (redrawOf (c .before .before .before .before .before .before .before .before .before .before .args .ns .now) (take (c .before .before .before .before .before .before .before .before .before .before .args .lent) (c .before .before .before .before .before .before .before .before .before .before .args .store .now))) (c .before .before .before .before .before .before .before .before .before .before .args .len) (c .before .before .before .before .before .before .before .before .before .before .args .len - 0) (c .before .before .before .before .before .before .before .before .before .before .args .screen .now) (c .before .before .redraw .last .1 .1 .1 .0)
-    (c .before .before .before .before .before .before .before .before .before .before .args .s) (c .before .before .redraw .result) (omega arith)
-    (subst (λ (n : ℕ). MeetsScreen (redrawOf (c .before .before .before .before .before .before .before .before .before .before .args .ns .now) (take n (c .before .before .before .before .before .before .before .before .before .before .args .store .now)) (take (c .before .before .before .before .before .before .before .before .before .before .args .len - 0) (drop 0 (c .before .before .before .before .before .before .before .before .before .before .args .screen .now)))) (c .before .before .before .before .before .before .before .before .before .before .args .s) (c .before .before .redraw .result) (c .before .before .redraw .last .1 .1 .1 .0))
-    (whole (c .before .before .before .before .before .before .before .before .before .before .args .lent)) (c .before .before .redraw .ensures))
+    let args = c .before .before .before .before .before .before .before .before .before .before .args in
+    screen-part (redrawOf (args .ns .now) (take (args .lent) (args .store .now))) (args .len) (args .len - 0) (args .screen .now) (c .before .before .redraw .last .1 .1 .1 .0)
+    (args .s) (c .before .before .redraw .result) (omega arith)
+    (subst (λ (n : ℕ). MeetsScreen (redrawOf (args .ns .now) (take n (args .store .now)) (take (args .len - 0) (drop 0 (args .screen .now)))) (args .s) (c .before .before .redraw .result) (c .before .before .redraw .last .1 .1 .1 .0))
+    (whole (args .lent)) (c .before .before .redraw .ensures))
 
 pub draw-spec : {M : Type 1} → statement M
 draw-spec =

@@ -15,9 +15,10 @@ answered-requires c κs = search needs
 
 returns : tie.Need-returns
 returns c =
+    let args = c .before .before .before .before .before .before .args in
     record {
       makes =
-          makes (redrawOf (c .before .before .before .before .before .before .args .ns .now) (take (c .before .before .before .before .before .before .args .p .lent) (c .before .before .before .before .before .before .args .store .now)) (take (c .before .before .before .before .before .before .args .len) (c .before .before .before .before .before .before .args .screen .now))) (unset (c .before .before .before .before .before .before .args .p)) (c .answered .result) (c .before .before .draw .result) (c .before .before .draw .ensures .meets)
+          makes (redrawOf (args .ns .now) (take (args .p .lent) (args .store .now)) (take (args .len) (args .screen .now))) (unset (args .p)) (c .answered .result) (c .before .before .draw .result) (c .before .before .draw .ensures .meets)
           (c .answered .ensures);
       shown = c .before .before .draw .ensures .shown;
     }

@@ -1,6 +1,5 @@
 -- The call is lent the front of the store.
-use mathlib.Core.List.{List}
-use Prim.Native.Nat.{ℕ, _-_}
+use Prim.Native.Nat.{_-_}
 use native.Mathlib.Omega.{arith}
 use Rattle.replay.specs.Called.{storeCall}
 use Rattle.replay.proofs.laws.Made.{store-part}
@@ -25,8 +24,9 @@ same-length c = search needs
 
 returns : tie.Need-returns
 returns c =
-    store-part (storeCall (c .before .before .before .before .before .args .line .kind) (c .before .before .before .before .before .args .line .count) (c .before .before .before .before .before .args .ns .now)) (c .before .before .before .before .before .args .lent) (c .before .before .before .before .before .args .lent - 0) (c .before .before .before .before .before .args .store .now) (c .before .before .write .last .1 .1 .1 .0)
-    (c .before .before .before .before .before .args .s) (c .before .before .write .result) (omega arith) (c .before .before .write .ensures)
+    let args = c .before .before .before .before .before .args in
+    store-part (storeCall (args .line .kind) (args .line .count) (args .ns .now)) (args .lent) (args .lent - 0) (args .store .now) (c .before .before .write .last .1 .1 .1 .0)
+    (args .s) (c .before .before .write .result) (omega arith) (c .before .before .write .ensures)
 
 pub lent-spec : {M : Type 1} → statement M
 lent-spec =

@@ -1,11 +1,9 @@
--- The list that is lent holds four numbers for each rectangle.
+-- The call is lent the front of the list.
 use native.Mathlib.Omega.{arith}
-use Prim.Native.Nat.{ℕ, _-_}
-use mathlib.Core.Path.{_≡_}
-use mathlib.Core.List.{List}
-use lib.ListN.{length, take, drop, length-take, length-drop}
+use Prim.Native.Nat.{_-_}
 use Rattle.windows.specs.View.{group}
-use Rattle.replay.proofs.laws.Sizes.{counted}
+use Rattle.replay.specs.Numbers.{idOf}
+use Rattle.replay.proofs.laws.Made.{list-part}
 use borrow.Author.Needs.{needs}
 use Rattle.replay.proofs.lend.listed.Statement.{statement}
 use Rattle.replay.proofs.lend.listed.Tie as tie
@@ -30,9 +28,9 @@ same-length c = search needs
 
 returns : tie.Need-returns
 returns c =
-    let lent : List ℕ = take (c .before .before .before .before .before .before .args .len - 0) (drop 0 (c .before .before .before .before .before .before .args .list .now)) in
-    let all : length lent ≡ c .before .before .before .before .before .before .args .len = simp (length-take, length-drop) (omega (arith, c .before .before .before .before .before .before .pre .1)) in
-    omega (arith, counted (group (c .before .before .before .before .before .before .args .s)) (c .before .before .before .before .id .result .0) lent, c .before .before .visible .ensures .count, all)
+    let args = c .before .before .before .before .before .before .args in
+    list-part (group (args .s)) (idOf (args .ns .now)) (c .before .before .before .before .id .result .0) (args .len) (args .len - 0) (args .list .now) (c .before .before .visible .last .1 .1 .0)
+    (c .before .before .visible .result) (c .before .before .before .before .id .ensures) (omega arith) (c .before .before .before .before .before .before .pre .1) (c .before .before .visible .ensures)
 
 pub listed-spec : {M : Type 1} → statement M
 listed-spec =

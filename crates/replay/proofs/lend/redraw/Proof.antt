@@ -19,9 +19,11 @@ drawn-requires : tie.Need-drawn-requires
 drawn-requires c κs = search needs
 
 returns : tie.Need-returns
-returns c = λ l e.
+returns c =
+    let args = c .before .before .before .before .before .before .before .args in
+    λ l e.
     redraws e (subst (λ (n : ℕ). n ≤ 384000) (c .before .before .before .before .screen-len .ensures) (c .before .before .before .if1 .taken))
-    (subst (λ (n : ℕ). Draws (c .before .before .before .before .before .before .before .args .ns .now) n (c .before .before .before .before .before .before .before .args .p) (c .before .before .before .before .before .before .before .args .store .now) (c .before .before .before .before .before .before .before .args .screen .now) (c .drawn .result) (c .drawn .last .1 .1 .1 .0)) (c .before .before .before .before .screen-len .ensures) (c .drawn .ensures)) refl
+    (subst (λ (n : ℕ). Draws (args .ns .now) n (args .p) (args .store .now) (args .screen .now) (c .drawn .result) (c .drawn .last .1 .1 .1 .0)) (c .before .before .before .before .screen-len .ensures) (c .drawn .ensures)) refl
 
 refused-requires : tie.Need-refused-requires
 refused-requires c κs = search needs

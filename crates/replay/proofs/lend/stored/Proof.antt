@@ -14,9 +14,10 @@ answered-requires c κs = search needs
 
 returns : tie.Need-returns
 returns c =
+    let args = c .before .before .before .before .before .args in
     record {
       makes =
-          makes (storeCall (c .before .before .before .before .before .args .line .kind) (c .before .before .before .before .before .args .line .count) (c .before .before .before .before .before .args .ns .now) (take (c .before .before .before .before .before .args .p .lent) (c .before .before .before .before .before .args .store .now))) (c .before .before .before .before .before .args .p) (c .answered .result) (c .before .before .lent .result) (c .before .before .lent .ensures .meets)
+          makes (storeCall (args .line .kind) (args .line .count) (args .ns .now) (take (args .p .lent) (args .store .now))) (args .p) (c .answered .result) (c .before .before .lent .result) (c .before .before .lent .ensures .meets)
           (c .answered .ensures);
       stored = c .before .before .lent .ensures .stored;
     }

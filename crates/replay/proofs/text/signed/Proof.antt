@@ -1,5 +1,5 @@
 -- The number is the distance from zero, which fits.
-use Prim.Native.Nat.{ℕ, zero, suc, _≤_, _<_}
+use Prim.Native.Nat.{ℕ}
 use mathlib.Core.Path.{_≡_, sym, ap, subst, _∙_}
 use mathlib.Core.Bool.{Bool, true, false}
 use native.Mathlib.Omega.{arith}
@@ -70,10 +70,16 @@ cast-number : tie.Need-cast-number
 cast-number c = at-16 (c .before .before .before .before .before .before .args .z) (c .before .before .before .before .before .before .fits .z)
 
 sub-number : tie.Need-sub-number
-sub-number c = negated-32 (c .before .before .before .before .before .before .args .z) (c .before .before .before .before .before .before .fits .z) (tested (c .before .before .before .before .before .before .args .z) (c .before .before .before .before .before .before .fits .z) true (c .before .before .before .if1 .taken))
+sub-number c =
+    let z = c .before .before .before .before .before .before .args .z in
+    let h = c .before .before .before .before .before .before .fits .z in
+    negated-32 z h (tested z h true (c .before .before .before .if1 .taken))
 
 cast-number-2 : tie.Need-cast-number-2
-cast-number-2 c = below-32 (c .before .before .before .before .before .before .args .z) (c .before .before .before .before .before .before .fits .z) (tested (c .before .before .before .before .before .before .args .z) (c .before .before .before .before .before .before .fits .z) true (c .before .before .before .if1 .taken))
+cast-number-2 c =
+    let z = c .before .before .before .before .before .before .args .z in
+    let h = c .before .before .before .before .before .before .fits .z in
+    below-32 z h (tested z h true (c .before .before .before .if1 .taken))
 
 number-requires : tie.Need-number-requires
 number-requires c κs = search needs
@@ -82,7 +88,10 @@ returns : tie.Need-returns
 returns c = search needs
 
 cast-number-3 : tie.Need-cast-number-3
-cast-number-3 c = subst Counts (sym (toZ-ofZ (c .before .before .before .before .fits .z))) (above (c .before .before .before .before .args .z) (c .before .before .before .before .fits .z) (tested (c .before .before .before .before .args .z) (c .before .before .before .before .fits .z) false (c .before .if1 .left)))
+cast-number-3 c =
+    let z = c .before .before .before .before .args .z in
+    let h = c .before .before .before .before .fits .z in
+    subst Counts (sym (toZ-ofZ h)) (above z h (tested z h false (c .before .if1 .left)))
 
 number-requires-2 : tie.Need-number-requires-2
 number-requires-2 c κs = search needs

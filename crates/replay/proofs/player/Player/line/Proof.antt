@@ -55,13 +55,19 @@ returns-4 : tie.Need-returns-4
 returns-4 c = lists (c .before .before .before .before .match .keys4) (c .visible .ensures) refl
 
 returns-5 : tie.Need-returns-5
-returns-5 c = c .lend-store .ensures (c .before .before .before .before .args .line) (pixels (c .before .before .before .before .args .store .now) (c .before .before .before .before .args .screen .now)) (c .before .before .before .match .keys5)
+returns-5 c =
+    let args = c .before .before .before .before .args in
+    c .lend-store .ensures (args .line) (pixels (args .store .now) (args .screen .now)) (c .before .before .before .match .keys5)
 
 returns-6 : tie.Need-returns-6
-returns-6 c = c .lend-screen .ensures (c .before .before .before .before .args .line) (pixels (c .before .before .before .before .args .store .now) (c .before .before .before .before .args .screen .now)) (c .before .before .before .match .keys6)
+returns-6 c =
+    let args = c .before .before .before .before .args in
+    c .lend-screen .ensures (args .line) (pixels (args .store .now) (args .screen .now)) (c .before .before .before .match .keys6)
 
 returns-7 : tie.Need-returns-7
-returns-7 c = c .lend-list .ensures (c .before .before .before .before .args .line) (pixels (c .before .before .before .before .args .store .now) (c .before .before .before .before .args .screen .now)) (c .before .before .before .match .keys7)
+returns-7 c =
+    let args = c .before .before .before .before .args in
+    c .lend-list .ensures (args .line) (pixels (args .store .now) (args .screen .now)) (c .before .before .before .match .keys7)
 
 returns-8 : tie.Need-returns-8
 returns-8 c = stores (c .before .before .before .before .before .if1 .left) (omega (arith, c .before .before .before .before .if2 .taken)) (c .stored .ensures) refl
