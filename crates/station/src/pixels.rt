@@ -3,7 +3,7 @@
 ghost use Rattle.winbuf.specs.Pixels.{lineStart, scanline, fillScanline, setScanline, region};
 ghost use Rattle.winbuf.specs.Bare.{Gives, regionStart};
 ghost use Rattle.station.specs.Parts.{Lies};
-use winbuf::region;
+use stride::region_of;
 use winbuf::scanline_rgn;
 
 #[no_mangle]
@@ -82,7 +82,7 @@ pub extern "C" fn roq_region(
     ensures { λ r. ⌜ Lies (region (now (pixels .entry)) stride x y w h) (regionStart stride x y) (now (pixels .entry)) r ⌝ }
 {
     let mut answer: u32 = 0;
-    let count = region(pixels, stride, x, y, w, h, &mut answer).len();
+    let count = region_of(pixels, stride, x, y, w, h, &mut answer).len();
     let mut start: usize = 0;
     if count != 0 {
         start = x as usize + y as usize * stride;

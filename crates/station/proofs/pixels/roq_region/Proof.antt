@@ -9,13 +9,13 @@ use borrow.Author.Needs.{needs}
 use Rattle.station.proofs.pixels.roq_region.Statement.{statement}
 use Rattle.station.proofs.pixels.roq_region.Tie as tie
 
-region-requires : tie.Need-region-requires
-region-requires c κs = search needs
+region-of-requires : tie.Need-region-of-requires
+region-of-requires c κs = search needs
 
 ends : (c : tie.Then1) → let a = c .before .before .before .before .args in regionEnd (a .stride) (a .x) (a .y) (a .w) (a .h) ≤ length (a .pixels .now)
 ends c =
     let a = c .before .before .before .before .args in
-    region-in (a .pixels .now) (a .stride) (a .x) (a .y) (a .w) (a .h) (λ e. c .if1 .taken (ap length (c .before .region .ensures .pixels) ∙ e))
+    region-in (a .pixels .now) (a .stride) (a .x) (a .y) (a .w) (a .h) (λ e. c .if1 .taken (ap length (c .before .region-of .ensures .pixels) ∙ e))
 
 mul-start : tie.Need-mul-start
 mul-start c = omega (arith, ends c)
@@ -26,12 +26,12 @@ add-start c = omega (arith, ends c)
 returns : tie.Need-returns
 returns c =
     let a = c .before .before .before .before .args in
-    lies-some (c .before .region .ensures) (region-cuts (a .pixels .now) (a .stride) (a .x) (a .y) (a .w) (a .h)) (c .if1 .taken)
+    lies-some (c .before .region-of .ensures) (region-cuts (a .pixels .now) (a .stride) (a .x) (a .y) (a .w) (a .h)) (c .if1 .taken)
 
 returns-2 : tie.Need-returns-2
 returns-2 c =
     let a = c .before .before .before .before .args in
-    lies-none (c .before .region .ensures) (region-cuts (a .pixels .now) (a .stride) (a .x) (a .y) (a .w) (a .h)) (c .if1 .left)
+    lies-none (c .before .region-of .ensures) (region-cuts (a .pixels .now) (a .stride) (a .x) (a .y) (a .w) (a .h)) (c .if1 .left)
 
 pub roq-region-spec : {M : Type 1} → statement M
-roq-region-spec = tie.close (tie.spec region-requires mul-start add-start returns returns-2)
+roq-region-spec = tie.close (tie.spec region-of-requires mul-start add-start returns returns-2)
