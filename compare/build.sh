@@ -12,9 +12,14 @@ compare="$PWD/target/compare/release/compare"
 }
 cargo build --release --offline --quiet --manifest-path compare/Cargo.toml --target-dir target/compare
 
+# Ours is proved and built where a file has changed; another one has to be there.
 need_replay() {
+  [ -n "${REPLAY:-}" ] || rt check replay >target/replay.txt 2>&1 || {
+    cat target/replay.txt >&2
+    exit 1
+  }
   [ -x "$replay" ] || {
-    printf 'no program %s: build it with "rt check replay", or set REPLAY\n' "$replay" >&2
+    printf 'no program %s\n' "$replay" >&2
     exit 2
   }
 }

@@ -1,10 +1,10 @@
+-- The row of the table, letter by letter.
 use Rattle.script.specs.Table.{letters}
 use Rattle.script.specs.Script.{sameWord}
 use lib.ListN.{take, drop, getD}
 use Prim.Native.Nat.{ℕ, _+_, _*_, _-_}
 use native.Mathlib.Omega.{arith}
 use mathlib.Core.Path.{_≡_, subst}
--- The row of the table, letter by letter.
 use Rattle.script.proofs.laws.Kinds.{told}
 use borrow.Author.Needs.{needs}
 use Rattle.script.proofs.kind.is_name.Statement.{statement}

@@ -1,5 +1,5 @@
-use lib.ListN.{length-set}
 -- A number begins at 0.
+use lib.ListN.{length-set}
 use Rattle.script.proofs.laws.Steps.{longer-full, from-zero}
 use mathlib.Core.Path.{sym, _∙_}
 use borrow.Author.Needs.{needs}
