@@ -14,11 +14,11 @@ use Rattle.window.specs.declared.Event.{Event}
 use Rattle.window.specs.declared.Event.the-variants as Event
 use Rattle.rules.specs.Group.{Group, start, win}
 use Rattle.rules.specs.Order.{isIn, above}
-use Rattle.rules.specs.Visible.{visibleList, rectsOf}
+use Rattle.rules.specs.Visible.{Listed, visibleList, rectsOf}
 use Rattle.rules.specs.Events.{route}
 use Rattle.rules.specs.Calls.{Call, does, accepted, after}
 use Rattle.rules.specs.Book.{Book, page, bookOf, topmost}
-use Rattle.rules.specs.Ledger.{waiting, ledgerOf}
+use Rattle.rules.specs.Ledger.{Ledger, waiting, ledgerOf}
 use Rattle.rules.specs.Conditions.{Quiet, Sized, isRedraw, noRedraw, unmarked}
 
 -- Pixels ----------------------------------------------------------------------------------------------------------------
@@ -27,8 +27,7 @@ use Rattle.rules.specs.Conditions.{Quiet, Sized, isRedraw, noRedraw, unm
 abbrev pub pixelAt : List ℕ → ℕ → ℕ → ℕ → ℕ
 pixelAt screen w px py = getD screen (py * w + px) 0
 
--- "every pixel under a shown window as the topmost window there has it, and every other pixel as the first left it"; "at (px,py) a
--- window has its pixel (px−x,py−y)"
+-- what is expected at a point, by its topmost window if it has one: "at (px,py) a window has its pixel (px−x,py−y)"
 abbrev pub expected : Book → Option ℕ → ℕ → ℕ → ℕ → ℕ
 expected b none px py first = first
 expected b (some id) px py first = page b id .pixel (px - left (page b id .at)) (py - top (page b id .at))
@@ -43,15 +42,18 @@ pub record Two (c : ℕ) (w h : ℕ) (ks₁ : List Call) (r₁ : Call) (ks₂ : 
   pub sized : Sized w h (start c .group) (ks₁ ++ (r₁ ∷ (ks₂ ++ (r₂ ∷ []))))
   pub marked : (id : ℕ) → T (isIn id (bookOf c (ks₁ ++ (r₁ ∷ ks₂)) .order)) → unmarked id (start c .group) false (ks₁ ++ (r₁ ∷ ks₂)) ≡ false
 
--- "the second leaves every pixel …": `Shown, above … and topmost at a point … are the book's at the second redraw`
+-- "the second leaves every pixel under a shown window as the topmost window there has it, and every other pixel as the first left it":
+-- two screens of w by h, and the book at the second redraw
+abbrev pub Repainted : Book → ℕ → ℕ → List ℕ → List ℕ → Type 0
+Repainted b w h first second =
+    (px py : ℕ) → px < w → py < h → pixelAt second w px py ≡ expected b (topmost b px py) px py (pixelAt first w px py)
+
+-- `Shown, above … and topmost at a point … are the book's at the second redraw`
 unfoldable pub Pixels : ℕ → List Call → Type 0
 Pixels c ks =
     (w h : ℕ) (ks₁ : List Call) (r₁ : Call) (ks₂ : List Call) (r₂ : Call) (rest : List Call) →
     ks ≡ ks₁ ++ (r₁ ∷ (ks₂ ++ (r₂ ∷ rest))) → Two c w h ks₁ r₁ ks₂ r₂ →
-    (px py : ℕ) → px < w → py < h →
-    pixelAt (does (after c (ks₁ ++ (r₁ ∷ ks₂))) r₂ .screen) w px py
-    ≡ expected (bookOf c (ks₁ ++ (r₁ ∷ ks₂))) (topmost (bookOf c (ks₁ ++ (r₁ ∷ ks₂))) px py) px py
-    (pixelAt (does (after c ks₁) r₁ .screen) w px py)
+    Repainted (bookOf c (ks₁ ++ (r₁ ∷ ks₂))) w h (does (after c ks₁) r₁ .screen) (does (after c (ks₁ ++ (r₁ ∷ ks₂))) r₂ .screen)
 
 -- Presses ---------------------------------------------------------------------------------------------------------------
 
@@ -68,23 +70,26 @@ pressAt (click n m) x y = Event.MouseClick x y n m
 abbrev pub queueOf : Group → ℕ → List Event
 queueOf g id = win g id .queue
 
--- "it reaches a window if, position subtracted, it joins the end of that window's queue"
-abbrev pub Reaches : ℕ → List Call → Press → ℕ → ℕ → ℕ → Type 0
-Reaches c ks p px py id =
-    queueOf (route (after c ks) (pressAt p px py) .group) id
-    ≡ queueOf (after c ks) id ++ (pressAt p (px - left (page (bookOf c ks) id .at)) (py - top (page (bookOf c ks) id .at)) ∷ [])
+-- "it reaches a window if, position subtracted, it joins the end of that window's queue": g and h are the group before and after it
+abbrev pub Reaches : Book → Group → Group → Press → ℕ → ℕ → ℕ → Type 0
+Reaches b g h p px py id = queueOf h id ≡ queueOf g id ++ (pressAt p (px - left (page b id .at)) (py - top (page b id .at)) ∷ [])
 
 -- the window's queue is as it was
-abbrev pub Unreached : ℕ → List Call → Press → ℕ → ℕ → ℕ → Type 0
-Unreached c ks p px py id = queueOf (route (after c ks) (pressAt p px py) .group) id ≡ queueOf (after c ks) id
+abbrev pub Unreached : Group → Group → ℕ → Type 0
+Unreached g h id = queueOf h id ≡ queueOf g id
 
 -- "a press at any point reaches the topmost window there exactly when fewer than 16 events wait for it, and never another window"
+abbrev pub Pressed : Book → Ledger → Group → Group → Press → ℕ → ℕ → Type 0
+Pressed b l g h p px py =
+    (id : ℕ) →
+    (topmost b px py ≡ some id → waiting l id < 16 → Reaches b g h p px py id)
+    × (topmost b px py ≡ some id → 16 ≤ waiting l id → Unreached g h id)
+    × (topmost b px py ≢ some id → Unreached g h id)
+
 unfoldable pub Presses : ℕ → List Call → Type 0
 Presses c ks =
-    (p : Press) (px py : ℕ) → px ≤ 32767 → py ≤ 32767 → (id : ℕ) →
-    (topmost (bookOf c ks) px py ≡ some id → waiting (ledgerOf c ks) id < 16 → Reaches c ks p px py id)
-    × (topmost (bookOf c ks) px py ≡ some id → 16 ≤ waiting (ledgerOf c ks) id → Unreached c ks p px py id)
-    × (topmost (bookOf c ks) px py ≢ some id → Unreached c ks p px py id)
+    (p : Press) (px py : ℕ) → px ≤ 32767 → py ≤ 32767 →
+    Pressed (bookOf c ks) (ledgerOf c ks) (after c ks) (route (after c ks) (pressAt p px py) .group) p px py
 
 -- Visible rectangles ----------------------------------------------------------------------------------------------------
 
@@ -110,12 +115,11 @@ pub record Shows (b : Book) (id : ℕ) (rs : List Rect) : Type 0 where
 
 -- "Its visible rectangles are those that a call of the visible list then gives, lent room enough": every such call that is
 -- accepted gives them, and one that is lent four numbers for each of the most is accepted
+abbrev pub ListShows : Book → ℕ → List ℕ → Listed → Type 0
+ListShows b id lent o = (4 * most (higher b id) ≤ length lent → o .answer ≡ 0) × (o .answer ≡ 0 → Shows b id (rectsOf (o .count) (o .list)))
+
 unfoldable pub Visibles : ℕ → List Call → Type 0
-Visibles c ks =
-    (id : ℕ) (lent : List ℕ) → T (isIn id (bookOf c ks .order)) →
-    let o = visibleList (after c ks) id lent in
-    (4 * most (higher (bookOf c ks) id) ≤ length lent → o .answer ≡ 0)
-    × (o .answer ≡ 0 → Shows (bookOf c ks) id (rectsOf (o .count) (o .list)))
+Visibles c ks = (id : ℕ) (lent : List ℕ) → T (isIn id (bookOf c ks .order)) → ListShows (bookOf c ks) id lent (visibleList (after c ks) id lent)
 
 -- Demand 3 --------------------------------------------------------------------------------------------------------------
 
