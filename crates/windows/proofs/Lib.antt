@@ -1,2 +1,3 @@
--- Lemmas that the calls of a session share.
+-- Lemmas that the calls of a session share, and demand 3 of the program.
 pub mod laws
+pub mod demand

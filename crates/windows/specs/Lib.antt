@@ -3,3 +3,4 @@ pub mod View
 pub mod Rects
 pub mod Pixels
 pub mod Events
+pub mod Run

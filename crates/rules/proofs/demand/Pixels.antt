@@ -78,7 +78,7 @@ screen-kept g z (k ∷ ks) n =
 -- The second redraw --------------------------------------------------------------------------------------------------
 
 -- what holds of every redraw
-of-redraw : (P : Call → Type 0) → ((told : Bool) (w h : ℕ) (s screen : List ℕ) → P (Redraw told w h s screen)) → (k : Call) → isRedraw k ≡ true → P k
+pub of-redraw : (P : Call → Type 0) → ((told : Bool) (w h : ℕ) (s screen : List ℕ) → P (Redraw told w h s screen)) → (k : Call) → isRedraw k ≡ true → P k
 of-redraw P f Create e = clash e refl
 of-redraw P f (Show id) e = clash e refl
 of-redraw P f (Hide id) e = clash e refl

@@ -1,0 +1,3 @@
+-- Demand 3 of the program.
+pub mod Runs
+pub mod Program
