@@ -1,7 +1,8 @@
 /* The window group for programs in C and C++: link target/staticlib/libstation.a.
  *
- * Answers. Every call answers 0, or the number of the first question of document 01 that it answers with a no; then it has changed
- * nothing. "Asks" below names the questions of a call, in their order:
+ * Answers. Every call answers 0, or the number of the first question of document 01 that it answers with a no. Then it has changed no
+ * session, store, list, screen or pixel; only a refused roq_start makes a session all the same. "Asks" below names the questions of a
+ * call, in their order:
  *    1  the lent store has exactly 16 x C pixels       8  the screen's width and height are 1 to 32,767, its length their product
  *    2  C is 1 to 1,048,576                            9  the lent list holds 4 numbers for each visible rectangle
  *    3  the id is below 16 and in use                 10  there is an event to pop
@@ -71,8 +72,8 @@ typedef struct RoqSession {
     uint64_t words[702];
 } RoqSession;
 
-/* Begins a session without windows, whose windows will have room for c pixels each. Asks 2; on a no the session has C = 1.
- * Before the call the memory holds zeros (RoqSession s = {0};) or a session, which ends. */
+/* Begins a session without windows, whose windows will have room for c pixels each. Asks 2; on a no it begins one all the same, with
+ * C = 1. Before the call the memory holds zeros (RoqSession s = {0};) or a session, which ends, also on a no. */
 uint32_t roq_start(RoqSession *s, uint32_t c);
 
 /* The id that there is not. */
@@ -196,7 +197,7 @@ typedef struct RoqPieces {
     RoqRect rects[4];
 } RoqPieces;
 
-/* On a no there are no pieces. Rectangles from `count` on are not defined. */
+/* On a no there are no pieces: `count` is 0. The rectangles from `count` on are (0,0,0,0). */
 typedef struct RoqNotIntersect {
     uint32_t answer;
     RoqPieces pieces;
@@ -213,11 +214,13 @@ typedef struct RoqPart {
     size_t start, count;
 } RoqPart;
 
-/* `len` pixels of a line from `ofs` on, cut to the width, of a picture of width by height. */
+/* `len` pixels of a line from `ofs` on, cut to the width, of a picture of width by height. With width 0 the part is empty and the answer
+ * 0; else 13 where the line is not below the height, the offset not below the width, or the cut part passes the end of the pixels. */
 RoqPart roq_scanline(const uint32_t *pixels, size_t pixels_len, uint32_t width, uint32_t height, uint32_t line, uint32_t ofs,
                      uint32_t len);
 
-/* Fills such a part; does nothing, with answer 0, where the line or the offset lies beside the picture. */
+/* Fills such a part; does nothing, with answer 0, where the line or the offset lies beside the picture. 13 where the cut part passes the
+ * end of the pixels, here and in the next one. */
 uint32_t roq_fill_scanline(uint32_t *pixels, size_t pixels_len, uint32_t width, uint32_t height, uint32_t line, uint32_t ofs,
                            uint32_t len, uint32_t value);
 
@@ -225,7 +228,8 @@ uint32_t roq_fill_scanline(uint32_t *pixels, size_t pixels_len, uint32_t width, 
 uint32_t roq_set_scanline(uint32_t *pixels, size_t pixels_len, uint32_t width, uint32_t height, uint32_t line, uint32_t ofs,
                           uint32_t len, const uint32_t *data, size_t data_len);
 
-/* The rows of (x,y,w,h) in a picture whose rows begin `stride` apart, with what lies between them. */
+/* The rows of (x,y,w,h) in a picture whose rows begin `stride` apart, with what lies between them: (h - 1) x stride + w pixels from
+ * x + y x stride on. 13 unless h is at least 1, w at most the stride, and the last of them lies in the pixels. */
 RoqPart roq_region(const uint32_t *pixels, size_t pixels_len, size_t stride, uint32_t x, uint32_t y, uint32_t w, uint32_t h);
 
 #ifdef __cplusplus

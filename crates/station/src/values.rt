@@ -54,7 +54,7 @@ fn number_of(id: NewId) -> WinId
     }
 }
 
-// What the memory held before is not read.
+// What the session was before makes no difference; it is a parameter because every exported call copies its session out first.
 pub fn start(s: Session, c: u32) -> Done
     ensures { λ r. ⌜ Starts c r ⌝ }
 {
