@@ -1,6 +1,6 @@
--- The program's calls: what the rules give for them, by computation, and that the code's calls give the same, by their contracts.
+-- The program's calls: what the rules give for them, by computation, and that the code's calls are a run of them, by their contracts.
 use Prim.Native.Nat.{ℕ}
-use mathlib.Core.Path.{_≡_, refl, sym, subst, ap, _∙_}
+use mathlib.Core.Path.{_≡_, refl, ap, _∙_}
 use mathlib.Core.Bool.{false}
 use mathlib.Core.List.{List, [], _∷_, _++_}
 use mathlib.Core.Option.{some}
@@ -20,11 +20,12 @@ use Rattle.rules.specs.Store as Store
 use Rattle.rules.specs.Redraw as Draw
 use Rattle.rules.specs.Calls as Calls
 use Rattle.rules.specs.Calls.{Call, Create, Show, Mark, Pop, Resize, Fill, Route, Redraw, does, after}
-use Rattle.rules.proofs.group.Runs.{after-snoc}
 use Rattle.windows.specs.declared.Session.{Session}
 use Rattle.windows.specs.declared.Done.{Done}
 use Rattle.windows.specs.declared.Popped.{Popped}
-use Rattle.windows.specs.View.{group, Starts, Meets, MeetsStore, MeetsScreen, MeetsEvent, eventIn}
+use Rattle.windows.specs.View.{group, Starts, MeetsStore, MeetsScreen, MeetsEvent, eventIn}
+use Rattle.windows.specs.Run.{Made, calls, Kept, Run, started, called}
+use Rattle.windows.proofs.demand.Runs.{made, calls-append, reached}
 
 -- The calls -------------------------------------------------------------------------------------------------------------
 
@@ -104,30 +105,38 @@ computed =
 
 -- What the contracts give ---------------------------------------------------------------------------------------------
 
+-- the program's run: the calls ks led to the session s
+pub record Ran (ks : List Call) (s : Session) : Type 0 where
+  pub steps : List Made
+  pub run : Run 4 steps s
+  pub all : calls steps ≡ ks
+
+abbrev given : {ks : List Call} {s : Session} → Ran ks s → group s ≡ after 4 ks
+given p = reached (p .run) ∙ ap (after 4) (p .all)
+
+pub begun : {r : Done} → Starts 4 r → Ran [] (r .session)
+begun h = record { steps = []; run = started h; all = refl }
+
 -- r is what the call k gave after the calls ks
 pub record Next (ks : List Call) (k : Call) (r : Done) : Type 0 where
   pub answer : r .answer ≡ does (after 4 ks) k .answer
-  pub reached : group (r .session) ≡ after 4 (ks ++ (k ∷ []))
+  pub ran : Ran (ks ++ (k ∷ [])) (r .session)
 
-pub begun : {r : Done} → Starts 4 r → group (r .session) ≡ after 4 []
-unfolding Calls.run Calls.after
-begun h = h .after
-
--- the code's call j is the call k, and its session is what the calls ks gave
-pub next : {j : Call} {s : Session} {r : Done} (ks : List Call) (k : Call) → j ≡ k → group s ≡ after 4 ks → Meets j s r → Next ks k r
-next {j} {s} {r} ks k same given m =
-    let h : Meets k s r = subst (λ (l : Call). Meets l s r) same m in
+-- the code's call j is the call k, and the run goes on with it. It left the store and the screen, where it was lent them
+pub next : {j : Call} {s : Session} {r : Done} {store screen : List ℕ} (ks : List Call) (k : Call) → j ≡ k → Ran ks s
+    → Kept (made j r store screen) s (r .session) → Next ks k r
+next ks k same p m =
     record {
-      answer = h .answer ∙ ap (λ (g : Group). does g k .answer) given;
-      reached = h .after ∙ ap (λ (g : Group). does g k .group) given ∙ sym (after-snoc 4 ks k);
+      answer = m .meets .answer ∙ (λ i. does (given p i) (same i) .answer);
+      ran = record { steps = _; run = called (p .run) m; all = calls-append (p .steps) _ ∙ (λ i. p .all i ++ (same i ∷ [])) };
     }
 
--- the store, the screen or the event that such a call leaves
-pub stored : {j : Call} {s : Session} {r : Done} {l : List ℕ} (ks : List Call) (k : Call) → j ≡ k → group s ≡ after 4 ks → MeetsStore j s r l → l ≡ does (after 4 ks) k .store
-stored ks k same given m = m .stored ∙ (λ i. does (given i) (same i) .store)
+-- the store, the screen or the event that a call leaves
+pub stored : {j : Call} {s : Session} {r : Done} {l : List ℕ} (ks : List Call) (k : Call) → j ≡ k → Ran ks s → MeetsStore j s r l → l ≡ does (after 4 ks) k .store
+stored ks k same p m = m .stored ∙ (λ i. does (given p i) (same i) .store)
 
-pub drawn : {j : Call} {s : Session} {r : Done} {l : List ℕ} (ks : List Call) (k : Call) → j ≡ k → group s ≡ after 4 ks → MeetsScreen j s r l → l ≡ does (after 4 ks) k .screen
-drawn ks k same given m = m .shown ∙ (λ i. does (given i) (same i) .screen)
+pub drawn : {j : Call} {s : Session} {r : Done} {l : List ℕ} (ks : List Call) (k : Call) → j ≡ k → Ran ks s → MeetsScreen j s r l → l ≡ does (after 4 ks) k .screen
+drawn ks k same p m = m .shown ∙ (λ i. does (given p i) (same i) .screen)
 
-pub told : {s : Session} {r : Popped} (ks : List Call) (k : Call) → group s ≡ after 4 ks → MeetsEvent k s r → eventIn (r .event) ≡ does (after 4 ks) k .event
-told ks k given m = m .event ∙ ap (λ (g : Group). does g k .event) given
+pub told : {s : Session} {r : Popped} (ks : List Call) (k : Call) → Ran ks s → MeetsEvent k s r → eventIn (r .event) ≡ does (after 4 ks) k .event
+told ks k p m = m .event ∙ ap (λ (g : Group). does g k .event) (given p)

@@ -1,4 +1,4 @@
--- Each call of the code is the next in the list of calls, so it answers and leaves what the rules give there; the checks are true of that.
+-- The code's calls are a run, so each answers and leaves what the rules give at its place; the checks are true of that.
 use Prim.Native.Nat.{ℕ}
 use mathlib.Core.Path.{_≡_, refl, ap, _∙_}
 use mathlib.Core.Bool.{false}
@@ -12,6 +12,7 @@ use Rattle.window.specs.declared.Event.{Event}
 use Rattle.window.specs.declared.Event.the-variants.{MouseDown}
 use Rattle.rules.specs.Calls.{Create, Show, Mark, Pop, Resize, Fill, Redraw}
 use Rattle.windows.specs.View.{done, eventIn}
+use Rattle.windows.proofs.demand.Runs.{by-meets, by-store, by-screen}
 use Rattle.panel.specs.Press.{isPress}
 use Rattle.panel.proofs.laws.Calls as calls
 use Rattle.panel.proofs.laws.Calls.{Next, next, begun, stored, drawn, told, computed, picture, store}
@@ -21,57 +22,57 @@ use Rattle.panel.proofs.main.Tie as tie
 -- The calls -------------------------------------------------------------------------------------------------------------
 
 created : (c : tie.After-create) → Next [] Create (done (c .create .result .session) (c .create .result .answer))
-created c = next [] Create refl (begun (c .before .before .before .start .ensures)) (c .create .ensures .meets)
+created c = next [] Create refl (begun (c .before .before .before .start .ensures)) (by-meets refl refl (c .create .ensures .meets))
 
 -- the code's resize, with the size that `Dims::new` gives, is the list's
 resize : (c : tie.After-resize) → Resize 0 (c .before .before .new .result .w) (c .before .before .new .result .h) (store 0) ≡ calls.resize
 resize c = let size = c .before .before .new .ensures in λ i. Resize 0 (size .0 i) (size .1 i) (store 0)
 
 resized : (c : tie.After-resize) → Next calls.created calls.resize (c .resize .result)
-resized c = next calls.created calls.resize (resize c) (created (c .before .before .before .before .before) .reached) (c .resize .ensures .meets)
+resized c = next calls.created calls.resize (resize c) (created (c .before .before .before .before .before) .ran) (by-store refl (c .resize .ensures))
 
 -- the store after the resize
 cleared : (c : tie.After-resize) → c .resize .last .1 .1 .1 .0 ≡ store 0
-cleared c = stored calls.created calls.resize (resize c) (created (c .before .before .before .before .before) .reached) (c .resize .ensures) ∙ computed .resize-store
+cleared c = stored calls.created calls.resize (resize c) (created (c .before .before .before .before .before) .ran) (c .resize .ensures) ∙ computed .resize-store
 
 shown : (c : tie.After-show) → Next calls.resized (Show 0) (c .show .result)
-shown c = next calls.resized (Show 0) refl (resized (c .before .before .before .before) .reached) (c .show .ensures)
+shown c = next calls.resized (Show 0) refl (resized (c .before .before .before .before) .ran) (by-meets refl refl (c .show .ensures))
 
 -- the code's fill, with the area that `Rect::new` gives and that store
 fill : (c : tie.After-fill) → Fill 0 (c .before .before .new2 .result) 7 (c .before .before .before .before .before .before .before .resize .last .1 .1 .1 .0) ≡ calls.fill
 fill c = λ i. Fill 0 (c .before .before .new2 .ensures i) 7 (cleared (c .before .before .before .before .before .before .before) i)
 
 filled : (c : tie.After-fill) → Next calls.shown calls.fill (c .fill .result)
-filled c = next calls.shown calls.fill (fill c) (shown (c .before .before .before) .reached) (c .fill .ensures .meets)
+filled c = next calls.shown calls.fill (fill c) (shown (c .before .before .before) .ran) (by-store refl (c .fill .ensures))
 
 -- the store after the fill
 coloured : (c : tie.After-fill) → c .fill .last .1 .1 .1 .1 .0 ≡ store 7
-coloured c = stored calls.shown calls.fill (fill c) (shown (c .before .before .before) .reached) (c .fill .ensures) ∙ computed .fill-store
+coloured c = stored calls.shown calls.fill (fill c) (shown (c .before .before .before) .ran) (c .fill .ensures) ∙ computed .fill-store
 
 marked : (c : tie.After-mark) → Next calls.filled (Mark 0) (c .mark .result)
-marked c = next calls.filled (Mark 0) refl (filled (c .before .before) .reached) (c .mark .ensures)
+marked c = next calls.filled (Mark 0) refl (filled (c .before .before) .ran) (by-meets refl refl (c .mark .ensures))
 
 -- the code's redraw, with that store
 redraw : (c : tie.After-redraw) → Redraw false 3 2 (c .before .before .before .before .before .fill .last .1 .1 .1 .1 .0) (replicate 6 5) ≡ calls.redraw
 redraw c = λ i. Redraw false 3 2 (coloured (c .before .before .before .before .before) i) (replicate 6 5)
 
 redrawn : (c : tie.After-redraw) → Next calls.marked calls.redraw (c .redraw .result)
-redrawn c = next calls.marked calls.redraw (redraw c) (marked (c .before .before .before) .reached) (c .redraw .ensures .meets)
+redrawn c = next calls.marked calls.redraw (redraw c) (marked (c .before .before .before) .ran) (by-screen (c .redraw .ensures))
 
 screen : (c : tie.After-redraw) → c .redraw .last .1 .1 .1 .0 ≡ picture
-screen c = drawn calls.marked calls.redraw (redraw c) (marked (c .before .before .before) .reached) (c .redraw .ensures) ∙ computed .redraw-screen
+screen c = drawn calls.marked calls.redraw (redraw c) (marked (c .before .before .before) .ran) (c .redraw .ensures) ∙ computed .redraw-screen
 
 pressed : (c : tie.After-route) → Next calls.redrawn calls.press (c .route .result)
-pressed c = next calls.redrawn calls.press refl (redrawn (c .before .before .before .before .before .before) .reached) (c .route .ensures)
+pressed c = next calls.redrawn calls.press refl (redrawn (c .before .before .before .before .before .before) .ran) (by-meets refl refl (c .route .ensures))
 
 popped : (c : tie.After-pop) → Next calls.pressed (Pop 0) (done (c .pop .result .session) (c .pop .result .answer))
-popped c = next calls.pressed (Pop 0) refl (pressed (c .before .before .before) .reached) (c .pop .ensures .meets)
+popped c = next calls.pressed (Pop 0) refl (pressed (c .before .before .before) .ran) (by-meets refl refl (c .pop .ensures .meets))
 
 popped-again : (c : tie.After-pop2) → Next calls.popped (Pop 0) (done (c .pop2 .result .session) (c .pop2 .result .answer))
-popped-again c = next calls.popped (Pop 0) refl (popped (c .before) .reached) (c .pop2 .ensures .meets)
+popped-again c = next calls.popped (Pop 0) refl (popped (c .before) .ran) (by-meets refl refl (c .pop2 .ensures .meets))
 
 event : (c : tie.After-pop2) → eventIn (c .pop2 .result .event) ≡ some (MouseDown 1 1 1)
-event c = told calls.popped (Pop 0) (popped (c .before) .reached) (c .pop2 .ensures) ∙ computed .pop-event
+event c = told calls.popped (Pop 0) (popped (c .before) .ran) (c .pop2 .ensures) ∙ computed .pop-event
 
 -- The checks ------------------------------------------------------------------------------------------------------------
 
