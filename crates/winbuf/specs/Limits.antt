@@ -3,17 +3,24 @@ use Prim.Native.Nat.{ℕ}
 use mathlib.Core.Path.{_≡_, refl}
 use mathlib.Core.List.{List, [], _∷_, map}
 use lib.ListN.{replicate}
+use Rattle.winbuf.specs.declared.ScanlineRange.{ScanlineRange}
 use Rattle.winbuf.specs.Pixels as Pixels
-use Rattle.winbuf.specs.Pixels.{Part, scanline, fillScanline, setScanline, region}
+use Rattle.winbuf.specs.Pixels.{Part, scanlineRange, scanline, fillScanline, setScanline, region}
 
--- what a call gives, and what document 01 says: the answer, then the pixels
+-- what a call gives, and what document 01 says
 pub record Limit : Type 0 where
-  pub gives : Part
+  pub gives : List ℕ
   pub says : List ℕ
 
+-- the answer, then the pixels
 infix 10 _gives_
 _gives_ : Part → List ℕ → Limit
-p gives l = record { gives = p; says = l }
+p gives l = record { gives = p .answer ∷ p .pixels; says = l }
+
+-- the answer, then where the part begins and how many pixels it has
+infix 10 _lies_
+_lies_ : ScanlineRange → List ℕ → Limit
+r lies l = record { gives = r .answer ∷ r .start ∷ r .count ∷ []; says = l }
 
 six : List ℕ
 six = 1 ∷ 2 ∷ 3 ∷ 4 ∷ 5 ∷ 6 ∷ []
@@ -39,6 +46,14 @@ table =
     ∷ (scanline six 3 2 0 3 1 gives (13 ∷ []))
     ∷ (scanline six 3 9 2 0 0 gives (0 ∷ []))
     ∷ (scanline six 3 9 2 1 0 gives (13 ∷ []))
+    -- where a scanline lies: the last pixel of a row, cut to the width, at the end, past the end, past the edge, width 0
+    ∷ (scanlineRange 32767 32767 1 0 32766 32767 lies (0 ∷ 32766 ∷ 1 ∷ []))
+    ∷ (scanlineRange 6 32768 2 1 1 2 lies (5 ∷ 0 ∷ 0 ∷ []))
+    ∷ (scanlineRange 6 3 2 0 1 9 lies (0 ∷ 1 ∷ 2 ∷ []))
+    ∷ (scanlineRange 6 3 9 2 0 0 lies (0 ∷ 6 ∷ 0 ∷ []))
+    ∷ (scanlineRange 6 3 9 2 0 1 lies (13 ∷ 0 ∷ 0 ∷ []))
+    ∷ (scanlineRange 6 3 2 1 3 1 lies (13 ∷ 0 ∷ 0 ∷ []))
+    ∷ (scanlineRange 6 0 2 7 7 7 lies (0 ∷ 0 ∷ 0 ∷ []))
     -- filling and setting beside the picture do nothing; past the end of the pixels they are 13
     ∷ (fillScanline six 3 2 2 0 1 7 gives (0 ∷ six))
     ∷ (setScanline six 3 2 0 3 1 (7 ∷ []) gives (0 ∷ six))
@@ -54,6 +69,6 @@ table =
     ∷ (region six 3 0 0 4 1 gives (13 ∷ []))
     ∷ []
 
-pub holds : map (λ l. l .gives .answer ∷ l .gives .pixels) table ≡ map (λ l. l .says) table
-unfolding table _gives_ six Pixels.scanline Pixels.lineWritten Pixels.region
+pub holds : map (λ l. l .gives) table ≡ map (λ l. l .says) table
+unfolding table _gives_ _lies_ six Pixels.scanlineRange Pixels.lineWritten Pixels.region
 holds = refl

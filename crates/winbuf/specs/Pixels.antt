@@ -6,6 +6,7 @@ use lib.Dec.{leb, ltb, eqb}
 use lib.ListN.{length, take, drop, replicate}
 use lib.Seq.{sets}
 use Rattle.geom.specs.Questions.{_is_, asked, small}
+use Rattle.winbuf.specs.declared.ScanlineRange.{ScanlineRange}
 
 -- rows 0 to n-1 written in their order, row r from place `at r` on: the form of every write of pixels
 unfoldable pub writeRows : ℕ → (ℕ → ℕ) → (ℕ → List ℕ) → List ℕ → List ℕ
@@ -38,22 +39,32 @@ smallLine w h line ofs len = small w && small h && (small line && small ofs && s
 abbrev pub onLine : ℕ → ℕ → ℕ → ℕ → Bool
 onLine w h line ofs = ltb line h && ltb ofs w
 
--- not "a cut part that passes the end of the pixels"
-abbrev pub inSlice : List ℕ → ℕ → ℕ → ℕ → ℕ → Bool
-inSlice ps w line ofs len = leb (lineStart w line ofs + lineLength w ofs len) (length ps)
+-- not "a cut part that passes the end of the pixels", of which there are `total`
+abbrev pub inSlice : ℕ → ℕ → ℕ → ℕ → ℕ → Bool
+inSlice total w line ofs len = leb (lineStart w line ofs + lineLength w ofs len) total
 
--- "handed back as a part of the lent pixels …. Width 0 gives an empty part and answer 0; line ≥ height or ofs ≥ width is 13,
--- and so is a cut part that passes the end of the pixels."
-unfoldable pub scanline : List ℕ → ℕ → ℕ → ℕ → ℕ → ℕ → Part
+-- "a part empty, any other number handed back 0"
+abbrev pub noPart : ℕ → ScanlineRange
+noPart a = record { answer = a; start = 0; count = 0 }
+
+-- where a scanline of `total` pixels lies: `count` of them from `start` on. "Width 0 gives an empty part and answer 0; line ≥ height or
+-- ofs ≥ width is 13, and so is a cut part that passes the end of the pixels."
+unfoldable pub scanlineRange : ℕ → ℕ → ℕ → ℕ → ℕ → ℕ → ScanlineRange
+scanlineRange total w h line ofs len =
+    let a : ℕ = asked ((5 is smallLine w h line ofs len) ∷ (13 is (eqb w 0 || onLine w h line ofs && inSlice total w line ofs len)) ∷ []) in
+    cond (eqb a 0 && not (eqb w 0)) (record { answer = a; start = lineStart w line ofs; count = lineLength w ofs len }) (noPart a)
+
+-- "handed back as a part of the lent pixels"
+abbrev pub scanline : List ℕ → ℕ → ℕ → ℕ → ℕ → ℕ → Part
 scanline ps w h line ofs len =
-    let a : ℕ = asked ((5 is smallLine w h line ofs len) ∷ (13 is (eqb w 0 || onLine w h line ofs && inSlice ps w line ofs len)) ∷ []) in
-    record { answer = a; pixels = cond (eqb a 0 && not (eqb w 0)) (part (lineStart w line ofs) (lineLength w ofs len) ps) [] }
+    let r : ScanlineRange = scanlineRange (length ps) w h line ofs len in
+    record { answer = r .answer; pixels = part (r .start) (r .count) ps }
 
 -- "Filling or setting with line ≥ height or ofs ≥ width does nothing and answers 0; past the end of the pixels it is 13."
 -- The values `vs` are written from the scanline's start on.
 unfoldable pub lineWritten : List ℕ → ℕ → ℕ → ℕ → ℕ → ℕ → List ℕ → Part
 lineWritten ps w h line ofs len vs =
-    let a : ℕ = asked ((5 is smallLine w h line ofs len) ∷ (13 is (not (onLine w h line ofs) || inSlice ps w line ofs len)) ∷ []) in
+    let a : ℕ = asked ((5 is smallLine w h line ofs len) ∷ (13 is (not (onLine w h line ofs) || inSlice (length ps) w line ofs len)) ∷ []) in
     record { answer = a; pixels = cond (eqb a 0 && onLine w h line ofs) (sets ps (lineStart w line ofs) vs) ps }
 
 abbrev pub fillScanline : List ℕ → ℕ → ℕ → ℕ → ℕ → ℕ → ℕ → Part

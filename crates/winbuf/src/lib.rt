@@ -1,7 +1,8 @@
 // Pixels in a lent slice: document 01, "Pixels". Translated from winbuf.rs, with its names.
 //
 // The calls here take any arguments and ask questions 5 and 13. Our own crates, which know what they lend, call `inner`.
-ghost use Rattle.winbuf.specs.Pixels.{lineStart, scanline, fillScanline, setScanline, region};
+ghost use mathlib.Core.Path.{_≡_};
+ghost use Rattle.winbuf.specs.Pixels.{lineStart, noPart, scanlineRange, scanline, fillScanline, setScanline, region};
 ghost use Rattle.winbuf.specs.Bare.{Gives, Hands, regionStart};
 use inner::least;
 use inner::place::Place;
@@ -13,7 +14,50 @@ use inner::row::fill_part;
 
 pub mod inner;
 
-// A scanline, cut to the width: a part of `pixels`.
+// Where a scanline lies in lent pixels: `count` of them from `start` on.
+#[repr(C)]
+pub struct ScanlineRange {
+    pub answer: u32,
+    pub start: usize,
+    pub count: usize,
+}
+
+fn no_part(answer: u32) -> ScanlineRange
+    ensures { λ r. ⌜ r ≡ noPart answer ⌝ }
+{
+    ScanlineRange {
+        answer,
+        start: 0,
+        count: 0,
+    }
+}
+
+// A scanline, cut to the width, of pixels of which there are `total`. Who writes through `&mut pixels[start..start + count]` knows what
+// `pixels` hold afterwards.
+pub fn scanline_range(
+    total: usize,
+    width: u32,
+    height: u32,
+    line: u32,
+    ofs: u32,
+    len: u32,
+) -> ScanlineRange
+    ensures { λ r. ⌜ r ≡ scanlineRange total width height line ofs len ⌝ }
+{
+    let place = line_place(total, width, height, line, ofs, len);
+    match place {
+        Place::Large => no_part(5),
+        Place::Beside => { if width == 0 { no_part(0) } else { no_part(13) } }
+        Place::Outside => no_part(13),
+        Place::Found { start, count } => ScanlineRange {
+            answer: 0,
+            start,
+            count,
+        },
+    }
+}
+
+// The pixels of a scanline: a part of `pixels`.
 pub fn scanline_rgn<'a>(
     pixels: &'a [u32],
     width: u32,
@@ -25,30 +69,11 @@ pub fn scanline_rgn<'a>(
 ) -> &'a [u32]
     ensures { λ r. ⌜ Hands (scanline (now (pixels .entry)) width height line ofs len) (lineStart width line ofs) (pixels .entry) (now (answer .exit)) r ⌝ }
 {
-    let place = line_place(pixels.len(), width, height, line, ofs, len);
-    match place {
-        Place::Large => {
-            *answer = 5;
-            &pixels[..0]
-        }
-        Place::Beside => {
-            if width == 0 {
-                *answer = 0;
-                &pixels[..0]
-            } else {
-                *answer = 13;
-                &pixels[..0]
-            }
-        }
-        Place::Outside => {
-            *answer = 13;
-            &pixels[..0]
-        }
-        Place::Found { start, count } => {
-            *answer = 0;
-            &pixels[start..start + count]
-        }
-    }
+    let range = scanline_range(pixels.len(), width, height, line, ofs, len);
+    let start = range.start;
+    let count = range.count;
+    *answer = range.answer;
+    &pixels[start..start + count]
 }
 
 // The same of pixels to be written. What is written through the part is written in `pixels`: `Hands` says that the part's
@@ -64,30 +89,11 @@ pub fn scanline_rgn_mut<'a>(
 ) -> &'a mut [u32]
     ensures { λ r. ⌜ Hands (scanline (now (pixels .entry)) width height line ofs len) (lineStart width line ofs) (pixels .entry) (now (answer .exit)) r ⌝ }
 {
-    let place = line_place(pixels.len(), width, height, line, ofs, len);
-    match place {
-        Place::Large => {
-            *answer = 5;
-            &mut pixels[..0]
-        }
-        Place::Beside => {
-            if width == 0 {
-                *answer = 0;
-                &mut pixels[..0]
-            } else {
-                *answer = 13;
-                &mut pixels[..0]
-            }
-        }
-        Place::Outside => {
-            *answer = 13;
-            &mut pixels[..0]
-        }
-        Place::Found { start, count } => {
-            *answer = 0;
-            &mut pixels[start..start + count]
-        }
-    }
+    let range = scanline_range(pixels.len(), width, height, line, ofs, len);
+    let start = range.start;
+    let count = range.count;
+    *answer = range.answer;
+    &mut pixels[start..start + count]
 }
 
 // A line or an offset beside the picture does nothing, here and in `set_scanline`.

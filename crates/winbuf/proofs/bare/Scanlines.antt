@@ -14,9 +14,11 @@ use Rattle.geom.specs.Questions.{_is_, asked}
 use Rattle.geom.proofs.basics.Tests.{snd, on-cond, says-and, says-le}
 use Rattle.winbuf.specs.declared.inner.place.Place.{Place}
 use Rattle.winbuf.specs.declared.inner.place.Place.the-variants.{Large, Beside, Outside, Found}
-use Rattle.winbuf.specs.Pixels.{Part, part, lineStart, lineLength, smallLine, onLine, inSlice, scanline, lineWritten}
+use Rattle.winbuf.specs.declared.ScanlineRange.{ScanlineRange}
+use Rattle.winbuf.specs.Pixels.{Part, part, lineStart, lineLength, smallLine, onLine, inSlice, noPart, scanlineRange, scanline, lineWritten}
 use Rattle.winbuf.specs.Bare.{Gives, Hands}
 use Rattle.winbuf.specs.Places.{linePlace}
+use Rattle.winbuf.proofs.rows.Paint.{length-part}
 
 -- Small numbers ------------------------------------------------------------------------------------------------------
 
@@ -30,6 +32,11 @@ line-small w h line ofs len e =
 
 pub line-in : (w h line ofs : ℕ) → onLine w h line ofs ≡ true → ofs < w
 line-in w h line ofs e = ltb-true ofs w (snd (ltb line h) (ltb ofs w) e)
+
+-- a range that names pixels begins at `at`, and lies in `total` pixels
+pub record Within (total at : ℕ) (r : ScanlineRange) : Type 0 where
+  pub ends : r .start + r .count ≤ total
+  pub begins : 0 < r .count → r .start ≡ at
 
 -- The place ----------------------------------------------------------------------------------------------------------
 
@@ -56,36 +63,14 @@ module _ (total w h line ofs len : ℕ) where
   unfolding linePlace
   place-large a = simp a
 
--- a place that was found is the rule's, and lies in the pixels
-abbrev Lies : ℕ → ℕ → Place → Type 0
-Lies total at (Found a n) = (a ≡ at) × (a + n ≤ total)
-Lies total at Outside = Unit {0}
-Lies total at Beside = Unit {0}
-Lies total at Large = Unit {0}
-
-line-lies : (total w h line ofs len : ℕ) → Lies total (lineStart w line ofs) (linePlace total w h line ofs len)
-unfolding linePlace
-line-lies total w h line ofs len =
-    let at : ℕ = lineStart w line ofs in
-    let n : ℕ = lineLength w ofs len in
-    on-cond (Lies total at) (smallLine w h line ofs len) _ Large
-    (λ a. on-cond (Lies total at) (onLine w h line ofs) _ Beside
-    (λ b. on-cond (Lies total at) (leb (at + n) total) (Found at n) Outside (λ e. (refl, leb-true _ _ e)) (λ e. tt))
-    (λ b. tt))
-    (λ a. tt)
-
-pub found-lies : (total w h line ofs len : ℕ) (p : Place) (a n : ℕ) → p ≡ linePlace total w h line ofs len → p ≡ Found a n
-    → (a ≡ lineStart w line ofs) × (a + n ≤ total)
-found-lies total w h line ofs len p a n e k = subst (Lies total (lineStart w line ofs)) (sym e ∙ k) (line-lies total w h line ofs len)
-
 -- What a call leaves -------------------------------------------------------------------------------------------------
 
--- a part handed back; `none` tells that the width is 0
-abbrev pub handed : Bool → List ℕ → Place → Part
-handed none ps (Found a n) = record { answer = 0; pixels = part a n ps }
-handed none ps Outside = record { answer = 13; pixels = [] }
-handed none ps Beside = record { answer = cond none 0 13; pixels = [] }
-handed none ps Large = record { answer = 5; pixels = [] }
+-- where the part handed back lies; `none` tells that the width is 0
+abbrev pub ranged : Bool → Place → ScanlineRange
+ranged none (Found a n) = record { answer = 0; start = a; count = n }
+ranged none Outside = noPart 13
+ranged none Beside = noPart (cond none 0 13)
+ranged none Large = noPart 5
 
 -- a part written: n values of f
 abbrev pub put : (ℕ → List ℕ) → List ℕ → Place → Part
@@ -94,10 +79,10 @@ put f ps Outside = record { answer = 13; pixels = ps }
 put f ps Beside = record { answer = 0; pixels = ps }
 put f ps Large = record { answer = 5; pixels = ps }
 
-module _ (ps : List ℕ) (w h line ofs len : ℕ) where
-  scanline-is : scanline ps w h line ofs len ≡ handed (eqb w 0) ps (linePlace (length ps) w h line ofs len)
-  unfolding scanline linePlace
-  scanline-is = go (smallLine w h line ofs len) (onLine w h line ofs) refl (inSlice ps w line ofs len) (eqb w 0) refl
+module _ (total w h line ofs len : ℕ) where
+  range-is : scanlineRange total w h line ofs len ≡ ranged (eqb w 0) (linePlace total w h line ofs len)
+  unfolding scanlineRange linePlace
+  range-is = go (smallLine w h line ofs len) (onLine w h line ofs) refl (inSlice total w line ofs len) (eqb w 0) refl
     where
       s : ℕ
       s = lineStart w line ofs
@@ -105,13 +90,13 @@ module _ (ps : List ℕ) (w h line ofs len : ℕ) where
       n : ℕ
       n = lineLength w ofs len
 
-      leaves : Bool → Bool → Bool → Bool → Part
+      leaves : Bool → Bool → Bool → Bool → ScanlineRange
       leaves a b i z =
           let k : ℕ = asked ((5 is a) ∷ (13 is (z || b && i)) ∷ []) in
-          record { answer = k; pixels = cond (eqb k 0 && not z) (part s n ps) [] }
+          cond (eqb k 0 && not z) (record { answer = k; start = s; count = n }) (noPart k)
 
       go : (a b : Bool) → onLine w h line ofs ≡ b → (i z : Bool) → eqb w 0 ≡ z
-          → leaves a b i z ≡ handed z ps (cond a (cond b (cond i (Found s n) Outside) Beside) Large)
+          → leaves a b i z ≡ ranged z (cond a (cond b (cond i (Found s n) Outside) Beside) Large)
       go false b eb i z ez = refl
       go true true eb i true ez = absurd (omega (arith, line-in w h line ofs eb, eqb-true w 0 ez))
       go true true eb true false ez = refl
@@ -119,10 +104,34 @@ module _ (ps : List ℕ) (w h line ofs len : ℕ) where
       go true false eb i true ez = refl
       go true false eb i false ez = refl
 
+  line-within : (z : Bool) → Within total (lineStart w line ofs) (ranged z (linePlace total w h line ofs len))
+  unfolding linePlace
+  line-within z =
+      let at : ℕ = lineStart w line ofs in
+      let n : ℕ = lineLength w ofs len in
+      let P : Place → Type 0 = λ p. Within total at (ranged z p) in
+      let none : (a : ℕ) → Within total at (noPart a) = λ a. record { ends = omega arith; begins = λ l. absurd (omega arith) } in
+      on-cond P (smallLine w h line ofs len) _ Large
+      (λ a. on-cond P (onLine w h line ofs) _ Beside
+      (λ b. on-cond P (inSlice total w line ofs len) (Found at n) Outside (λ e. record { ends = leb-true _ _ e; begins = λ l. refl }) (λ e. none 13))
+      (λ b. none (cond z 0 13)))
+      (λ a. none 5)
+
+  pub range-within : (g : ScanlineRange) → g ≡ scanlineRange total w h line ofs len → Within total (lineStart w line ofs) g
+  range-within g e = rw (e, range-is) (line-within (eqb w 0))
+
+  -- p is the place that the code found, q the case that it took
+  pub found-lies : (p : Place) (a n : ℕ) → p ≡ linePlace total w h line ofs len → p ≡ Found a n → a + n ≤ total
+  found-lies p a n e k = subst (λ (q : Place). Within total (lineStart w line ofs) (ranged false q)) (sym e ∙ k) (line-within false) .ends
+
+  pub range-of : (p q : Place) → p ≡ linePlace total w h line ofs len → p ≡ q → ranged (eqb w 0) q ≡ scanlineRange total w h line ofs len
+  range-of p q e k = ap (ranged (eqb w 0)) (sym k ∙ e) ∙ sym range-is
+
+module _ (ps : List ℕ) (w h line ofs len : ℕ) where
   written-is : (f : ℕ → List ℕ)
       → lineWritten ps w h line ofs len (f (lineLength w ofs len)) ≡ put f ps (linePlace (length ps) w h line ofs len)
   unfolding lineWritten linePlace
-  written-is f = go (smallLine w h line ofs len) (onLine w h line ofs) (inSlice ps w line ofs len)
+  written-is f = go (smallLine w h line ofs len) (onLine w h line ofs) (inSlice (length ps) w line ofs len)
     where
       s : ℕ
       s = lineStart w line ofs
@@ -151,26 +160,16 @@ module _ (ps : List ℕ) (w h line ofs len : ℕ) (p q : Place) (e : p ≡ lineP
       written-is ps w h line ofs len f ∙ ap (put f ps) (sym e ∙ k) in
       record { answer = ea ∙ sym (ap (λ (x : Part). x .answer) r); pixels = eq ∙ sym (ap (λ (x : Part). x .pixels) r) }
 
-  gives-scanline : (a : ℕ) (qs : List ℕ) → a ≡ handed (eqb w 0) ps q .answer → qs ≡ handed (eqb w 0) ps q .pixels
-      → Gives (scanline ps w h line ofs len) a qs
-  gives-scanline a qs ea eq =
-      let r : scanline ps w h line ofs len ≡ handed (eqb w 0) ps q =
-      scanline-is ps w h line ofs len ∙ ap (handed (eqb w 0) ps) (sym e ∙ k) in
-      record { answer = ea ∙ sym (ap (λ (x : Part). x .answer) r); pixels = eq ∙ sym (ap (λ (x : Part). x .pixels) r) }
-
-module _ (lent : RefT (List ℕ)) (w h line ofs len : ℕ) (p : Place) (e : p ≡ linePlace (length (now lent)) w h line ofs len) where
-  pub hands-none : (q : Place) (a : ℕ) (r : RefT (List ℕ)) → p ≡ q → a ≡ handed (eqb w 0) (now lent) q .answer
-      → now r ≡ handed (eqb w 0) (now lent) q .pixels → now r ≡ []
-      → Hands (scanline (now lent) w h line ofs len) (lineStart w line ofs) lent a r
-  hands-none q a r k ea eq none =
-      let g : Gives (scanline (now lent) w h line ofs len) a (now r) = gives-scanline (now lent) w h line ofs len p q e k a (now r) ea eq in
-      record { answer = g .answer; pixels = g .pixels; memory = λ l. absurd (omega (arith, ap length none)) }
-
-  pub hands-found : (s n : ℕ) (r : RefT (List ℕ)) → p ≡ Found s n → now r ≡ part s n (now lent)
-      → r .ptr ≡ (lent .ptr .0, s * 4 + lent .ptr .1)
-      → Hands (scanline (now lent) w h line ofs len) (lineStart w line ofs) lent 0 r
-  hands-found s n r k eq m =
-      let g : Gives (scanline (now lent) w h line ofs len) 0 (now r) =
-      gives-scanline (now lent) w h line ofs len p (Found s n) e k 0 (now r) refl eq in
-      let at : s ≡ lineStart w line ofs = found-lies (length (now lent)) w h line ofs len p s n e k .0 in
-      record { answer = g .answer; pixels = g .pixels; memory = λ l. m ∙ ap (λ (i : ℕ). (lent .ptr .0, i * 4 + lent .ptr .1)) at }
+-- the part that a range names is the rule's
+module _ (lent : RefT (List ℕ)) (w h line ofs len : ℕ) (g : ScanlineRange) (e : g ≡ scanlineRange (length (now lent)) w h line ofs len) where
+  pub hands-range : (r : RefT (List ℕ)) → now r ≡ part (g .start) (g .count) (now lent)
+      → r .ptr ≡ (lent .ptr .0, g .start * 4 + lent .ptr .1)
+      → Hands (scanline (now lent) w h line ofs len) (lineStart w line ofs) lent (g .answer) r
+  hands-range r eq m =
+      record {
+        answer = ap (λ (x : ScanlineRange). x .answer) e;
+        pixels = eq ∙ ap (λ (x : ScanlineRange). part (x .start) (x .count) (now lent)) e;
+        memory = λ l.
+            let some : 0 < g .count = omega (arith, ap length eq, length-part (g .start) (g .count) (now lent)) in
+            m ∙ ap (λ (i : ℕ). (lent .ptr .0, i * 4 + lent .ptr .1)) (range-within (length (now lent)) w h line ofs len g e .begins some);
+      }

@@ -41,7 +41,7 @@ fill-part-requires c κs =
     let x = c .before .before .before .before .before .before .args in
     let p = c .before .before .before .before .line-place in
     let g = c .before .before .place .given in
-    found-lies (length (x .pixels .now)) (x .width) (x .height) (x .line) (x .ofs) (x .len) (p .result) (g .0 .0) (g .0 .1 .0) (p .ensures) (g .1) .1
+    found-lies (length (x .pixels .now)) (x .width) (x .height) (x .line) (x .ofs) (x .len) (p .result) (g .0 .0) (g .0 .1 .0) (p .ensures) (g .1)
 
 returns : tie.Need-returns
 returns c = left (c .before .before) Large 5 _ (c .enum-told .given .1) refl refl
