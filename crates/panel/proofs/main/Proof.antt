@@ -160,6 +160,9 @@ is-press-requires c κs = search needs
 expect-requires-9 : tie.Need-expect-requires-9
 expect-requires-9 c κs = c .is-press .ensures ∙ ap (λ (e : Option Event). isPress e 1 1) (event (c .before .before .before))
 
+scanlines-requires : tie.Need-scanlines-requires
+scanlines-requires c κs = search needs
+
 returns : tie.Need-returns
 returns c = search needs
 
@@ -195,4 +198,5 @@ main-spec =
     expect-requires-8
     is-press-requires
     expect-requires-9
+    scanlines-requires
     returns)
