@@ -4,7 +4,7 @@ ghost use Rattle.winbuf.specs.Pixels.{lineStart, scanline, fillScanline, setSca
 ghost use Rattle.winbuf.specs.Bare.{Gives, regionStart};
 ghost use Rattle.station.specs.Parts.{Lies};
 use stride::region_of;
-use winbuf::scanline_rgn;
+use winbuf::scanline_range;
 
 #[no_mangle]
 pub extern "C" fn roq_fill_scanline(
@@ -56,16 +56,15 @@ pub extern "C" fn roq_scanline(
 ) -> RoqPart
     ensures { λ r. ⌜ Lies (scanline (now (pixels .entry)) width height line ofs len) (lineStart width line ofs) (now (pixels .entry)) r ⌝ }
 {
-    let mut answer: u32 = 0;
-    let count = scanline_rgn(pixels, width, height, line, ofs, len, &mut answer).len();
+    let range = scanline_range(pixels.len(), width, height, line, ofs, len);
     let mut start: usize = 0;
-    if count != 0 {
-        start = line as usize * width as usize + ofs as usize;
+    if range.count != 0 {
+        start = range.start;
     }
     RoqPart {
-        answer,
+        answer: range.answer,
         start,
-        count,
+        count: range.count,
     }
 }
 

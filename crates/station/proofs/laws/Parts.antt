@@ -1,7 +1,7 @@
 -- A part of lent pixels is told by where it begins and how long it is.
 use Prim.Native.Nat.{ℕ, zero, suc, _+_, _-_, _*_, _≤_}
-use mathlib.Core.Path.{_≡_, refl, sym, ap, subst}
-use mathlib.Core.Bool.{Bool, true, false, cond, not, _&&_}
+use mathlib.Core.Path.{_≡_, refl, sym, ap, _∙_, subst}
+use mathlib.Core.Bool.{Bool, true, false, cond}
 use mathlib.Core.List.{List, [], _∷_}
 use native.Mathlib.Omega.{arith}
 use lib.Dec.{eqb}
@@ -9,9 +9,12 @@ use lib.ListN.{length, take, drop}
 use denote.Ref.{RefT, now}
 use borrow.Author.Tests.{eq-eqb, ne-eqb}
 use Rattle.geom.specs.Questions.{_is_, asked}
-use Rattle.winbuf.specs.Pixels.{Part, part, lineStart, lineLength, scanline, region}
+use Rattle.winbuf.specs.declared.ScanlineRange.{ScanlineRange}
+use Rattle.winbuf.specs.Pixels.{Part, part, lineStart, scanlineRange, scanline, region}
 use Rattle.winbuf.specs.Bare.{Hands, regionStart}
 use Rattle.winbuf.specs.Places.{smallArea, regionFits}
+use Rattle.winbuf.proofs.rows.Runs.{full-part}
+use Rattle.winbuf.proofs.bare.Scanlines.{Within, range-within}
 use Rattle.winbuf.proofs.bare.Regions.{regionEnd, fits-end}
 use Rattle.station.specs.declared.pixels.RoqPart.{RoqPart}
 use Rattle.station.specs.Parts.{Lies}
@@ -36,10 +39,6 @@ cuts true at n ps (suc k) e =
     let s : at ≡ cond (eqb (suc k) 0) 0 at = rw (ne-eqb (suc k) 0 (omega arith)) in
     subst (λ (i : ℕ). part i (suc k) ps ≡ part at n ps) s
     (subst (λ (m : ℕ). take m (drop at ps) ≡ take n (drop at ps)) (sym e) (take-taken n (drop at ps)))
-
-pub scanline-cuts : (ps : List ℕ) (w h line ofs len : ℕ) → Cuts (lineStart w line ofs) ps (scanline ps w h line ofs len .pixels)
-unfolding scanline
-scanline-cuts ps w h line ofs len = cuts (eqb (scanline ps w h line ofs len .answer) 0 && not (eqb w 0)) (lineStart w line ofs) (lineLength w ofs len) ps
 
 pub region-cuts : (ps : List ℕ) (stride x y w h : ℕ) → Cuts (regionStart stride x y) ps (region ps stride x y w h .pixels)
 unfolding region
@@ -69,3 +68,24 @@ module _ {rule : Part} {at : ℕ} {lent : RefT (List ℕ)} {a : ℕ} {r : RefT (
       let k : length (now r) ≡ length (rule .pixels) = ap length (g .pixels) in
       let s : cond (eqb (length (now r)) 0) 0 at ≡ 0 = rw (eq-eqb (length (now r)) 0 none) in
       record { answer = g .answer; count = k; start = sym s; pixels = subst (λ (i : ℕ). part i (length (now r)) (now lent) ≡ rule .pixels) s (cut (length (now r)) k) }
+
+-- the part that a range names; one of no pixels begins at 0
+module _ (ps : List ℕ) (w h line ofs len : ℕ) (g : ScanlineRange) (e : g ≡ scanlineRange (length ps) w h line ofs len) where
+  within : Within (length ps) (lineStart w line ofs) g
+  within = range-within (length ps) w h line ofs len g e
+
+  lies-at : (s : ℕ) → s ≡ cond (eqb (g .count) 0) 0 (lineStart w line ofs) → part s (g .count) ps ≡ part (g .start) (g .count) ps
+      → Lies (scanline ps w h line ofs len) (lineStart w line ofs) ps (partAt (g .answer) s (g .count))
+  lies-at s es ep =
+      record {
+        answer = ap (λ (x : ScanlineRange). x .answer) e;
+        count = sym (full-part ps (g .start) (g .count) (within .ends)) ∙ ap (λ (x : ScanlineRange). length (part (x .start) (x .count) ps)) e;
+        start = es;
+        pixels = ep ∙ ap (λ (x : ScanlineRange). part (x .start) (x .count) ps) e;
+      }
+
+  pub range-some : (g .count ≡ 0 → ⊥) → Lies (scanline ps w h line ofs len) (lineStart w line ofs) ps (partAt (g .answer) (g .start) (g .count))
+  range-some any = lies-at (g .start) (rw (ne-eqb (g .count) 0 any) (within .begins (omega arith))) refl
+
+  pub range-none : g .count ≡ 0 → Lies (scanline ps w h line ofs len) (lineStart w line ofs) ps (partAt (g .answer) 0 (g .count))
+  range-none none = lies-at 0 (rw (eq-eqb (g .count) 0 none)) (rw none)
