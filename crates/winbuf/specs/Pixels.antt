@@ -17,6 +17,13 @@ writeRows (suc n) at row s = sets (writeRows n at row s) (at n) (row n)
 abbrev pub part : ℕ → ℕ → List ℕ → List ℕ
 part at n s = take n (drop at s)
 
+-- "Resize keeps the common top left rectangle; every other pixel of the window's C becomes 0": of a window whose c pixels begin at
+-- `base` of the store s and that goes from w0 by h0 to w1 by h1. The c are cleared, then the common rows written, each from its old
+-- place to its new one
+unfoldable pub resizedAt : ℕ → ℕ → ℕ → ℕ → ℕ → ℕ → List ℕ → List ℕ
+resizedAt base c w0 h0 w1 h1 s =
+    writeRows (min h1 h0) (λ r. base + r * w1) (λ r. part (base + r * w0) (min w1 w0) s) (sets s base (replicate c 0))
+
 -- Bare pixels: "These calls take lent pixels with a width and height, and no session." -----------------------------------
 
 -- what such a call leaves: its answer, and the part handed back or the pixels after it

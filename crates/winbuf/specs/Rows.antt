@@ -1,18 +1,12 @@
--- What the functions of `inner` say beside the rules of Pixels: rows that have room, and a window's rows at a new size.
+-- What the functions of `inner` say beside the rules of Pixels: a window's rows at a new size, and rows that have room.
 use Prim.Native.Nat.{ℕ, _+_, _*_, _≤_, _<_, min}
 use mathlib.Core.List.{List}
 use lib.ListN.{replicate}
-use lib.Seq.{sets}
 use Rattle.winbuf.specs.Pixels.{writeRows, part}
 
--- a window's own c pixels after it went from w0 by h0 to w1 by h1: the common top left rectangle stays, all else is 0
+-- a window's own c pixels after it went from w0 by h0 to w1 by h1: `resizedAt` without the store around them
 unfoldable pub resized : ℕ → ℕ → ℕ → ℕ → ℕ → List ℕ → List ℕ
 resized c w0 h0 w1 h1 s = writeRows (min h1 h0) (λ r. r * w1) (λ r. part (r * w0) (min w1 w0) s) (replicate c 0)
-
--- the same in a store, where the window's c pixels begin at `base`
-unfoldable pub resizedAt : ℕ → ℕ → ℕ → ℕ → ℕ → ℕ → List ℕ → List ℕ
-resizedAt base c w0 h0 w1 h1 s =
-    writeRows (min h1 h0) (λ r. base + r * w1) (λ r. part (base + r * w0) (min w1 w0) s) (sets s base (replicate c 0))
 
 -- n rows of w pixels lie in a slice of `len`, the first at `at` and each `pitch` after the one before
 pub record Fit (len at pitch w n : ℕ) : Type 0 where

@@ -18,7 +18,7 @@ use Rattle.window.specs.declared.damage.Area.{Area}
 use Rattle.window.specs.declared.damage.Damage.{Damage}
 use Rattle.window.specs.declared.damage.Merged.{Merged}
 use Rattle.window.specs.declared.Window.{Window}
-use Rattle.window.specs.Window.{Win, pushed, mergeOrAppend, addDirty, cursorAtOrigin}
+use Rattle.window.specs.Window.{Win, pushed, mergeOrAppend, addDirty}
 
 -- An event in a queue ---------------------------------------------------------------------------------------------------
 
@@ -157,7 +157,3 @@ pub record RepWindow (w : Window) : Type 0 where
   pub damage : RepDamage (w .damage)
   pub queue : RepQueue (w .queue)
   pub cursor : RepCursor (w .cursor)
-
--- "at (0,0), size (0,0), hidden, unmarked, no damage, no events, cursor at (0,0)"
-abbrev pub newWindow : Win
-newWindow = record { at = rect 0 0 0 0; marked = false; damage = []; queue = []; cursor = cursorAtOrigin }

@@ -19,6 +19,14 @@ pub record Win : Type 0 where
   pub queue : List Event
   pub cursor : CursorPos
 
+-- "cursor at (0,0)"
+abbrev pub cursorAtOrigin : CursorPos
+cursorAtOrigin = record { «old_x» = 0; «old_y» = 0; «new_x» = 0; «new_y» = 0; «is_dirty» = false }
+
+-- "at (0,0), size (0,0), hidden, unmarked, no damage, no events, cursor at (0,0)"
+abbrev pub newWin : Win
+newWin = record { at = rect 0 0 0 0; marked = false; damage = []; queue = []; cursor = cursorAtOrigin }
+
 -- Damage ---------------------------------------------------------------------------------------------------------------
 
 -- "if an entry contains it"
@@ -52,10 +60,6 @@ addDirty w h es a =
 -- "holds 16 events, first in first out, and drops the newcomer when full"
 unfoldable pub pushed : List Event → Event → List Event
 pushed q e = cond (ltb (length q) 16) (q ++ (e ∷ [])) q
-
--- "cursor at (0,0)"
-abbrev pub cursorAtOrigin : CursorPos
-cursorAtOrigin = record { «old_x» = 0; «old_y» = 0; «new_x» = 0; «new_y» = 0; «is_dirty» = false }
 
 -- "MouseMove only replaces the cursor's new point": there is an unread move now
 unfoldable pub cursorTo : CursorPos → ℕ → ℕ → CursorPos

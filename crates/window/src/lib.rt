@@ -3,7 +3,8 @@
 // The functions here are called by our own crates. Each `requires` is part of what a session keeps of its windows (specs/Held.antt).
 ghost use mathlib.Core.Path.{_≡_};
 ghost use mathlib.Core.Bool.{true, false};
-ghost use Rattle.window.specs.Held.{winOf, newWindow, RepWindow};
+ghost use Rattle.window.specs.Window.{newWin};
+ghost use Rattle.window.specs.Held.{winOf, RepWindow};
 use damage::Area;
 use damage::Damage;
 use queue::Queue;
@@ -68,7 +69,7 @@ pub struct Window {
 impl Window {
     // A new window: at (0,0), of no size, unmarked, with no damage and no events, its cursor at (0,0).
     pub fn fresh() -> Window
-        ensures { λ w. ⌜ (w .used ≡ true) × (winOf w ≡ newWindow) × RepWindow w ⌝ }
+        ensures { λ w. ⌜ (w .used ≡ true) × (winOf w ≡ newWin) × RepWindow w ⌝ }
     {
         let mut w = Window::unused();
         w.used = true;
@@ -77,7 +78,7 @@ impl Window {
 
     // The window of an id that is not in use.
     pub fn unused() -> Window
-        ensures { λ w. ⌜ (w .used ≡ false) × (winOf w ≡ newWindow) × RepWindow w ⌝ }
+        ensures { λ w. ⌜ (w .used ≡ false) × (winOf w ≡ newWin) × RepWindow w ⌝ }
     {
         let queue = Queue::new();
         let damage = Damage::none();

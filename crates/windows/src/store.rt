@@ -5,7 +5,7 @@ ghost use mathlib.Core.Bool.{_&&_};
 ghost use lib.ListN.{length};
 ghost use Rattle.geom.specs.Questions.{small};
 ghost use Rattle.geom.specs.Geom.{rect, smallRect};
-ghost use Rattle.winbuf.specs.Rows.{resizedAt};
+ghost use Rattle.winbuf.specs.Pixels.{resizedAt};
 ghost use Rattle.window.specs.Held.{Small, RepWindow, winOf};
 ghost use Rattle.rules.specs.Store as rule;
 ghost use Rattle.rules.specs.Calls.{Call};

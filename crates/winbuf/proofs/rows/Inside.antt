@@ -6,8 +6,8 @@ use native.Mathlib.Omega.{arith}
 use native.Mathlib.Nat.{add-zero, not-suc-le-zero}
 use lib.ListN.{length, take, drop, set, replicate, length-set, length-take, length-replicate}
 use lib.Seq.{sets, set-comm, set-set, take-take, drop-drop}
-use Rattle.winbuf.specs.Pixels.{writeRows, part}
-use Rattle.winbuf.specs.Rows.{resized, resizedAt}
+use Rattle.winbuf.specs.Pixels.{writeRows, part, resizedAt}
+use Rattle.winbuf.specs.Rows.{resized}
 use Rattle.winbuf.proofs.rows.Runs.{full-part}
 use Rattle.winbuf.proofs.rows.Written.{rows-same}
 use Rattle.winbuf.proofs.rows.Rows.{row-end, length-writeRows, rows-room}

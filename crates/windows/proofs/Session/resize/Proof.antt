@@ -13,7 +13,7 @@ use Rattle.geom.specs.Questions as Questions
 use Rattle.geom.specs.Questions.{_is_}
 use Rattle.geom.specs.Geom.{width, height}
 use Rattle.geom.proofs.basics.Tests.{cond-yes}
-use Rattle.winbuf.specs.Rows.{resizedAt}
+use Rattle.winbuf.specs.Pixels.{resizedAt}
 use Rattle.window.specs.declared.Window.{Window}
 use Rattle.window.specs.Window.{Win}
 use Rattle.window.specs.Held.{winOf}
