@@ -7,10 +7,10 @@ ghost use Rattle.geom.specs.Questions.{small};
 ghost use Rattle.geom.specs.Geom.{rect, smallRect};
 ghost use Rattle.winbuf.specs.Pixels.{resizedAt};
 ghost use Rattle.window.specs.Held.{Small, RepWindow, winOf};
-ghost use Rattle.rules.specs.Store as rule;
+ghost use Rattle.rules.specs.Store.{resizedWin, dirtied, filledAt, blitAt};
 ghost use Rattle.rules.specs.Calls.{Call};
 ghost use Rattle.windows.specs.View.{Given, MeetsStore};
-ghost use Rattle.windows.specs.Pixels.{Becomes, Stored, Resizable, dirtied, filledWin, filledAt, blitWin, blitAt};
+ghost use Rattle.windows.specs.Pixels.{Becomes, Stored, Resizable, filledWin, blitWin};
 use crate::Done;
 use crate::Session;
 use crate::WinId;
@@ -124,7 +124,7 @@ fn blit_rect(
 // The window at a new size, with all of it damaged and Resize queued.
 fn resize(mut win: Window, base: usize, c: usize, size: Dims, store: &mut [u32]) -> Window
     requires { ⌜ Resizable (length (now store)) base c (size .w) (size .h) win ⌝ }
-    ensures { λ r. ⌜ Becomes win (rule.resizedWin (size .w) (size .h) (winOf win)) r × (now (store .exit) ≡ resizedAt base c (win .at .w) (win .at .h) (size .w) (size .h) (now (store .entry))) ⌝ }
+    ensures { λ r. ⌜ Becomes win (resizedWin (size .w) (size .h) (winOf win)) r × (now (store .exit) ≡ resizedAt base c (win .at .w) (win .at .h) (size .w) (size .h) (now (store .entry))) ⌝ }
 {
     let old = win.at;
     resize_store(

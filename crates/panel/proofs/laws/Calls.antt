@@ -89,7 +89,7 @@ pub record Computed : Type 0 where
   pub pop-event : does (after 4 popped) (Pop 0) .event ≡ some (Event.MouseDown 1 1 1)
 
 pub computed : Computed
-unfolding Geom.meets Geom.common Geom.contains Geom.containsRect Geom.pieces Geom.around Geom.ifAny Lists.outside Lists.outsideAll Lists.meetsOf Lists.listIntersect Pixels.writeRows Window.addDirty Window.anyContains Window.merges Window.mergeOrAppend Window.pushed Group.create Group.mark Order.show Visible.visible Events.route Events.pop Store.resize Store.fill Draw.redraw Calls.does Calls.run Calls.after
+unfolding Geom.meets Geom.common Geom.contains Geom.containsRect Geom.pieces Geom.around Geom.ifAny Lists.outside Lists.outsideAll Lists.meetsOf Lists.listIntersect Pixels.writeRows Pixels.resizedAt Window.addDirty Window.anyContains Window.merges Window.mergeOrAppend Window.pushed Group.create Group.mark Order.show Visible.visible Events.route Events.pop Store.resize Store.fill Store.filledAt Draw.redraw Calls.does Calls.run Calls.after
 computed =
     record {
       create-answer = refl;

@@ -29,7 +29,7 @@ use Rattle.rules.specs.Demand.{Two}
 use Rattle.rules.specs.Station.{before, first, between, second, picture}
 
 marked : (id : ℕ) → T (isIn id (bookOf 4 (before ++ (first ∷ between)) .order)) → unmarked id (start 4 .group) false (before ++ (first ∷ between)) ≡ false
-unfolding Geom.meets Geom.common Geom.contains Geom.containsRect Geom.pieces Geom.around Geom.ifAny Lists.outside Lists.outsideAll Lists.meetsOf Lists.listIntersect Pixels.writeRows Window.addDirty Window.anyContains Window.merges Window.mergeOrAppend Window.pushed Group.create Group.move Group.mark Order.show Visible.visible Events.route Store.resize Store.fill Draw.redraw Calls.does Calls.run Calls.after Book.turn Book.read Book.bookOf Conditions.unmarked
+unfolding Geom.meets Geom.common Geom.contains Geom.containsRect Geom.pieces Geom.around Geom.ifAny Lists.outside Lists.outsideAll Lists.meetsOf Lists.listIntersect Pixels.writeRows Pixels.resizedAt Window.addDirty Window.anyContains Window.merges Window.mergeOrAppend Window.pushed Group.create Group.move Group.mark Order.show Visible.visible Events.route Store.resize Store.fill Store.filledAt Draw.redraw Calls.does Calls.run Calls.after Book.turn Book.read Book.bookOf Conditions.unmarked
 marked zero h = refl
 marked (suc zero) h = refl
 marked (suc (suc n)) h =
@@ -38,7 +38,7 @@ marked (suc (suc n)) h =
 
 -- the conditions, and the screen that the second redraw leaves
 pub station : Two 4 3 2 before first between second × (does (after 4 (before ++ (first ∷ between))) second .screen ≡ picture)
-unfolding Geom.meets Geom.common Geom.contains Geom.containsRect Geom.pieces Geom.around Geom.ifAny Lists.outside Lists.outsideAll Lists.meetsOf Lists.listIntersect Pixels.writeRows Window.addDirty Window.anyContains Window.merges Window.mergeOrAppend Window.pushed Group.create Group.move Group.mark Order.show Visible.visible Events.route Store.resize Store.fill Draw.redraw Calls.does Calls.run Calls.after Conditions.Quiet Conditions.Sized Conditions.noRedraw
+unfolding Geom.meets Geom.common Geom.contains Geom.containsRect Geom.pieces Geom.around Geom.ifAny Lists.outside Lists.outsideAll Lists.meetsOf Lists.listIntersect Pixels.writeRows Pixels.resizedAt Window.addDirty Window.anyContains Window.merges Window.mergeOrAppend Window.pushed Group.create Group.move Group.mark Order.show Visible.visible Events.route Store.resize Store.fill Store.filledAt Draw.redraw Calls.does Calls.run Calls.after Conditions.Quiet Conditions.Sized Conditions.noRedraw
 station = (
   record {
     first = tt;

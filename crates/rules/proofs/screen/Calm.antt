@@ -15,7 +15,7 @@ use Rattle.geom.specs.Lists.{anyHas}
 use Rattle.geom.proofs.basics.Tests.{clash, on-cond, cond-yes}
 use Rattle.geom.proofs.basics.Lists.{set-in}
 use Rattle.window.specs.declared.Event.{Event}
-use Rattle.window.specs.Window.{Win}
+use Rattle.window.specs.Window.{Win, newWin}
 use Rattle.window.proofs.laws.Damage.{addDirty-old}
 use Rattle.rules.specs.Group as Group
 use Rattle.rules.specs.Store as Store
@@ -148,7 +148,7 @@ module _ (g : Group) (ok : Ok g) where
   unfolding does Group.create
   stays-create e =
       on-create (Stays g Create) g
-      (λ n f. inr (calm-set g ok n Group.newWin (flag g Create)
+      (λ n f. inr (calm-set g ok n newWin (flag g Create)
       (λ s. clash (ok .shown-used n s) (free-place g n f .1)) (λ id ne u q. rw (f, ne-eqb n id (λ k. ne (sym k))) at q)))
       (λ f. clash e (rw f))
 

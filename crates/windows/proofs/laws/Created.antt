@@ -9,10 +9,10 @@ use native.Mathlib.Numerals.{add-one}
 use lib.ListN.{length, getD, drop, length-map, List·getD-map}
 use lib.Seq.{drop-cons, drop-length}
 use Rattle.window.specs.declared.Window.{Window}
-use Rattle.window.specs.Window.{Win}
+use Rattle.window.specs.Window.{Win, newWin}
 use Rattle.window.specs.Held.{winOf, RepWindow}
 use Rattle.rules.specs.Group as Group
-use Rattle.rules.specs.Group.{firstFree, setWin, newWin}
+use Rattle.rules.specs.Group.{firstFree, setWin}
 use Rattle.rules.specs.Calls.{Create, does}
 use Rattle.windows.specs.declared.Session.{Session}
 use Rattle.windows.specs.declared.NewId.the-variants.{Id, Absent}

@@ -19,8 +19,8 @@ use Rattle.winbuf.specs.Rows.{Inside}
 use Rattle.window.specs.declared.Window.{Window}
 use Rattle.window.specs.Window.{Win}
 use Rattle.window.specs.Held.{winOf, Small}
-use Rattle.rules.specs.Store.{bounds, blitRows}
-use Rattle.windows.specs.Pixels.{Becomes, Stored, dirtied, filledPart, filledWin, filledAt, blitWin, blitAt}
+use Rattle.rules.specs.Store.{dirtied, bounds, filledPart, filledAt, blitRows, blitAt}
+use Rattle.windows.specs.Pixels.{Becomes, Stored, filledWin, blitWin}
 
 -- the same window by a rule that gives the same
 becomes : {w r : Window} {v v′ : Win} → Becomes w v r → v ≡ v′ → Becomes w v′ r

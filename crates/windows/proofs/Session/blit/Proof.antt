@@ -16,10 +16,11 @@ use Rattle.window.specs.Window.{Win}
 use Rattle.window.specs.Held.{winOf}
 use Rattle.rules.specs.Group.{Group, used, win, setWin}
 use Rattle.rules.specs.Store as Rule
+use Rattle.rules.specs.Store.{blitAt}
 use Rattle.rules.specs.Calls.{Blit, does, accepted}
 use Rattle.windows.specs.declared.Session.{Session}
 use Rattle.windows.specs.View.{group, windowAt, Given, MeetsStore, done}
-use Rattle.windows.specs.Pixels.{Becomes, blitWin, blitAt}
+use Rattle.windows.specs.Pixels.{Becomes, blitWin}
 use Rattle.windows.proofs.laws.Session.{used-at, used-past, putWindow}
 use Rattle.windows.proofs.laws.Store.{Lent, Writable, not-whole, not-used, no, puts-store, place, stored, small-rect, set-same, set-cond}
 use borrow.Author.Needs.{needs}
@@ -37,7 +38,7 @@ rule-group g id a d stride store u y =
 
 rule-store : (g : Group) (id : ℕ) (a : Rect) (d : List ℕ) (stride : ℕ) (store : List ℕ) → accepted g (Blit id a d stride store) ≡ true
     → blitAt (id * g .c) (win g id) a d stride store ≡ does g (Blit id a d stride store) .store
-unfolding does Rule.blit blitAt
+unfolding does Rule.blit
 rule-store g id a d stride store y =
     cond-yes (λ (t : List ℕ). blitAt (id * g .c) (win g id) a d stride store ≡ t) (accepted g (Blit id a d stride store)) _ _ y refl
 

@@ -14,11 +14,11 @@ use Rattle.window.specs.Window.{Win}
 use Rattle.window.specs.Held.{winOf}
 use Rattle.rules.specs.Group.{Group, used, win, setWin}
 use Rattle.rules.specs.Store as Rule
-use Rattle.rules.specs.Store.{bounds}
+use Rattle.rules.specs.Store.{bounds, filledAt}
 use Rattle.rules.specs.Calls.{Fill, does, accepted}
 use Rattle.windows.specs.declared.Session.{Session}
 use Rattle.windows.specs.View.{group, windowAt, Given, MeetsStore, done}
-use Rattle.windows.specs.Pixels.{Becomes, filledWin, filledAt}
+use Rattle.windows.specs.Pixels.{Becomes, filledWin}
 use Rattle.windows.proofs.laws.Session.{used-at, used-past, putWindow}
 use Rattle.windows.proofs.laws.Store.{Lent, Writable, not-whole, not-used, no, puts-store, place, stored, small-rect, set-same, set-cond}
 use borrow.Author.Needs.{needs}
@@ -37,7 +37,7 @@ rule-group g id a v store u y =
 
 rule-store : (g : Group) (id : ℕ) (a : Rect) (v : ℕ) (store : List ℕ) → accepted g (Fill id a v store) ≡ true
     → filledAt (id * g .c) (win g id) a v store ≡ does g (Fill id a v store) .store
-unfolding does Rule.fill filledAt
+unfolding does Rule.fill
 rule-store g id a v store y =
     cond-yes (λ (t : List ℕ). filledAt (id * g .c) (win g id) a v store ≡ t) (accepted g (Fill id a v store)) _ _ y refl
 

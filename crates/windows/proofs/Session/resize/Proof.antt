@@ -33,9 +33,9 @@ use Rattle.windows.proofs.Session.resize.Tie as tie
 -- the rule, read at one window
 rule-store : (g : Group) (id w h : ℕ) (store : List ℕ) → accepted g (Resize id w h store) ≡ true
     → resizedAt (id * g .c) (g .c) (width (win g id .at)) (height (win g id .at)) w h store ≡ does g (Resize id w h store) .store
-unfolding does Rule.resize resizedAt
+unfolding does Rule.resize
 rule-store g id w h store y =
-    cond-yes (λ (t : List ℕ). Rule.resizedStore g id w h store ≡ t) (accepted g (Resize id w h store)) _ _ y refl
+    cond-yes (λ (t : List ℕ). resizedAt (id * g .c) (g .c) (width (win g id .at)) (height (win g id .at)) w h store ≡ t) (accepted g (Resize id w h store)) _ _ y refl
 
 rule-group : (g : Group) (id w h : ℕ) (store : List ℕ) → accepted g (Resize id w h store) ≡ true
     → owing (setWin id (some (resizedWin w h (win g id))) g) ≡ does g (Resize id w h store) .group
