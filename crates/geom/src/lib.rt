@@ -1,6 +1,7 @@
 // Rectangles: document 01, "Rectangles". Translated from geom.rs, with its names.
 //
-// The calls here take any numbers and ask question 14. Our own crates, whose coordinates are known to fit, call `inner`.
+// The calls here take any numbers and ask question 14. `inner` has the same without that question, for our own crates, whose coordinates are
+// known to fit.
 ghost use mathlib.Core.Path.{_≡_};
 ghost use Rattle.geom.specs.Geom.{rect};
 ghost use Rattle.geom.specs.Bare.{met, bareContains, bareContainsRect, bareWithin, bareIntersect, bareUnion, BareNotIntersect};

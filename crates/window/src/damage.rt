@@ -8,6 +8,8 @@ ghost use Rattle.geom.specs.Geom.{rect, left, top, right, bottom, union};
 ghost use Rattle.geom.specs.Inner.{Fits};
 ghost use Rattle.window.specs.Window as rule;
 ghost use Rattle.window.specs.Held.{Small, Low, rectOf, rects, RepDamage, MergedInto, JoinedTo, Dirtied};
+use geom::Dims;
+use geom::Pos;
 use geom::Rect;
 use geom::inner;
 
@@ -50,7 +52,9 @@ impl Area {
     pub fn rect(self) -> Rect
         ensures { λ r. ⌜ r ≡ rectOf self ⌝ }
     {
-        Rect::new(self.x as u32, self.y as u32, self.w as u32, self.h as u32)
+        let pos = Pos::new(self.x as u32, self.y as u32);
+        let dims = Dims::new(self.w as u32, self.h as u32);
+        Rect::new_pd(pos, dims)
     }
 }
 
@@ -141,7 +145,8 @@ fn joined(e: Rect, area: Rect) -> Area
     requires { ⌜ Low e × Small area ⌝ }
     ensures { λ j. ⌜ rectOf j ≡ union e area ⌝ }
 {
-    let u = inner::union(e, area);
+    // question 14 holds of both
+    let u = e.union(area).rect;
     Area::new(u.pos.x, u.pos.y, u.dims.w, u.dims.h)
 }
 
@@ -154,7 +159,9 @@ fn any_contains(d: Damage, area: Rect) -> bool
     let mut i: usize = 0;
     while i < n {
         let entry = d.areas[i];
-        if inner::contains_rect(entry.rect(), area) {
+        // question 14 holds of both
+        let inside = entry.rect().contains_rect(area);
+        if inside.yes {
             return true;
         }
         i += 1;

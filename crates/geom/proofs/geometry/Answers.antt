@@ -1,16 +1,19 @@
 -- Question 14: what a call gives where the rectangles pass it, and where they do not.
 use Prim.Native.Nat.{ℕ}
-use mathlib.Core.Path.{_≡_, refl, ap}
+use mathlib.Core.Path.{_≡_, refl, sym, ap, _∙_}
 use mathlib.Core.Bool.{Bool, true, false, cond}
 use mathlib.Core.List.{[]}
-use mathlib.Core.Option.{Option, some, none}
+use mathlib.Core.Option.{Option, some, none, Option·some-injective, Option·none-ne-some, Option·some-ne-none}
+use native.Mathlib.Omega.{arith}
 use Rattle.geom.specs.declared.Rect.{Rect}
 use Rattle.geom.specs.declared.Tested.{Tested}
 use Rattle.geom.specs.declared.United.{United}
 use Rattle.geom.specs.declared.NotIntersect.{NotIntersect}
-use Rattle.geom.specs.Geom.{rect, meets, common, intersect, union, pieces}
+use Rattle.geom.specs.declared.Intersection.{Intersection}
+use Rattle.geom.specs.declared.Intersection.the-variants.{Common, Apart, Refused}
+use Rattle.geom.specs.Geom.{rect, containsRect, meets, common, intersect, union, pieces}
 use Rattle.geom.specs.Inner.{Fits, Holds}
-use Rattle.geom.specs.Bare.{bothFit, tested, bareUnion, Met, bareIntersect, barePieces, BareNotIntersect}
+use Rattle.geom.specs.Bare.{bothFit, tested, bareContainsRect, bareUnion, Met, met, bareIntersect, barePieces, BareNotIntersect}
 use Rattle.geom.proofs.basics.Tests.{says-and}
 use Rattle.geom.proofs.geometry.Facts.{says-fits}
 
@@ -59,3 +62,40 @@ module _ (a b : Rect) where
 
   pub pieces-no : (r : NotIntersect) → bothFit a b ≡ false → r .answer ≡ 14 → Holds (r .pieces) [] → BareNotIntersect a b r
   pieces-no r f n h = record { answer = rw f n; pieces = rw f h }
+
+-- What a caller learns whose rectangles fit ---------------------------------------------------------------------------
+
+module _ {a b : Rect} (f : Fits a × Fits b) where
+  fit : bothFit a b ≡ true
+  fit = says-and (says-fits a) (says-fits b) .test f
+
+  pub contains-rect-is : {t : Tested} → t ≡ bareContainsRect a b → t .yes ≡ containsRect a b
+  contains-rect-is e = ap (λ (t : Tested). t .yes) e ∙ rw fit
+
+  pub union-is : {u : United} → u ≡ bareUnion a b → u .rect ≡ union a b
+  union-is e = ap (λ (u : United). u .rect) e ∙ rw fit
+
+  -- an intersection, by its cases
+  module _ {i : Intersection} (e : met i ≡ bareIntersect a b) where
+    found : {j : Intersection} → i ≡ j → met j .common ≡ cond (meets a b) (some (common a b)) none
+    unfolding intersect
+    found k = ap (λ (j : Intersection). met j .common) (sym k) ∙ ap (λ (m : Met). m .common) e ∙ rw fit
+
+    pub common-is : {k : Rect} → i ≡ Common k → (meets a b ≡ true) × (k ≡ common a b)
+    common-is {k} h = go (meets a b) (found h)
+      where
+        go : (t : Bool) → some k ≡ cond t (some (common a b)) none → (t ≡ true) × (k ≡ common a b)
+        go true p = (refl, Option·some-injective k (common a b) p)
+        go false p = absurd (Option·some-ne-none k p)
+
+    pub apart-is : i ≡ Apart → meets a b ≡ false
+    apart-is h = go (meets a b) (found h)
+      where
+        go : (t : Bool) → none ≡ cond t (some (common a b)) none → t ≡ false
+        go true p = absurd (Option·none-ne-some (common a b) p)
+        go false p = refl
+
+    pub not-refused : i ≡ Refused → ⊥
+    not-refused h =
+        let z : _≡_ {A = ℕ} 14 0 = ap (λ (j : Intersection). met j .answer) (sym h) ∙ ap (λ (m : Met). m .answer) e ∙ rw fit in
+        omega arith

@@ -1,10 +1,11 @@
 -- None of the entries passed contains the area.
 use Prim.Native.Nat.{_-_}
-use mathlib.Core.Path.{_≡_, refl, sym, ap, subst, _∙_}
+use mathlib.Core.Path.{_≡_, refl, sym, ap, _∙_}
 use native.Mathlib.Omega.{arith}
 use Rattle.geom.specs.declared.Rect.{Rect}
 use Rattle.geom.specs.Geom.{containsRect}
-use Rattle.geom.specs.Inner.{Fits}
+use Rattle.geom.specs.Bare.{bareContainsRect}
+use Rattle.geom.proofs.geometry.Answers.{contains-rect-is}
 use Rattle.window.proofs.laws.Entries.{entry, low-fits, small-fits, Passed, contains-hit, contains-miss, contains-none}
 use borrow.Author.Needs.{needs}
 use Rattle.window.proofs.damage.any_contains.Statement.{statement}
@@ -16,14 +17,17 @@ Inv-loop area d n i₀ i = Passed d area n i
 abbrev μ-loop : tie.MeasureT-loop
 μ-loop area d n i₀ i = n - i
 
--- what the test says of the entry
+-- what the test says of the entry: both fit
 told : (c : tie.After-contains-rect Inv-loop μ-loop)
     → containsRect (entry (c .before .before .before .before .before .args .t1) (c .before .before .before .before .loop .i))
     (c .before .before .before .before .before .args .area)
-    ≡ c .contains-rect .result
+    ≡ c .contains-rect .result .yes
 told c =
-    ap (λ (e : Rect). containsRect e (c .before .before .before .before .before .args .area)) (sym (c .before .rect .ensures))
-    ∙ sym (c .contains-rect .ensures)
+    let l = c .before .before .before .before .loop in
+    let s = c .before .before .before .before .before in
+    sym
+    (contains-rect-is (low-fits _ (l .inv .ok .low (l .i) (omega (arith, l .inv .count-is))), small-fits _ (s .pre .1))
+    (c .contains-rect .ensures ∙ ap (λ (e : Rect). bareContainsRect e (s .args .area)) (c .before .rect .ensures)))
 
 cast-n : tie.Need-cast-n Inv-loop μ-loop
 cast-n c = search needs
@@ -41,11 +45,7 @@ rect-requires : tie.Need-rect-requires Inv-loop μ-loop
 rect-requires c κs = search needs
 
 contains-rect-requires : tie.Need-contains-rect-requires Inv-loop μ-loop
-contains-rect-requires c κs =
-    let l = c .before .before .before .loop in (
-      subst Fits (sym (c .rect .ensures)) (low-fits _ (l .inv .ok .low (l .i) (omega (arith, l .inv .count-is)))),
-      small-fits _ (c .before .before .before .before .pre .1),
-    )
+contains-rect-requires c κs = search needs
 
 returns : tie.Need-returns Inv-loop μ-loop
 returns c =
