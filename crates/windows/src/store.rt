@@ -15,10 +15,10 @@ use crate::Done;
 use crate::Session;
 use crate::WinId;
 use geom::Dims;
+use geom::Intersection;
+use geom::Pos;
 use geom::Rect;
-use geom::inner::common;
 use geom::inner::is_empty;
-use geom::inner::meets;
 use winbuf::inner::area::blit_area;
 use winbuf::inner::area::fill_area;
 use winbuf::inner::region::small_area;
@@ -47,7 +47,9 @@ pub fn is_small_size(d: Dims) -> bool
 fn bounds(at: Area) -> Rect
     ensures { λ r. ⌜ r ≡ rect 0 0 (at .w) (at .h) ⌝ }
 {
-    Rect::new(0, 0, at.w as u32, at.h as u32)
+    let pos = Pos::new(0, 0);
+    let dims = Dims::new(at.w as u32, at.h as u32);
+    Rect::new_pd(pos, dims)
 }
 
 // The area is added to the window's damage.
@@ -68,21 +70,25 @@ fn fill_rect(win: Window, base: usize, area: Rect, colour: u32, store: &mut [u32
 {
     let size = win.at;
     let all = bounds(size);
-    if meets(area, all) {
-        let part = common(area, all);
-        fill_area(
-            store,
-            base,
-            size.w as usize,
-            part.pos.x as usize,
-            part.pos.y as usize,
-            part.dims.w as usize,
-            part.dims.h as usize,
-            colour,
-        );
-        return damaged(win, part);
+    let cut = area.intersect(all);
+    match cut {
+        Intersection::Common(part) => {
+            fill_area(
+                store,
+                base,
+                size.w as usize,
+                part.pos.x as usize,
+                part.pos.y as usize,
+                part.dims.w as usize,
+                part.dims.h as usize,
+                colour,
+            );
+            damaged(win, part)
+        }
+        Intersection::Apart => win,
+        // never: question 14 holds of both
+        Intersection::Refused => win,
     }
-    win
 }
 
 // Rows of the area take successive chunks of `stride` data, where they lie in the window. An empty area is left alone.
@@ -104,21 +110,26 @@ fn blit_rect(
     let new = damaged(win, area);
     let size = win.at;
     let all = bounds(size);
-    if meets(area, all) {
-        let part = common(area, all);
-        blit_area(
-            store,
-            base,
-            size.w as usize,
-            part.pos.x as usize,
-            part.pos.y as usize,
-            part.dims.w as usize,
-            part.dims.h as usize,
-            data,
-            stride,
-        );
+    let cut = area.intersect(all);
+    match cut {
+        Intersection::Common(part) => {
+            blit_area(
+                store,
+                base,
+                size.w as usize,
+                part.pos.x as usize,
+                part.pos.y as usize,
+                part.dims.w as usize,
+                part.dims.h as usize,
+                data,
+                stride,
+            );
+            new
+        }
+        Intersection::Apart => new,
+        // never: question 14 holds of both
+        Intersection::Refused => new,
     }
-    new
 }
 
 // The window at a new size, with all of it damaged and Resize queued.

@@ -2,7 +2,8 @@
 use mathlib.Core.Path.{_≡_, sym, _∙_}
 use mathlib.Core.Bool.{true, false}
 use lib.ListN.{length}
-use Rattle.geom.specs.Geom.{isEmpty, meets}
+use Rattle.geom.specs.Geom.{isEmpty, meets, common}
+use Rattle.geom.proofs.geometry.Answers.{common-is, apart-is, not-refused}
 use Rattle.windows.proofs.laws.Pixels.{Cut, fits, in-window, room, not-blit, blit-win, some-blit, no-blit}
 use borrow.Author.Needs.{needs}
 use Rattle.windows.proofs.store.blit_rect.Statement.{statement}
@@ -13,15 +14,17 @@ some : (c : tie.Else1) → isEmpty (c .before .before .before .before .args .are
 some c = sym (c .before .is-empty .ensures) ∙ c .if1 .left
 
 -- what is known once the window's own rectangle is there
-cut : (c : tie.After-bounds) → let a = c .before .before .before .before .before .before .before .args in
+own : (c : tie.After-bounds) → let a = c .before .before .before .before .before .before .before .args in
     Cut (length (a .store .now)) (a .base) (a .win) (a .area) (c .bounds .result)
-cut c =
+own c =
     let s = c .before .before .before .before .before .before .before in
     record { stored = s .pre .0; small = s .pre .1; is = c .bounds .ensures }
 
--- and that the area meets it
-met : (c : tie.Then2) → let b = c .before .before in meets (b .before .before .before .before .before .before .before .args .area) (b .bounds .result) ≡ true
-met c = sym (c .before .meets .ensures) ∙ c .if2 .taken
+-- the part that the area has in it
+met : (c : tie.After-cut) → let b = c .before .before .before in
+    let a = b .before .before .before .before .before .before .before .args in
+    (meets (a .area) (b .bounds .result) ≡ true) × (c .cut .given .0 .0 ≡ common (a .area) (b .bounds .result))
+met c = let b = c .before .before in common-is (fits (own (b .before))) (b .intersect .ensures) (c .cut .given .1)
 
 is-empty-requires : tie.Need-is-empty-requires
 is-empty-requires c κs = search needs
@@ -33,16 +36,16 @@ returns c =
     not-blit (a .area) (a .«data» .now) (a .stride) (a .store .now) (s .pre .0) (sym (c .before .is-empty .ensures) ∙ c .if1 .taken)
 
 damaged-requires : tie.Need-damaged-requires
-damaged-requires c κs = let s = c .before .before .before .before in (s .pre .0 .rep, s .pre .1)
+damaged-requires c κs = search needs
 
 bounds-requires : tie.Need-bounds-requires
 bounds-requires c κs = search needs
 
-meets-requires : tie.Need-meets-requires
-meets-requires c κs = fits (cut c)
+intersect-requires : tie.Need-intersect-requires
+intersect-requires c κs = search needs
 
-common-requires : tie.Need-common-requires
-common-requires c κs = (fits (cut (c .before .before)), met c)
+enum-known-cut : tie.Need-enum-known-cut
+enum-known-cut c = search needs
 
 cast-blit-area : tie.Need-cast-blit-area
 cast-blit-area c = search needs
@@ -61,32 +64,42 @@ cast-blit-area-5 c = search needs
 
 blit-area-requires : tie.Need-blit-area-requires
 blit-area-requires c κs =
-    let k = c .before .before .before .before .before .before in
-    let q = cut (k .before .before .before) in
-    room q (in-window q (met (k .before)) (k .common .ensures))
+    let k = c .before .before .before .before .before .before .before in
+    let q = own (k .before .before .before) in
+    room q (in-window q (met k .0) (met k .1))
+
+enum-told : tie.Need-enum-told
+enum-told c = search needs
+
+enum-told-2 : tie.Need-enum-told-2
+enum-told-2 c = search needs
 
 same-length : tie.Need-same-length
 same-length c = search needs
 
 returns-2 : tie.Need-returns-2
 returns-2 c =
-    let k = c .before .before .before .before .before .before .before .before .before in
+    let k = c .before .before .before .before .before .before .before .before .before .before in
     let b = k .before .before .before in
     let e = some (b .before .before .before) in
     let a = b .before .before .before .before .before .before .before .args in (
-      blit-win (cut b) e (b .before .before .damaged .ensures),
-      some-blit (cut b) e (a .«data» .now) (a .stride) (a .store .now) (k .common .result) _ (met (k .before)) (k .common .ensures)
+      blit-win (own b) e (b .before .before .damaged .ensures),
+      some-blit (own b) e (a .«data» .now) (a .stride) (a .store .now) (k .cut .given .0 .0) _ (met k .0) (met k .1)
           (c .before .before .blit-area .ensures),
     )
 
 returns-3 : tie.Need-returns-3
 returns-3 c =
-    let b = c .before .before in
+    let i = c .before .before in
+    let b = i .before in
     let e = some (b .before .before .before) in
     let a = b .before .before .before .before .before .before .before .args in (
-      blit-win (cut b) e (b .before .before .damaged .ensures),
-      no-blit (cut b) e (a .«data» .now) (a .stride) (a .store .now) (sym (c .before .meets .ensures) ∙ c .if2 .left),
+      blit-win (own b) e (b .before .before .damaged .ensures),
+      no-blit (own b) e (a .«data» .now) (a .stride) (a .store .now) (apart-is (fits (own b)) (i .intersect .ensures) (c .enum-told .given .1)),
     )
+
+returns-4 : tie.Need-returns-4
+returns-4 c = let i = c .before .before in absurd (not-refused (fits (own (i .before))) (i .intersect .ensures) (c .enum-told2 .given .1))
 
 pub blit-rect-spec : {M : Type 1} → statement M
 blit-rect-spec =
@@ -96,14 +109,17 @@ blit-rect-spec =
     returns
     damaged-requires
     bounds-requires
-    meets-requires
-    common-requires
+    intersect-requires
+    enum-known-cut
     cast-blit-area
     cast-blit-area-2
     cast-blit-area-3
     cast-blit-area-4
     cast-blit-area-5
     blit-area-requires
+    enum-told
+    enum-told-2
     same-length
     returns-2
-    returns-3)
+    returns-3
+    returns-4)
