@@ -3,12 +3,20 @@ use crate::call::Call;
 use crate::plain::Copied;
 use crate::scene::Scene;
 
+/// Who plays the same calls.
+#[derive(Clone, Copy, PartialEq)]
+pub enum Beside {
+    Original,
+    /// A loop over rows in Rust.
+    Loops,
+}
+
 /// What the time of a class is held against.
 #[derive(Clone, Copy, PartialEq)]
 pub enum Target {
-    /// At most the original's time.
-    Times,
-    /// At most so many nanoseconds more than the original.
+    /// At most so many times the other side's time.
+    Times(f64),
+    /// At most so many nanoseconds more than the other side.
     More(f64),
     /// Nothing.
     None,
@@ -29,6 +37,7 @@ pub struct Class {
     pub picture: Option<Copied>,
     /// Whether the part is a full redraw; its rows are those of the visible rectangles.
     pub is_full: bool,
+    pub beside: Beside,
     pub target: Target,
     /// When the original does its share of the work, where it is at another time.
     pub note: &'static str,
@@ -37,7 +46,7 @@ pub struct Class {
 impl Class {
     pub fn new(name: impl Into<String>, scene: Scene, timed: Vec<Call>) -> Class {
         let parts = timed.len();
-        let target = if scene.common { Target::Times } else { Target::None };
+        let target = if scene.common { Target::Times(1.0) } else { Target::None };
         Class {
             name: name.into(),
             scene,
@@ -47,6 +56,7 @@ impl Class {
             rows: None,
             picture: None,
             is_full: false,
+            beside: Beside::Original,
             target,
             note: "",
         }
@@ -69,6 +79,10 @@ impl Class {
     }
     pub fn full(mut self) -> Class {
         self.is_full = true;
+        self
+    }
+    pub fn beside(mut self, beside: Beside) -> Class {
+        self.beside = beside;
         self
     }
     pub fn target(mut self, target: Target) -> Class {

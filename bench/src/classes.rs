@@ -1,8 +1,9 @@
-//! The classes of the table, and those of the two plots.
+//! The classes of the tables, and those of the two plots.
 use crate::call::{Area, Call};
 use crate::class::{Class, Target};
 use crate::mix;
 use crate::plain::Copied;
+use crate::rows;
 use crate::scene::{cascade, eight, free_crossing, free_station, plans, station, Scene, HEIGHT, STEP, WIDTH};
 
 /// A call that touches neither pixels nor lists.
@@ -19,6 +20,7 @@ pub fn table() -> Vec<Class> {
     all.extend(pixels());
     all.extend(redraws());
     all.extend(mixes());
+    all.extend(rows::classes());
     all
 }
 

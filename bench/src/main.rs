@@ -1,21 +1,24 @@
-//! The same lists of calls on our library and on the original: a table of times, and two plots of the full redraw.
+//! The same lists of calls on our library and on the original, and fills and blits beside a loop over rows: two tables of times, and two
+//! plots of the full redraw.
 //!
-//! `bench FOLDER` writes speed-table.md, redraw-windows.svg and redraw-pixels.svg there and prints the table.
+//! `bench FOLDER` writes speed-table.md, redraw-windows.svg and redraw-pixels.svg there and prints the tables.
 mod call;
 mod check;
 mod class;
 mod classes;
+mod loops;
 mod measure;
 mod mix;
 mod ours;
 mod plain;
 mod plot;
 mod report;
+mod rows;
 mod scene;
 mod station;
 mod theirs;
 
-use class::Class;
+use class::{Beside, Class};
 use measure::{measure, middle, Measured};
 use plot::{Curve, Plot};
 use std::path::Path;
@@ -26,6 +29,7 @@ const PROCESSES: usize = 5;
 /// The word that makes a process measure.
 const ONCE: &str = "--once";
 const HEAD: &str = "# Speed table\n\nWritten by `bash bench/run`. [SPEED.md](SPEED.md) says what is measured.\n\n";
+const ROWS: &str = "## Beside a loop over rows in Rust\n\n";
 
 fn main() {
     let word = std::env::args().nth(1).expect("the folder to write to");
@@ -56,10 +60,12 @@ fn of_class(runs: &[Vec<Measured>], class: usize) -> Vec<Measured> {
 }
 
 fn tell(classes: &[Class], results: &[Measured], runs: &[Vec<Measured>]) -> String {
-    let table = report::table(classes, results, runs);
-    let notes = report::notes(classes);
-    let missed = report::missed(classes, results);
-    let text = format!("{HEAD}{table}\nMissed: {missed}.\n\n{notes}");
+    let table = |beside| {
+        let table = report::table(beside, classes, results, runs);
+        format!("{table}\nMissed: {}.\n", report::missed(beside, classes, results))
+    };
+    let (original, loops) = (table(Beside::Original), table(Beside::Loops));
+    let text = format!("{HEAD}{original}\n{}\n{ROWS}{loops}", report::notes(classes));
     print!("{text}");
     text
 }

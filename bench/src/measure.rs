@@ -1,7 +1,8 @@
-//! The two sides and `memcpy`, timed in turns: whatever else the machine does slows all.
+//! The sides and `memcpy`, timed in turns: whatever else the machine does slows all.
 use crate::call::Side;
 use crate::check;
-use crate::class::Class;
+use crate::class::{Beside, Class};
+use crate::loops::Loops;
 use crate::ours::Ours;
 use crate::plain::Plain;
 use crate::theirs::Theirs;
@@ -32,17 +33,24 @@ pub struct Measured {
 }
 
 /// Who takes part.
-struct Turns {
+struct Turns<Other> {
     ours: Ours,
-    theirs: Option<Theirs>,
+    theirs: Option<Other>,
     rows: Option<Plain>,
     picture: Option<Plain>,
 }
 
 pub fn measure(class: &Class) -> Measured {
     let scene = &class.scene;
+    match class.beside {
+        Beside::Original => beside(class, scene.common.then(|| Theirs::new(scene.width, scene.height))),
+        Beside::Loops => beside(class, Some(Loops::new(scene.width, scene.height))),
+    }
+}
+
+fn beside(class: &Class, mut theirs: Option<impl Side>) -> Measured {
+    let scene = &class.scene;
     let mut ours = Ours::new(scene.c, scene.width, scene.height);
-    let mut theirs = scene.common.then(|| Theirs::new(scene.width, scene.height));
     match &mut theirs {
         Some(theirs) => check::same(class, &mut ours, theirs),
         None => check::alone(class, &mut ours),
@@ -58,7 +66,7 @@ pub fn measure(class: &Class) -> Measured {
 }
 
 /// Who begins changes from round to round.
-fn round(class: &Class, times: usize, round: usize, turns: &mut Turns) -> Measured {
+fn round(class: &Class, times: usize, round: usize, turns: &mut Turns<impl Side>) -> Measured {
     let mut taken = [f64::NAN; 4];
     let parts = times * class.parts;
     for turn in 0..4 {

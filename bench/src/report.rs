@@ -1,29 +1,26 @@
-//! The table, as text that is also Markdown.
-use crate::class::{Class, Target};
+//! The tables, as text that is also Markdown.
+use crate::class::{Beside, Class, Target};
 use crate::measure::Measured;
 
 /// A full redraw is to be at least so fast beside `memcpy` of one picture of as many pixels.
 const SPEED: f64 = 0.9;
 
-/// The medians of each class, and the results of the single processes.
-pub fn table(classes: &[Class], results: &[Measured], runs: &[Vec<Measured>]) -> String {
-    let mut text = String::from(
-        "| class | ours ns | original ns | ratio | from - to | same rows | one picture | target | |\n\
-         |---|---:|---:|---:|---|---:|---:|---|---|\n",
-    );
-    for (i, (class, m)) in classes.iter().zip(results).enumerate() {
+const ORIGINAL: &str = "| class | ours ns | original ns | ratio | from - to | same rows | one picture | target | |\n\
+                        |---|---:|---:|---:|---|---:|---:|---|---|\n";
+const LOOPS: &str = "| class | ours ns | Rust ns | ratio | from - to | target | |\n|---|---:|---:|---:|---|---|---|\n";
+
+/// Of the classes that are played beside one side: the medians of each, and the results of the single processes.
+pub fn table(beside: Beside, classes: &[Class], results: &[Measured], runs: &[Vec<Measured>]) -> String {
+    let mut text = String::from(if beside == Beside::Original { ORIGINAL } else { LOOPS });
+    for (i, (class, m)) in classes.iter().zip(results).enumerate().filter(|(_, (class, _))| class.beside == beside) {
         let (target, met) = judge(class, m);
         let ratios: Vec<f64> = runs.iter().map(|run| run[i].ratio).collect();
-        text += &format!(
-            "| {} | {} | {} | {} | {} | {} | {} | {target} | {met} |\n",
-            class.name,
-            nanoseconds(m.ours),
-            nanoseconds(m.theirs),
-            ratio(m.ratio),
-            range(&ratios),
-            ratio(m.rows_speed),
-            ratio(m.picture_speed),
-        );
+        let (ours, theirs) = (nanoseconds(m.ours), nanoseconds(m.theirs));
+        text += &format!("| {} | {ours} | {theirs} | {} | {} |", class.name, ratio(m.ratio), range(&ratios));
+        if beside == Beside::Original {
+            text += &format!(" {} | {} |", ratio(m.rows_speed), ratio(m.picture_speed));
+        }
+        text += &format!(" {target} | {met} |\n");
     }
     text
 }
@@ -43,18 +40,19 @@ pub fn notes(classes: &[Class]) -> String {
     text
 }
 
-pub fn missed(classes: &[Class], results: &[Measured]) -> usize {
-    classes.iter().zip(results).filter(|(class, m)| judge(class, m).1 == "missed").count()
+pub fn missed(beside: Beside, classes: &[Class], results: &[Measured]) -> usize {
+    let missed = |(class, m): &(&Class, &Measured)| class.beside == beside && judge(class, m).1 == "missed";
+    classes.iter().zip(results).filter(missed).count()
 }
 
 fn judge(class: &Class, m: &Measured) -> (String, &'static str) {
     let mut met = !class.is_full || m.picture_speed >= SPEED;
     let mut targets = Vec::new();
     match class.target {
-        Target::Times => {
+        Target::Times(most) => {
             // As it is printed.
-            met &= (100.0 * m.ratio).round() <= 100.0;
-            targets.push("1.00".to_string());
+            met &= (100.0 * m.ratio).round() <= (100.0 * most).round();
+            targets.push(format!("{most:.2}"));
         }
         Target::More(most) => {
             met &= m.ours - m.theirs <= most;

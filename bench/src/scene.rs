@@ -34,6 +34,12 @@ fn scene(width: u32, height: u32, places: &[Area]) -> Scene {
     Scene { width, height, c, setup, common: true }
 }
 
+/// One window that is not shown.
+pub fn alone(width: u32, height: u32) -> Scene {
+    let setup = vec![Call::Create, Call::Resize(0, width, height)];
+    Scene { width, height, c: width * height, setup, common: true }
+}
+
 /// How far a window of a cascade lies from the next lower one.
 pub const STEP: (u32, u32) = (25, 15);
 

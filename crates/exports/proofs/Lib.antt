@@ -1,2 +1,0 @@
--- Lemmas on the area that a caller asks for.
-pub mod areas

@@ -1,2 +1,0 @@
--- Where an area lies, and what its test says.
-pub mod Lies

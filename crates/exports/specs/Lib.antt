@@ -1,2 +1,0 @@
--- What everybody must believe of the exported row writers.
-pub mod Areas
