@@ -14,10 +14,13 @@ use Rattle.window.specs.declared.Event.{Event}
 use Rattle.window.specs.Window.{Win}
 use Rattle.window.specs.Held.{winOf, rectOf, rects, RepWindow}
 use Rattle.rules.specs.Group.{Group, start, used, win}
+use Rattle.rules.specs.Order.{isIn, placeOf}
 use Rattle.rules.specs.Visible.{visibleList}
 use Rattle.rules.specs.Redraw.{none?, drawRegions}
 use Rattle.rules.specs.Calls.{Call, does, after}
 use Rattle.windows.specs.declared.WinId.{WinId}
+use Rattle.windows.specs.declared.RenderIdx.{RenderIdx}
+use Rattle.windows.specs.declared.RenderIdx.the-variants.{At, Hidden}
 use Rattle.windows.specs.declared.Session.{Session}
 use Rattle.windows.specs.declared.Done.{Done}
 use Rattle.windows.specs.declared.NewId.{NewId}
@@ -41,6 +44,10 @@ num i = i .0
 -- the first n ids
 abbrev pub ids : ℕ → List WinId → List ℕ
 ids n l = map num (take n l)
+
+-- what a read past the end of the order gives
+abbrev pub noId : WinId
+noId = record { 0 = 0 }
 
 -- the group that a session holds
 unfoldable pub group : Session → Group
@@ -83,6 +90,17 @@ pub record Given (s : Session) : Type 0 where
   pub c : ℕ
   pub calls : List Call
   pub reached : group s ≡ after c calls
+
+-- The render order -----------------------------------------------------------------------------------------------------
+
+-- the place of a window, which a hidden one has not
+abbrev pub idxOf : RenderIdx → Option ℕ
+idxOf (At p) = some (p .0)
+idxOf Hidden = none
+
+-- the same by the rule, in the order o
+abbrev pub renderIdx : ℕ → List ℕ → Option ℕ
+renderIdx id o = cond (isIn id o) (some (placeOf id o)) none
 
 -- the order without the window at place p, of the first n
 pub record Closed (order : List WinId) (n p : ℕ) (r : List WinId) : Type 0 where

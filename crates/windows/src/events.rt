@@ -8,11 +8,14 @@ ghost use Rattle.windows.specs.View.{Given, Meets, MeetsEvent};
 ghost use Rattle.windows.specs.Events.{targetOf, atPoint, Tellable, ToldTo};
 use crate::Done;
 use crate::NextEvent;
+use crate::Place;
 use crate::Popped;
+use crate::RenderIdx;
 use crate::Session;
 use crate::WinId;
-use crate::order;
-use geom::inner;
+use crate::order::get_render_idx;
+use crate::places::window_at;
+use geom::Pos;
 use window::Event;
 use window::Window;
 
@@ -134,10 +137,10 @@ impl Session {
     {
         let mut answer: u32 = 11;
         let focus = self.focus;
-        let ids = self.order;
+        let order = self.order;
         let n = self.shown;
-        let place = order::place_of(ids, n, focus);
-        if place.0 < n {
+        let idx = get_render_idx(order, n, focus);
+        if let RenderIdx::At(_) = idx {
             let at = focus.0 as usize;
             let win = self.windows[at];
             let told = push_event(win, e);
@@ -159,15 +162,18 @@ impl Session {
         let mut answer: u32 = 5;
         if small_point(x, y) {
             answer = 11;
+            let order = self.order;
             let shown = self.shown;
-            let mut n = shown;
-            while 0 < n {
-                let id = self.order[n - 1];
+            let mut above = Place(shown);
+            while 0 < above.0 {
+                let p = above.prev();
+                let id = window_at(order, p);
                 let at = id.0 as usize;
                 let win = self.windows[at];
                 let area = win.at;
                 let frame = area.rect();
-                if inner::contains(frame, x, y) {
+                let hit = frame.contains(Pos::new(x, y));
+                if hit.yes {
                     let inside = at_point(e, x - frame.pos.x, y - frame.pos.y);
                     let told = push_event(win, inside);
                     let v = told.window;
@@ -175,7 +181,7 @@ impl Session {
                     answer = told.answer;
                     break;
                 }
-                n -= 1;
+                above = p;
             }
         }
         Done {

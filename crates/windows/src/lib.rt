@@ -9,6 +9,7 @@ mod events;
 mod group;
 mod list;
 mod order;
+mod places;
 mod rects;
 mod redraw;
 mod store;
@@ -20,6 +21,12 @@ pub struct WinId(pub u16);
 // A place in the render order, 0 for the lowest window.
 #[repr(C)]
 pub struct Place(pub usize);
+
+// The place of a window in the render order, which a hidden window has not.
+pub enum RenderIdx {
+    At(Place),
+    Hidden,
+}
 
 // `order` holds the shown windows in its first `shown` places, lowest first.
 #[repr(C)]

@@ -1,26 +1,26 @@
 // The visible list of a window: document 01, "Visible list, relative to the window".
 ghost use mathlib.Core.Path.{_≡_};
-ghost use Prim.Native.Nat.{_<_};
-ghost use Rattle.rules.specs.Order.{placeOf};
-ghost use Rattle.windows.specs.View.{group, ids, Given, Lists};
+ghost use mathlib.Core.Option.{some};
+ghost use Rattle.windows.specs.View.{group, ids, Given, renderIdx, Lists};
 use crate::Listing;
 use crate::Place;
+use crate::RenderIdx;
 use crate::Session;
 use crate::WinId;
-use crate::order::place_of;
+use crate::order::get_render_idx;
 use crate::rects;
 
 impl Session {
     // The list of a window in use, which stands at a place of the order.
     fn list_shown(self, id: WinId, p: Place, list: &mut [u32]) -> Listing
-        requires { ⌜ Given self × (p .0 < self .shown) × (p .0 ≡ placeOf (id .0) (ids (self .shown) (self .order))) ⌝ }
+        requires { ⌜ Given self × (some (p .0) ≡ renderIdx (id .0) (ids (self .shown) (self .order))) ⌝ }
         ensures { λ r. ⌜ Lists (group self) (id .0) (now (list .entry)) r (now (list .exit)) ⌝ }
     {
         let at = id.0 as usize;
         let w = self.windows[at];
         let area = w.at;
         let r = area.rect();
-        let above = rects::from(self, Place(p.0 + 1));
+        let above = rects::from(self, p.next());
         let numbers = above.numbers;
         let n = above.len;
         let count = visible::list::count(r, &numbers, n);
@@ -46,8 +46,8 @@ impl Session {
             if self.windows[at].used {
                 let n = self.shown;
                 let order = self.order;
-                let p = place_of(order, n, id);
-                if p.0 < n {
+                let idx = get_render_idx(order, n, id);
+                if let RenderIdx::At(p) = idx {
                     return self.list_shown(id, p, list);
                 }
                 answer = 0;

@@ -4,29 +4,31 @@ ghost use Prim.Native.Nat.{_-_, _≤_, _<_};
 ghost use mathlib.Core.Bool.{cond};
 ghost use lib.Dec.{eqb};
 ghost use lib.ListN.{getD};
-ghost use Rattle.rules.specs.Order as rule;
 ghost use Rattle.rules.specs.Calls.{Call};
-ghost use Rattle.windows.specs.View.{ids, Given, Closed, Meets};
+ghost use Rattle.windows.specs.View.{ids, Given, idxOf, renderIdx, Closed, Meets};
 use crate::Done;
 use crate::Place;
+use crate::RenderIdx;
 use crate::Session;
 use crate::WinId;
+use crate::places::window_at;
+use crate::places::with_window;
 
-// The place of a window: `shown` where it is not shown.
-pub fn place_of(order: [WinId; 16], shown: usize, id: WinId) -> Place
+// Where a window stands in the order.
+pub fn get_render_idx(order: [WinId; 16], shown: usize, id: WinId) -> RenderIdx
     requires { ⌜ shown ≤ 16 ⌝ }
-    ensures { λ p. ⌜ p .0 ≡ rule.placeOf (id .0) (ids shown order) ⌝ }
+    ensures { λ r. ⌜ idxOf r ≡ renderIdx (id .0) (ids shown order) ⌝ }
 {
     let k = id.0;
-    let mut i: usize = 0;
-    while i < shown {
-        let w = order[i];
+    let mut p = Place::lowest();
+    while p.0 < shown {
+        let w = window_at(order, p);
         if w.0 == k {
-            return Place(i);
+            return RenderIdx::At(p);
         }
-        i += 1;
+        p = p.next();
     }
-    Place(i)
+    RenderIdx::Hidden
 }
 
 // The order without the window at a place: the higher ones come down by one.
@@ -34,14 +36,17 @@ pub fn close_gap(order: [WinId; 16], shown: usize, p: Place) -> [WinId; 16]
     requires { ⌜ (shown ≤ 16) × (p .0 < shown) ⌝ }
     ensures { λ r. ⌜ Closed order shown (p .0) r ⌝ }
 {
-    let mut next = order;
-    let mut i = p.0;
-    while i + 1 < shown {
-        let w = order[i + 1];
-        next[i] = w;
-        i += 1;
+    let mut closed = order;
+    let mut gap = p;
+    let mut above = p.next();
+    while above.0 < shown {
+        let w = window_at(order, above);
+        let moved = with_window(closed, gap, w);
+        closed = moved;
+        gap = above;
+        above = above.next();
     }
-    next
+    closed
 }
 
 // Who has the focus once window `id` left its place p, of the `left` that stayed: if it was focussed, the next lower, or the lowest, or 0.
@@ -50,14 +55,10 @@ pub fn focus_after(focus: WinId, id: WinId, order: [WinId; 16], left: usize, p: 
     ensures { λ f. ⌜ f .0 ≡ cond (eqb (focus .0) (id .0)) (getD (ids left order) (p .0 - 1) 0) (focus .0) ⌝ }
 {
     if focus.0 == id.0 {
-        let k = p.0;
         if left == 0 {
             return WinId(0);
         }
-        if k == 0 {
-            return order[0];
-        }
-        return order[k - 1];
+        return window_at(order, p.prev());
     }
     focus
 }
@@ -75,9 +76,10 @@ impl Session {
                 answer = 0;
                 let n = self.shown;
                 let order = self.order;
-                let p = place_of(order, n, id);
-                if n <= p.0 {
-                    self.order[n] = id;
+                let idx = get_render_idx(order, n, id);
+                if let RenderIdx::Hidden = idx {
+                    let longer = with_window(order, Place(n), id);
+                    self.order = longer;
                     self.shown = n + 1;
                     self.focus = id;
                     self.owed = true;
@@ -103,8 +105,8 @@ impl Session {
                 answer = 0;
                 let n = self.shown;
                 let order = self.order;
-                let p = place_of(order, n, id);
-                if p.0 < n {
+                let idx = get_render_idx(order, n, id);
+                if let RenderIdx::At(p) = idx {
                     let closed = close_gap(order, n, p);
                     let focus = focus_after(self.focus, id, closed, n - 1, p);
                     self.order = closed;

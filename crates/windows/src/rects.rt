@@ -9,6 +9,7 @@ ghost use Rattle.windows.specs.View.{group, Given};
 ghost use Rattle.windows.specs.Rects.{Holds, Added};
 use crate::Place;
 use crate::Session;
+use crate::places::window_at;
 use window::damage::Area;
 use window::damage::Damage;
 
@@ -60,15 +61,18 @@ pub fn from(s: Session, p: Place) -> Rects
     requires { ⌜ Given s × (p .0 ≤ s .shown) ⌝ }
     ensures { λ r. ⌜ Holds r (map (λ i. win (group s) i .at) (drop (p .0) (group s .order))) ⌝ }
 {
-    let n = s.shown - p.0;
+    let order = s.order;
+    let shown = s.shown;
     let mut numbers = [0u32; 64];
+    let mut next = p;
     let mut i: usize = 0;
-    while i < n {
-        let id = s.order[p.0 + i];
+    while next.0 < shown {
+        let id = window_at(order, next);
         let at = id.0 as usize;
         let w = s.windows[at];
         put(&mut numbers, i, w.at);
+        next = next.next();
         i += 1;
     }
-    Rects { numbers, len: n }
+    Rects { numbers, len: i }
 }

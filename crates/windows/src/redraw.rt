@@ -16,6 +16,7 @@ ghost use Rattle.windows.specs.Rects.{Holds};
 use crate::Done;
 use crate::Place;
 use crate::Session;
+use crate::places::window_at;
 use crate::rects;
 use crate::rects::Rects;
 use window::Window;
@@ -103,27 +104,28 @@ impl Session {
         ensures { λ _. ⌜ now (screen .exit) ≡ drawAll (group self) full (now (store .entry)) sw sh (group self .order) (now (screen .entry)) ⌝ }
     {
         let n = self.shown;
-        let all = rects::from(self, Place(0));
+        let order = self.order;
+        let all = rects::from(self, Place::lowest());
         let numbers = all.numbers;
-        let mut i: usize = 0;
-        while i < n {
-            let id = self.order[i];
+        let mut p = Place::lowest();
+        while p.0 < n {
+            let id = window_at(order, p);
             let at = id.0 as usize;
             let w = self.windows[at];
             let base = at * self.c as usize;
-            let next = 4 * (i + 1);
+            let next = 4 * (p.0 + 1);
             draw_window(
                 w,
                 base,
                 &numbers[next..],
-                n - i - 1,
+                n - p.0 - 1,
                 full,
                 store,
                 screen,
                 sw,
                 sh,
             );
-            i += 1;
+            p = p.next();
         }
     }
 
@@ -134,15 +136,15 @@ impl Session {
     {
         let n = self.shown;
         let order = self.order;
-        let mut i: usize = 0;
-        while i < n {
-            let id = order[i];
+        let mut p = Place::lowest();
+        while p.0 < n {
+            let id = window_at(order, p);
             let at = id.0 as usize;
             if either(full, self.windows[at].marked) {
                 self.windows[at].marked = false;
                 self.windows[at].damage.len = 0;
             }
-            i += 1;
+            p = p.next();
         }
         self
     }

@@ -13,10 +13,10 @@ use Rattle.window.specs.declared.damage.Damage.{Damage}
 use Rattle.window.specs.Window.{Win}
 use Rattle.window.specs.Held.{rectOf, rects, noArea, Low, RepDamage}
 use Rattle.rules.specs.Group.{win}
+use Rattle.windows.specs.declared.WinId.{WinId}
 use Rattle.windows.specs.declared.Session.{Session}
-use Rattle.windows.specs.View.{group, windowAt, Given}
+use Rattle.windows.specs.View.{noId, group, windowAt, Given}
 use Rattle.windows.specs.Rects.{Added}
-use Rattle.windows.proofs.laws.Order.{noId}
 use Rattle.windows.proofs.laws.Places.{order-length, id-at, id-low, win-there}
 use Rattle.windows.proofs.laws.Rects.{Filling, fill-none, fill-next}
 
@@ -53,18 +53,16 @@ module _ (s : Session) (h : Given s) (f : ℕ) where
   pub above-none : (l : List ℕ) → length l ≡ 64 → Filling (higher s f) l 0
   above-none l n = fill-none (higher s f) l (omega (arith, tall, h .rep .shown)) n
 
-  module _ {l : List ℕ} {i : ℕ} (q : Filling (higher s f) l i) (less : i < s .shown - f) where
-    -- the id that the code reads is that of a window
-    pub above-low : getD (s .order) (f + i) noId .0 < 16
-    above-low = id-low s h (f + i) (omega arith)
-
-    seen : getD (higher s f) i (win (group s) 0 .at) ≡ rectOf (windowAt s (getD (s .order) (f + i) noId .0) .at)
+  -- the id v was read at the place p, behind those of the first i rectangles
+  module _ {l : List ℕ} {i : ℕ} (q : Filling (higher s f) l i) (p : ℕ) (behind : p ≡ f + i) (less : p < s .shown) (v : WinId) (read : v ≡ getD (s .order) p noId) where
+    seen : getD (higher s f) i (win (group s) 0 .at) ≡ rectOf (windowAt s (v .0) .at)
     seen =
         List·getD-map (λ j. win (group s) j .at) (drop f (group s .order)) i 0
-        ∙ ap (λ (j : ℕ). win (group s) j .at) (getD-drop f (group s .order) i 0 ∙ id-at s h (f + i) (omega arith))
-        ∙ ap (λ (w : Win). w .at) (win-there s h (f + i) (omega arith))
+        ∙ ap (λ (j : ℕ). win (group s) j .at)
+        (getD-drop f (group s .order) i 0 ∙ ap (λ (k : ℕ). getD (group s .order) k 0) (sym behind) ∙ id-at s h p less v read)
+        ∙ ap (λ (w : Win). w .at) (win-there s h p less v read)
 
-    pub above-next : (m : List ℕ) → Added i l (windowAt s (getD (s .order) (f + i) noId .0) .at) m → Filling (higher s f) m (i + 1)
+    pub above-next : (m : List ℕ) → Added i l (windowAt s (v .0) .at) m → Filling (higher s f) m (i + 1)
     above-next m a =
-        let small = h .rep .each (getD (s .order) (f + i) noId .0) above-low .at in
-        fill-next q (win (group s) 0 .at) (windowAt s (getD (s .order) (f + i) noId .0) .at) m (omega (arith, tall)) seen (omega arith) a
+        let small = h .rep .each (v .0) (id-low s h p less v read) .at in
+        fill-next q (win (group s) 0 .at) (windowAt s (v .0) .at) m (omega (arith, tall)) seen (omega arith) a

@@ -24,14 +24,14 @@ use Rattle.rules.specs.Redraw as Draw
 use Rattle.rules.specs.Store.{whole}
 use Rattle.rules.specs.Calls.{Redraw, does}
 use Rattle.rules.proofs.group.Invariant.{WinOk}
+use Rattle.windows.specs.declared.WinId.{WinId}
 use Rattle.windows.specs.declared.Session.{Session}
 use Rattle.visible.specs.Lent.{Lent}
 use Rattle.visible.proofs.laws.Numbers.{behind, rects-split, rest-lent}
 use Rattle.windows.specs.declared.rects.Rects.{Rects}
-use Rattle.windows.specs.View.{group, blank, windowAt, Rep, Given, MeetsScreen, done, painted}
+use Rattle.windows.specs.View.{noId, group, blank, windowAt, Rep, Given, MeetsScreen, done, painted}
 use Rattle.windows.specs.Rects.{Holds}
 use Rattle.windows.proofs.laws.Session.{used-at, win-at, given-ok, putWindow, put-group, put-rep, refuses, gives}
-use Rattle.windows.proofs.laws.Order.{noId}
 use Rattle.windows.proofs.laws.Places.{order-length, id-at, shown-at, id-low, is-used, win-there, above-there}
 use Rattle.windows.proofs.laws.Rects.{lends}
 use Rattle.windows.proofs.laws.Above.{higher}
@@ -57,29 +57,26 @@ pub lent-drawn : (w : Window) (full : Bool) (base : ℕ) (bs : List Rect) (store
     → screen′ ≡ cond (full || w .marked) (painted w full base bs store sw sh screen) screen
 lent-drawn w full base bs store sw sh screen r ds screen′ m e k q = q ∙ rw (e, k, m)
 
--- the id at a place, as the code reads it
-abbrev pub idAt : Session → ℕ → ℕ
-idAt s i = getD (s .order) i noId .0
+-- the id v was read at place i
+module _ (s : Session) (h : Given s) (i : ℕ) (l : i < s .shown) (v : WinId) (read : v ≡ getD (s .order) i noId) where
+  marked-there : (full : Bool) → isDrawn (group s) full (v .0) ≡ full || windowAt s (v .0) .marked
+  marked-there full = ap (λ (w : Win). full || w .marked) (win-there s h i l v read)
 
-module _ (s : Session) (h : Given s) (i : ℕ) (l : i < s .shown) where
-  marked-there : (full : Bool) → isDrawn (group s) full (idAt s i) ≡ full || windowAt s (idAt s i) .marked
-  marked-there full = ap (λ (w : Win). full || w .marked) (win-there s h i l)
-
-  size : WinOk (s .c) (winOf (windowAt s (idAt s i)))
+  size : WinOk (s .c) (winOf (windowAt s (v .0)))
   unfolding group
-  size = subst (WinOk (s .c)) (win-there s h i l) (given-ok s h .fits (idAt s i))
+  size = subst (WinOk (s .c)) (win-there s h i l v read) (given-ok s h .fits (v .0))
 
   -- the window's pixels lie in the store
-  pub in-store : idAt s i * s .c + windowAt s (idAt s i) .at .w * windowAt s (idAt s i) .at .h ≤ 16 * s .c
+  pub in-store : v .0 * s .c + windowAt s (v .0) .at .w * windowAt s (v .0) .at .h ≤ 16 * s .c
   in-store =
-      let b : suc (idAt s i) * s .c ≤ 16 * s .c = mul-le-mul-right (s .c) (id-low s h i l) in
+      let b : suc (v .0) * s .c ≤ 16 * s .c = mul-le-mul-right (s .c) (id-low s h i l v read) in
       omega (arith, size .area≤, b)
 
   -- the place of its pixels is a number of 64 bits
-  pub base-fits : idAt s i * s .c ≤ 16 * 1048576
+  pub base-fits : v .0 * s .c ≤ 16 * 1048576
   unfolding group
   base-fits =
-      let b : suc (idAt s i) * s .c ≤ 16 * s .c = mul-le-mul-right (s .c) (id-low s h i l) in
+      let b : suc (v .0) * s .c ≤ 16 * s .c = mul-le-mul-right (s .c) (id-low s h i l v read) in
       omega (arith, b, given-ok s h .c-high)
 
   -- of the rectangles of all shown windows, those behind its own are the ones above it
@@ -112,14 +109,14 @@ module _ (s : Session) (h : Given s) (i : ℕ) (l : i < s .shown) where
 
     module _ (full : Bool) (store screen : List ℕ) (sw sh : ℕ) where
       pub window-drawn : (screen′ : List ℕ)
-          → screen′ ≡ cond (full || windowAt s (idAt s i) .marked) (painted (windowAt s (idAt s i)) full (idAt s i * s .c) (rectsOf (s .shown - i - 1) rest) store sw sh screen) screen
+          → screen′ ≡ cond (full || windowAt s (v .0) .marked) (painted (windowAt s (v .0)) full (v .0 * s .c) (rectsOf (s .shown - i - 1) rest) store sw sh screen) screen
           → screen′ ≡ drawWindow (group s) full store sw sh (getD (group s .order) i 0) screen
       unfolding group
       window-drawn screen′ q =
-          let at : Rect = rectOf (windowAt s (idAt s i) .at) in
+          let at : Rect = rectOf (windowAt s (v .0) .at) in
           let vis : List Rect = map (relative at) (outsideAll (at ∷ []) (higher s (suc i))) in
-          let v : visible (group s) (idAt s i) ≡ vis = visible-is s (idAt s i) i at (shown-at s h i l) (is-used s h i l) (above-there s h i l) refl in
-          q ∙ rw (lent-above, regions-lent full (rects (windowAt s (idAt s i) .damage)) vis, id-at s h i l, marked-there full, v, win-there s h i l)
+          let e : visible (group s) (v .0) ≡ vis = visible-is s (v .0) i at (shown-at s h i l v read) (is-used s h i l v read) (above-there s h i l v read) refl in
+          q ∙ rw (lent-above, regions-lent full (rects (windowAt s (v .0) .damage)) vis, id-at s h i l v read, marked-there full, e, win-there s h i l v read)
 
 -- All windows --------------------------------------------------------------------------------------------------------
 
@@ -174,18 +171,18 @@ wiped-rep w r = record {
   cursor = r .cursor;
 }
 
-module _ {full : Bool} {s t : Session} {i : ℕ} (q : Cleaning full s t i) (l : i < s .shown) where
+module _ {full : Bool} {s t : Session} {i : ℕ} (q : Cleaning full s t i) (l : i < s .shown) (v : WinId) (read : v ≡ getD (s .order) i noId) where
   abbrev at : ℕ
-  at = idAt s i
+  at = v .0
 
-  pub clean-low : getD (s .order) i noId .0 < 16
-  clean-low = id-low s (q .given) i l
+  pub clean-low : v .0 < 16
+  clean-low = id-low s (q .given) i l v read
 
   in-use : windowAt t at .used ≡ true
-  in-use = q .used at ∙ is-used s (q .given) i l
+  in-use = q .used at ∙ is-used s (q .given) i l v read
 
   first-left : drop i (group s .order) ≡ at ∷ drop (i + 1) (group s .order)
-  first-left = rw (add-one, ← (id-at s (q .given) i l)) (drop-cons (group s .order) i 0 (omega (arith, order-length s (q .given))))
+  first-left = rw (add-one, ← (id-at s (q .given) i l v read)) (drop-cons (group s .order) i 0 (omega (arith, order-length s (q .given))))
 
   marked-now : isDrawn (group t) full at ≡ full || windowAt t at .marked
   marked-now = ap (λ (w : Win). full || w .marked) (win-at t at in-use)
@@ -195,7 +192,7 @@ module _ {full : Bool} {s t : Session} {i : ℕ} (q : Cleaning full s t i) (l : 
       → cleanAll full (drop (i + 1) (group s .order)) g ≡ cleanAll full (group s .order) (group s)
   left-is g e = ap (cleanAll full (drop (i + 1) (group s .order))) (sym e) ∙ ap (λ (r : List ℕ). cleanAll full r (group t)) (sym first-left) ∙ q .left
 
-  pub clean-skip : full || windowAt t (getD (s .order) i noId .0) .marked ≡ false → Cleaning full s t (i + 1)
+  pub clean-skip : full || windowAt t (v .0) .marked ≡ false → Cleaning full s t (i + 1)
   clean-skip e = record { given = q .given; rep = q .rep; within = omega arith; used = q .used; left = left-is (group t) (rw (marked-now, e) refl) }
 
   wiped-there : full || windowAt t at .marked ≡ true → Cleaning full s (putWindow at (wiped (windowAt t at)) t) (i + 1)
@@ -213,9 +210,9 @@ module _ {full : Bool} {s t : Session} {i : ℕ} (q : Cleaning full s t i) (l : 
   abbrev once : Session
   once = putWindow at (unmarked (windowAt t at)) t
 
-  pub clean-next : full || windowAt t (getD (s .order) i noId .0) .marked ≡ true → Cleaning full s (putWindow at (emptied (windowAt once at)) once) (i + 1)
+  pub clean-next : full || windowAt t (v .0) .marked ≡ true → Cleaning full s (putWindow at (emptied (windowAt once at)) once) (i + 1)
   clean-next e =
-      subst (λ (v : Window). Cleaning full s (putWindow at (emptied v) once) (i + 1)) (sym (getD-set-same (t .windows) at (unmarked (windowAt t at)) blank (omega (arith, clean-low, q .rep .windows))))
+      subst (λ (w : Window). Cleaning full s (putWindow at (emptied w) once) (i + 1)) (sym (getD-set-same (t .windows) at (unmarked (windowAt t at)) blank (omega (arith, clean-low, q .rep .windows))))
       (subst (λ (ws : List Window). Cleaning full s (record { windows = ws; order = t .order; shown = t .shown; c = t .c; focus = t .focus; owed = t .owed }) (i + 1)) (sym (set-set (t .windows) at (unmarked (windowAt t at)) (wiped (windowAt t at))))
       (wiped-there e))
 

@@ -1,8 +1,9 @@
 -- The visible list of a window: the rule's list is what is left of its rectangle outside those that are lent.
-use Prim.Native.Nat.{ℕ, suc, _*_, _≤_, _<_}
+use Prim.Native.Nat.{ℕ, suc, _+_, _*_, _≤_, _<_}
 use mathlib.Core.Path.{_≡_, sym, ap, ap₂, subst, _∙_}
-use mathlib.Core.Bool.{true, false, cond}
+use mathlib.Core.Bool.{true, false}
 use mathlib.Core.List.{List, [], _∷_, _++_, map}
+use mathlib.Core.Option.{none, some}
 use native.Mathlib.Omega.{arith}
 use lib.Dec.{leb}
 use lib.ListN.{length, drop, length-map}
@@ -13,15 +14,14 @@ use Rattle.geom.specs.Lists.{outsideAll, relative, numbers}
 use Rattle.window.specs.Window.{Win}
 use Rattle.window.specs.Held.{rectOf, Small}
 use Rattle.rules.specs.Group.{used, win}
-use Rattle.rules.specs.Order.{shown, above, placeOf}
+use Rattle.rules.specs.Order.{shown, above}
 use Rattle.rules.specs.Visible.{visible, visibleList}
 use Rattle.rules.proofs.group.Invariant.{used-small}
-use Rattle.rules.proofs.group.Room.{shown-place, hidden-place}
 use Rattle.windows.specs.declared.Session.{Session}
 use Rattle.windows.specs.declared.Listing.{Listing}
-use Rattle.windows.specs.View.{ids, group, windowAt, Given, Lists}
+use Rattle.windows.specs.View.{ids, group, windowAt, Given, renderIdx, Lists}
 use Rattle.windows.proofs.laws.Session.{used-at, win-at, given-ok}
-use Rattle.windows.proofs.laws.Places.{order-length, above-place}
+use Rattle.windows.proofs.laws.Places.{has-place, is-shown, isnt-shown, above-place}
 use Rattle.windows.proofs.laws.Above.{higher}
 
 abbrev pub listing : ℕ → ℕ → Listing
@@ -37,20 +37,16 @@ visible-is s id p r y u a e =
     let w : win (group s) id .at ≡ r = ap (λ (v : Win). v .at) (win-at s id u) ∙ sym e in
     rw (y, a, w)
 
-module _ (s : Session) (h : Given s) (id p : ℕ) (l : p < s .shown) (at : p ≡ placeOf id (ids (s .shown) (s .order))) where
-  is-shown : shown (group s) id ≡ true
-  unfolding group
-  is-shown = shown-place id (ids (s .shown) (s .order)) (omega (arith, order-length s h))
-
+module _ (s : Session) (h : Given s) (id p : ℕ) (at : some p ≡ renderIdx id (ids (s .shown) (s .order))) where
   in-use : used (group s) id ≡ true
-  in-use = given-ok s h .shown-used id is-shown
+  in-use = given-ok s h .shown-used id (is-shown s h id p at)
 
   pub id-low : id < 16
   id-low = used-small (group s) id (given-ok s h) in-use
 
   behind : above id (group s .order) ≡ drop (suc p) (group s .order)
   unfolding group
-  behind = above-place id (group s .order) ∙ ap (λ (k : ℕ). drop (suc k) (group s .order)) (sym at)
+  behind = above-place id (group s .order) ∙ ap (λ (k : ℕ). drop (suc k) (group s .order)) (sym (has-place s h id p at))
 
   -- the window's sides are numbers of 32 bits
   pub frame-fits : (r : Rect) → r ≡ rectOf (windowAt s id .at) → Fits r
@@ -62,7 +58,7 @@ module _ (s : Session) (h : Given s) (id p : ℕ) (l : p < s .shown) (at : p ≡
   module _ (r : Rect) (frame : r ≡ rectOf (windowAt s id .at)) (bs : List Rect) (same : bs ≡ higher s (suc p))
       (n : ℕ) (count : n ≡ length (outsideAll (r ∷ []) bs)) (before : List ℕ) where
     list : visible (group s) id ≡ map (relative r) (outsideAll (r ∷ []) bs)
-    list = visible-is s id p r is-shown (sym (used-at s id) ∙ in-use) behind frame ∙ ap (λ (l : List Rect). map (relative r) (outsideAll (r ∷ []) l)) (sym same)
+    list = visible-is s id p r (is-shown s h id p at) (sym (used-at s id) ∙ in-use) behind frame ∙ ap (λ (l : List Rect). map (relative r) (outsideAll (r ∷ []) l)) (sym same)
 
     long : length (visible (group s) id) ≡ n
     long = ap length list ∙ length-map (outsideAll (r ∷ []) bs) (relative r) ∙ sym count
@@ -87,15 +83,11 @@ module _ (s : Session) (h : Given s) (id p : ℕ) (l : p < s .shown) (at : p ≡
 
 -- Any other window -----------------------------------------------------------------------------------------------------
 
-hidden-in : (s : Session) (id p : ℕ) → Given s → s .shown ≤ p → p ≡ placeOf id (ids (s .shown) (s .order)) → shown (group s) id ≡ false
-unfolding group
-hidden-in s id p h l at = hidden-place id (ids (s .shown) (s .order)) (omega (arith, order-length s h))
-
-pub hidden-list : (s : Session) (id p : ℕ) (before : List ℕ) → Given s → windowAt s id .used ≡ true → s .shown ≤ p → p ≡ placeOf id (ids (s .shown) (s .order))
+pub hidden-list : (s : Session) (id : ℕ) (before : List ℕ) → Given s → windowAt s id .used ≡ true → none ≡ renderIdx id (ids (s .shown) (s .order))
     → Lists (group s) id before (listing 0 0) before
 unfolding visibleList visible
-hidden-list s id p before h u l at =
-    let n : shown (group s) id ≡ false = hidden-in s id p h l at in
+hidden-list s id before h u e =
+    let n : shown (group s) id ≡ false = isnt-shown s h id e in
     let q : used (group s) id ≡ true = used-at s id ∙ u in
     let f : leb 0 (length before) ≡ true = le-leb 0 (length before) (omega arith) in
     record { answer = rw (q, n, f); count = rw (q, n, f); list = rw (q, n, f) }

@@ -3,21 +3,42 @@ use Prim.Native.Nat.{ℕ, zero, suc, _+_, _-_, _≤_, _<_}
 use mathlib.Core.Path.{_≡_, refl, sym, ap, _∙_}
 use mathlib.Core.Bool.{Bool, true, false, cond}
 use mathlib.Core.List.{List, [], _∷_, _++_, map, append-nil, append-assoc}
+use mathlib.Core.Option.{none, some}
+use mathlib.Core.Logic.{⊎-elim}
 use native.Mathlib.Omega.{arith}
 use native.Mathlib.Numerals.{add-one}
 use lib.Dec.{eqb}
 use lib.ListN.{length, getD, set, take, drop, length-map, length-take, length-set, drop-of-length-le, List·getD-map}
-use lib.Seq.{drop-cons, drop-length, getD-take, length-take-le, take-take, take-suc, take-suc-set, drop-append-le}
+use lib.Seq.{drop-cons, getD-take, length-take-le, take-take, take-suc, take-suc-set, drop-append-le}
 use borrow.Author.Tests.{eq-eqb, ne-eqb}
-use Rattle.rules.specs.Order.{placeOf, without}
+use Rattle.geom.proofs.basics.Tests.{clash, lt-or-le}
+use Rattle.rules.specs.Order.{isIn, placeOf, without}
+use Rattle.rules.proofs.group.Room.{shown-place, hidden-place}
 use Rattle.windows.specs.declared.WinId.{WinId}
-use Rattle.windows.specs.View.{num, ids, Closed}
-
-abbrev pub noId : WinId
-noId = record { 0 = 0 }
+use Rattle.windows.specs.View.{num, ids, noId, renderIdx, Closed}
 
 pub ids-length : (n : ℕ) (l : List WinId) → n ≤ length l → length (ids n l) ≡ n
 ids-length n l h = length-map (take n l) num ∙ length-take-le n l h
+
+-- The search for a place ----------------------------------------------------------------------------------------------
+
+-- a window that has a place stands there
+pub is-at : (id p : ℕ) (o : List ℕ) → some p ≡ renderIdx id o → (isIn id o ≡ true) × (p ≡ placeOf id o)
+is-at id p o = go (isIn id o) refl
+  where
+    go : (b : Bool) → isIn id o ≡ b → some p ≡ cond b (some (placeOf id o)) none → (isIn id o ≡ true) × (p ≡ placeOf id o)
+    go true i e = (i, cc)
+    go false i e = let z : _≡_ {A = ℕ} 0 1 = cc in absurd (omega arith)
+
+pub is-nowhere : (id : ℕ) (o : List ℕ) → none ≡ renderIdx id o → isIn id o ≡ false
+is-nowhere id o = go (isIn id o) refl
+  where
+    go : (b : Bool) → isIn id o ≡ b → none ≡ cond b (some (placeOf id o)) none → isIn id o ≡ false
+    go true i e = let z : _≡_ {A = ℕ} 0 1 = cc in absurd (omega arith)
+    go false i e = i
+
+pub place-low : (id : ℕ) (o : List ℕ) → isIn id o ≡ true → placeOf id o < length o
+place-low id o i = ⊎-elim (λ l. l) (λ l. clash i (hidden-place id o l)) (lt-or-le (placeOf id o) (length o))
 
 -- the first i are passed
 pub record Placing (order : List WinId) (n id i : ℕ) : Type 0 where
@@ -35,21 +56,19 @@ module _ {order : List WinId} {n id i : ℕ} (q : Placing order n id i) where
       drop-cons (ids n order) i 0 (omega (arith, count))
       ∙ ap (λ (e : ℕ). e ∷ drop (suc i) (ids n order)) (List·getD-map num (take n order) i noId ∙ ap num (getD-take n order i noId h))
 
-  pub place-hit : i < n → getD order i noId .0 ≡ id → i ≡ placeOf id (ids n order)
+  pub place-hit : i < n → getD order i noId .0 ≡ id → some i ≡ renderIdx id (ids n order)
   place-hit h e =
       let z : placeOf id (drop i (ids n order)) ≡ 0 = rw (next h, eq-eqb (getD order i noId .0) id e) refl in
-      omega (arith, q .so-far)
+      let p : i ≡ placeOf id (ids n order) = omega (arith, q .so-far) in
+      rw (shown-place id (ids n order) (omega (arith, count))) (ap some p)
 
   pub place-miss : i < n → (getD order i noId .0 ≡ id → ⊥) → Placing order n id (i + 1)
   place-miss h e =
       let z : placeOf id (drop i (ids n order)) ≡ suc (placeOf id (drop (suc i) (ids n order))) = rw (next h, ne-eqb (getD order i noId .0) id e) refl in
       record { size = q .size; few = q .few; within = omega arith; so-far = rw add-one (omega (arith, q .so-far)) }
 
-  pub place-end : n ≤ i → i ≡ placeOf id (ids n order)
-  place-end h =
-      let k : i ≡ length (ids n order) = omega (arith, count, q .within) in
-      let z : placeOf id (drop i (ids n order)) ≡ 0 = rw (k, drop-length (ids n order)) refl in
-      omega (arith, q .so-far)
+  pub place-end : n ≤ i → none ≡ renderIdx id (ids n order)
+  place-end h = rw (hidden-place id (ids n order) (omega (arith, q .so-far, count)))
 
 -- A gap closed ------------------------------------------------------------------------------------------------------
 
@@ -86,10 +105,6 @@ module _ {shown p : ℕ} {order next : List WinId} {i : ℕ} (q : Closing shown 
       let e : shown ≡ suc i = omega arith in
       let f : suc i - 1 ≡ i = omega arith in
       record { all = q .kept; front = rw (e, f) (q .so-far) }
-
--- the id at a place that is read with one off, as the focus is
-pub focus-at : (left j k : ℕ) (order : List WinId) → j < left → k - 1 ≡ j → getD order j noId .0 ≡ getD (ids left order) (k - 1) 0
-focus-at left j k order h e = rw e (sym (ids-at left j order h))
 
 -- the order without an id is the order without its place
 pub without-place : (id : ℕ) (l : List ℕ) → without id l ≡ take (placeOf id l) l ++ drop (suc (placeOf id l)) l

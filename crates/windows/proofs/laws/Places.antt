@@ -1,24 +1,25 @@
--- The window at a place of the render order: its id is in use, the windows above it, and how the code reads it.
-use Prim.Native.Nat.{ℕ, zero, suc, _+_, _≤_, _<_}
+-- The window at a place of the render order: its id is in use, the windows above it, and how the code reads it; and the place of a window.
+use Prim.Native.Nat.{ℕ, zero, suc, _<_}
 use mathlib.Core.Path.{_≡_, refl, sym, ap, _∙_}
-use mathlib.Core.Bool.{Bool, true, false, cond, _||_}
-use mathlib.Core.List.{List, [], _∷_, map}
+use mathlib.Core.Bool.{Bool, true, false, cond}
+use mathlib.Core.List.{List, [], _∷_}
+use mathlib.Core.Option.{none, some}
 use native.Mathlib.Omega.{arith}
 use native.Mathlib.Nat.{not-suc-le-zero}
 use lib.Dec.{eqb}
 use lib.ListN.{length, getD, drop}
 use borrow.Author.Tests.{eqb-true, eq-eqb}
-use Rattle.geom.proofs.basics.Tests.{clash, is-false, or-left, or-right}
-use Rattle.geom.specs.declared.Rect.{Rect}
-use Rattle.window.specs.Held.{winOf, rectOf}
-use Rattle.rules.specs.Group.{Group, used, win}
+use Rattle.geom.proofs.basics.Tests.{clash, is-false, or-right}
+use Rattle.window.specs.Held.{winOf}
+use Rattle.rules.specs.Group.{used, win}
 use Rattle.rules.specs.Order.{isIn, placeOf, above, shown}
 use Rattle.rules.proofs.group.Order.{Distinct, isIn-here}
-use Rattle.rules.proofs.group.Invariant.{Ok, used-small}
+use Rattle.rules.proofs.group.Invariant.{used-small}
+use Rattle.windows.specs.declared.WinId.{WinId}
 use Rattle.windows.specs.declared.Session.{Session}
-use Rattle.windows.specs.View.{ids, group, windowAt, Rep, Given}
+use Rattle.windows.specs.View.{num, ids, noId, group, windowAt, Given, renderIdx}
 use Rattle.windows.proofs.laws.Session.{used-at, win-at, given-ok}
-use Rattle.windows.proofs.laws.Order.{noId, ids-length, ids-at}
+use Rattle.windows.proofs.laws.Order.{ids-length, ids-at, is-at, is-nowhere, place-low}
 
 -- Orders of ids ------------------------------------------------------------------------------------------------------
 
@@ -52,29 +53,46 @@ module _ (s : Session) (h : Given s) where
   unfolding group
   order-length = ids-length (s .shown) (s .order) (omega (arith, h .rep .order, h .rep .shown))
 
-  module _ (i : ℕ) (l : i < s .shown) where
-    -- the id that the code reads
-    pub id-at : getD (group s .order) i 0 ≡ getD (s .order) i noId .0
-    unfolding group
-    id-at = ids-at (s .shown) i (s .order) l
+  -- a window that has a place is shown and stands there
+  module _ (id p : ℕ) (e : some p ≡ renderIdx id (ids (s .shown) (s .order))) where
+    pub has-place : p ≡ placeOf id (ids (s .shown) (s .order))
+    has-place = is-at id p (ids (s .shown) (s .order)) e .1
 
-    pub shown-at : shown (group s) (getD (s .order) i noId .0) ≡ true
+    pub is-shown : shown (group s) id ≡ true
+    unfolding group
+    is-shown = is-at id p (ids (s .shown) (s .order)) e .0
+
+    pub in-order : p < s .shown
+    unfolding group
+    in-order = omega (arith, has-place, order-length, place-low id (group s .order) is-shown)
+
+  pub isnt-shown : (id : ℕ) → none ≡ renderIdx id (ids (s .shown) (s .order)) → shown (group s) id ≡ false
+  unfolding group
+  isnt-shown id e = is-nowhere id (ids (s .shown) (s .order)) e
+
+  -- the id v that was read at place i
+  module _ (i : ℕ) (l : i < s .shown) (v : WinId) (read : v ≡ getD (s .order) i noId) where
+    pub id-at : getD (group s .order) i 0 ≡ v .0
+    unfolding group
+    id-at = ids-at (s .shown) i (s .order) l ∙ ap num (sym read)
+
+    pub shown-at : shown (group s) (v .0) ≡ true
     shown-at = ap (λ (k : ℕ). isIn k (group s .order)) (sym id-at) ∙ is-in-at (group s .order) i (omega (arith, order-length))
 
-    pub used-there : used (group s) (getD (s .order) i noId .0) ≡ true
-    used-there = given-ok s h .shown-used (getD (s .order) i noId .0) shown-at
+    pub used-there : used (group s) (v .0) ≡ true
+    used-there = given-ok s h .shown-used (v .0) shown-at
 
-    pub id-low : getD (s .order) i noId .0 < 16
-    id-low = used-small (group s) (getD (s .order) i noId .0) (given-ok s h) used-there
+    pub id-low : v .0 < 16
+    id-low = used-small (group s) (v .0) (given-ok s h) used-there
 
-    pub is-used : windowAt s (getD (s .order) i noId .0) .used ≡ true
-    is-used = sym (used-at s (getD (s .order) i noId .0)) ∙ used-there
+    pub is-used : windowAt s (v .0) .used ≡ true
+    is-used = sym (used-at s (v .0)) ∙ used-there
 
-    pub win-there : win (group s) (getD (s .order) i noId .0) ≡ winOf (windowAt s (getD (s .order) i noId .0))
-    win-there = win-at s (getD (s .order) i noId .0) is-used
+    pub win-there : win (group s) (v .0) ≡ winOf (windowAt s (v .0))
+    win-there = win-at s (v .0) is-used
 
-    pub above-there : above (getD (s .order) i noId .0) (group s .order) ≡ drop (suc i) (group s .order)
+    pub above-there : above (v .0) (group s .order) ≡ drop (suc i) (group s .order)
     above-there =
-        above-place (getD (s .order) i noId .0) (group s .order)
+        above-place (v .0) (group s .order)
         ∙ ap (λ (k : ℕ). drop (suc k) (group s .order))
         (ap (λ (k : ℕ). placeOf k (group s .order)) (sym id-at) ∙ place-at (group s .order) i (given-ok s h .distinct) (omega (arith, order-length)))

@@ -1,97 +1,109 @@
--- The windows from place i on are left to draw.
+-- The windows from place p on are left to draw.
 use Prim.Native.Nat.{_-_}
 use mathlib.Core.Path.{refl, _∙_}
 use native.Mathlib.Omega.{arith}
-use Rattle.visible.proofs.laws.Numbers.{rest-lent}
+use Rattle.windows.specs.Rects.{Holds}
 use Rattle.windows.proofs.laws.Places.{id-low}
+use Rattle.windows.proofs.laws.Above.{higher}
 use Rattle.windows.proofs.laws.Drawn.{in-store, base-fits, window-drawn, Drawing, draw-next, draw-end, all-lent}
 use borrow.Author.Needs.{needs}
 use Rattle.windows.proofs.Session.draw_all.Statement.{statement}
 use Rattle.windows.proofs.Session.draw_all.Tie as tie
 
 abbrev Inv-loop : tie.InvT-loop
-Inv-loop full store screen₀ sw sh self n numbers i₀ screen i = Drawing self full store sw sh screen₀ screen i
+Inv-loop full store screen₀ sw sh self n order numbers p₀ screen p = Drawing self full store sw sh screen₀ screen (p .0)
 
 abbrev μ-loop : tie.MeasureT-loop
-μ-loop full store screen₀ sw sh self n numbers i₀ screen i = n - i
+μ-loop full store screen₀ sw sh self n order numbers p₀ screen p = n - p .0
+
+-- the rectangles of all shown windows
+held : (c : tie.After-from Inv-loop μ-loop) → Holds (c .from .result) (higher (c .before .before .before .before .before .args .t1) 0)
+held c = rw (c .before .lowest .ensures) at (c .from .ensures)
+
+lowest-requires : tie.Need-lowest-requires Inv-loop μ-loop
+lowest-requires c κs = search needs
 
 from-requires : tie.Need-from-requires Inv-loop μ-loop
-from-requires c κs = (c .before .before .pre .0, omega arith)
+from-requires c κs = (c .before .before .before .before .pre .0, omega (arith, c .lowest .ensures))
+
+lowest-requires-2 : tie.Need-lowest-requires-2 Inv-loop μ-loop
+lowest-requires-2 c κs = search needs
 
 loop-holds : tie.Need-loop-holds Inv-loop μ-loop
-loop-holds c = record { within = omega arith; size = refl; left = refl }
+loop-holds c = rw (c .lowest2 .ensures) (record { within = omega arith; size = refl; left = refl })
 
-mul-id : tie.Need-mul-id Inv-loop μ-loop
-mul-id c = omega (arith, c .before .before .before .before .before .before .pre .0 .rep .shown)
-
-element-copy-out-id : tie.Need-element-copy-out-id Inv-loop μ-loop
-element-copy-out-id c = omega (arith, c .before .before .before .before .before .before .pre .0 .rep .shown)
+window-at-requires : tie.Need-window-at-requires Inv-loop μ-loop
+window-at-requires c κs = omega (arith, c .if1 .taken, c .before .before .before .before .before .before .before .before .before .before .pre .0 .rep .shown)
 
 cast-at : tie.Need-cast-at Inv-loop μ-loop
-cast-at c = omega (arith, id-low _ (c .before .before .before .before .before .before .before .before .pre .0) _ (c .before .before .loop-test .taken))
+cast-at c = omega (arith, id-low _ (c .before .before .before .before .before .before .before .before .before .before .before .before .pre .0) _ (c .before .before .if1 .taken) _ (c .before .window-at .ensures))
 
 mul-w : tie.Need-mul-w Inv-loop μ-loop
-mul-w c = omega (arith, id-low _ (c .before .before .before .before .before .before .before .before .pre .0) _ (c .before .before .loop-test .taken))
+mul-w c = omega (arith, id-low _ (c .before .before .before .before .before .before .before .before .before .before .before .before .pre .0) _ (c .before .before .if1 .taken) _ (c .before .window-at .ensures))
 
 element-copy-out-w : tie.Need-element-copy-out-w Inv-loop μ-loop
-element-copy-out-w c = omega (arith, id-low _ (c .before .before .before .before .before .before .before .before .pre .0) _ (c .before .before .loop-test .taken))
+element-copy-out-w c = omega (arith, id-low _ (c .before .before .before .before .before .before .before .before .before .before .before .before .pre .0) _ (c .before .before .if1 .taken) _ (c .before .window-at .ensures))
 
 cast-base : tie.Need-cast-base Inv-loop μ-loop
 cast-base c = search needs
 
 mul-base : tie.Need-mul-base Inv-loop μ-loop
-mul-base c = omega (arith, base-fits _ (c .before .before .before .before .before .before .before .before .before .pre .0) _ (c .before .before .before .loop-test .taken))
+mul-base c = omega (arith, base-fits _ (c .before .before .before .before .before .before .before .before .before .before .before .before .before .pre .0) _ (c .before .before .before .if1 .taken) _ (c .before .before .window-at .ensures))
 
 add-next : tie.Need-add-next Inv-loop μ-loop
-add-next c = omega (arith, c .before .before .before .before .before .before .before .before .before .pre .0 .rep .shown)
+add-next c = omega (arith, c .before .before .before .before .if1 .taken, c .before .before .before .before .before .before .before .before .before .before .before .before .before .before .pre .0 .rep .shown)
 
 mul-next : tie.Need-mul-next Inv-loop μ-loop
-mul-next c = omega (arith, c .before .before .before .before .before .before .before .before .before .pre .0 .rep .shown, c .before .before .before .loop-test .taken)
+mul-next c = omega (arith, c .before .before .before .before .if1 .taken, c .before .before .before .before .before .before .before .before .before .before .before .before .before .before .pre .0 .rep .shown)
 
 mul-draw-window : tie.Need-mul-draw-window Inv-loop μ-loop
-mul-draw-window c = omega (arith, c .before .before .before .before .before .before .before .before .before .pre .0 .rep .shown, c .before .before .before .loop-test .taken)
+mul-draw-window c = omega (arith, c .before .before .before .before .if1 .taken, c .before .before .before .before .before .before .before .before .before .before .before .before .before .before .pre .0 .rep .shown)
 
 sub-draw-window : tie.Need-sub-draw-window Inv-loop μ-loop
-sub-draw-window c = omega (arith, c .before .before .before .before .before .before .before .before .before .pre .0 .rep .shown, c .before .before .before .loop-test .taken)
+sub-draw-window c = omega (arith, c .before .before .before .before .if1 .taken, c .before .before .before .before .before .before .before .before .before .before .before .before .before .before .pre .0 .rep .shown)
 
 part-draw-window-start : tie.Need-part-draw-window-start Inv-loop μ-loop
-part-draw-window-start c = omega (arith, c .before .before .before .before .before .before .before .before .before .before .pre .0 .rep .shown, c .before .before .before .before .loop-test .taken, c .before .before .before .before .before .before .before .from .ensures .room)
+part-draw-window-start c = omega (arith, c .before .before .before .before .before .if1 .taken, c .before .before .before .before .before .before .before .before .before .before .before .before .before .before .before .pre .0 .rep .shown, c .before .before .before .before .before .before .before .before .before .before .from .ensures .room)
 
 part-draw-window-end : tie.Need-part-draw-window-end Inv-loop μ-loop
 part-draw-window-end c = search needs
 
 sub-draw-window-2 : tie.Need-sub-draw-window-2 Inv-loop μ-loop
-sub-draw-window-2 c = omega (arith, c .before .before .before .before .before .loop-test .taken)
+sub-draw-window-2 c = omega (arith, c .before .before .before .before .before .before .before .if1 .taken)
 
 sub-draw-window-3 : tie.Need-sub-draw-window-3 Inv-loop μ-loop
-sub-draw-window-3 c = omega (arith, c .before .before .before .before .before .loop-test .taken)
+sub-draw-window-3 c = omega (arith, c .before .before .before .before .before .before .before .if1 .taken)
 
 draw-window-requires : tie.Need-draw-window-requires Inv-loop μ-loop
 draw-window-requires c κs =
-    let s = c .before .before .before .before .before .before .before .before .before .before .before .before in
+    let s = c .before .before .before .before .before .before .before .before .before .before .before .before .before .before .before .before .before .before in
     let g = s .pre .0 in
     let d = s .pre .1 in
-    let l = c .before .before .before .before .before .before .loop-test .taken in
-    ((g .rep .each _ (id-low _ g _ l), omega (arith, in-store _ g _ l, d .whole), all-lent _ g _ l _ (c .before .before .before .before .before .before .before .before .before .from .ensures)), (d .sw≤, d .sh≤, c .before .before .before .before .before .before .before .loop .inv .size ∙ d .size))
+    let l = c .before .before .before .before .before .before .before .before .if1 .taken in
+    let r = c .before .before .before .before .before .before .before .window-at .ensures in (
+      (g .rep .each _ (id-low _ g _ l _ r), omega (arith, in-store _ g _ l _ r, d .whole), all-lent _ g _ l _ r _ (held (c .before .before .before .before .before .before .before .before .before .before .before .before .before))),
+      (d .sw≤, d .sh≤, c .before .before .before .before .before .before .before .before .before .before .loop .inv .size ∙ d .size),
+    )
 
-add-i : tie.Need-add-i Inv-loop μ-loop
-add-i c = omega (arith, c .before .before .before .before .before .before .before .before .before .before .before .before .before .before .before .pre .0 .rep .shown)
+next-requires : tie.Need-next-requires Inv-loop μ-loop
+next-requires c κs = omega (arith, c .before .before .before .before .before .before .before .before .before .before .before .if1 .taken, c .before .before .before .before .before .before .before .before .before .before .before .before .before .before .before .before .before .before .before .before .before .pre .0 .rep .shown)
 
 loop-less : tie.Need-loop-less Inv-loop μ-loop
-loop-less c = omega arith
+loop-less c = omega (arith, c .next .ensures, c .before .before .before .before .before .before .before .before .before .before .before .before .if1 .taken)
 
 loop-again : tie.Need-loop-again Inv-loop μ-loop
 loop-again c =
-    let s = c .before .before .before .before .before .before .before .before .before .before .before .before .before .before .before in
-    let l = c .before .before .before .before .before .before .before .before .before .loop-test .taken in
-    draw-next (s .pre .0) (c .before .before .before .before .before .before .before .before .before .before .loop .inv) _ l (search needs)
-    (window-drawn _ (s .pre .0) _ l _ (c .before .before .before .before .before .before .before .before .before .before .before .before .from .ensures) (s .args .full) (s .args .store .now) _ (s .args .sw) (s .args .sh) _ (c .before .before .draw-window .ensures))
+    let s = c .before .before .before .before .before .before .before .before .before .before .before .before .before .before .before .before .before .before .before .before .before .before in
+    let l = c .before .before .before .before .before .before .before .before .before .before .before .before .if1 .taken in
+    rw (c .next .ensures)
+    (draw-next (s .pre .0) (c .before .before .before .before .before .before .before .before .before .before .before .before .before .before .loop .inv) _ l (search needs)
+    (window-drawn _ (s .pre .0) _ l _ (c .before .before .before .before .before .before .before .before .before .before .before .window-at .ensures) _ (held (c .before .before .before .before .before .before .before .before .before .before .before .before .before .before .before .before .before)) (s .args .full) (s .args .store .now) _ (s .args .sw) (s .args .sh) _ (c .before .before .before .draw-window .ensures)))
 
 same-length : tie.Need-same-length Inv-loop μ-loop
-same-length c = c .before .loop .inv .size
+same-length c = c .before .before .loop .inv .size
 
 returns : tie.Need-returns Inv-loop μ-loop
-returns c = draw-end (c .before .before .before .before .before .before .pre .0) (c .before .loop .inv) (c .loop-test .left)
+returns c = draw-end (c .before .before .before .before .before .before .before .before .before .before .pre .0) (c .before .before .loop .inv) (c .if1 .left)
 
 pub draw-all-spec : {M : Type 1} → statement M
 draw-all-spec =
@@ -99,10 +111,11 @@ draw-all-spec =
     (tie.spec
     Inv-loop
     μ-loop
+    lowest-requires
     from-requires
+    lowest-requires-2
     loop-holds
-    mul-id
-    element-copy-out-id
+    window-at-requires
     cast-at
     mul-w
     element-copy-out-w
@@ -117,7 +130,7 @@ draw-all-spec =
     sub-draw-window-2
     sub-draw-window-3
     draw-window-requires
-    add-i
+    next-requires
     loop-less
     loop-again
     same-length

@@ -1,13 +1,16 @@
 -- Question 3; then a window with a place leaves it, and the focus goes on if it was the window's.
-use Prim.Native.Nat.{ℕ}
-use mathlib.Core.Path.{_≡_, refl, ap, _∙_}
+use Prim.Native.Nat.{ℕ, _<_}
+use mathlib.Core.Path.{_≡_, sym, ap, _∙_}
 use mathlib.Core.Bool.{true, false}
+use mathlib.Core.Option.{some}
+use native.Mathlib.Omega.{arith}
 use Rattle.rules.specs.Group.{used}
 use Rattle.rules.specs.Order as Order
 use Rattle.rules.specs.Calls.{Hide, does}
 use Rattle.windows.specs.declared.Session.{Session}
-use Rattle.windows.specs.View.{group, windowAt, Rep, Given, Meets, done}
+use Rattle.windows.specs.View.{ids, group, windowAt, Rep, Given, idxOf, renderIdx, Meets, done}
 use Rattle.windows.proofs.laws.Session.{used-at, used-past, refuses, gives}
+use Rattle.windows.proofs.laws.Places.{in-order}
 use Rattle.windows.proofs.laws.Hidden.{hidden-already, hidden-now}
 use borrow.Author.Needs.{needs}
 use Rattle.windows.proofs.Session.hide.Statement.{statement}
@@ -24,6 +27,13 @@ module _ (s : Session) (id : ℕ) where
   unfolding does Order.hide
   not-used h u = refuses (Hide id) s 2 h (rw u)
 
+-- the window has a place
+placed : (c : tie.After-idx) → let s = c .before .before .before .before .before .before .args in some (c .idx .given .0 .0 .0) ≡ renderIdx (s .id .0) (ids (s .t1 .shown) (s .t1 .order))
+placed c = sym (ap idxOf (c .idx .given .1)) ∙ c .before .before .get-render-idx .ensures
+
+low : (c : tie.After-idx) → c .idx .given .0 .0 .0 < c .before .before .before .before .before .before .args .t1 .shown
+low c = let s = c .before .before .before .before .before .before in in-order (s .args .t1) (s .pre) (s .args .id .0) _ (placed c)
+
 cast-at : tie.Need-cast-at
 cast-at c = search needs
 
@@ -33,31 +43,38 @@ mul-if2 c = search needs
 element-copy-out-if2 : tie.Need-element-copy-out-if2
 element-copy-out-if2 c = search needs
 
-place-of-requires : tie.Need-place-of-requires
-place-of-requires c κs = search needs
+get-render-idx-requires : tie.Need-get-render-idx-requires
+get-render-idx-requires c κs = search needs
+
+enum-known-idx : tie.Need-enum-known-idx
+enum-known-idx c = search needs
 
 close-gap-requires : tie.Need-close-gap-requires
-close-gap-requires c κs = search needs
+close-gap-requires c κs = (c .before .before .before .before .before .before .before .pre .rep .shown, low (c .before))
 
 sub-focus-after : tie.Need-sub-focus-after
-sub-focus-after c = search needs
+sub-focus-after c = omega (arith, low (c .before .before .before))
 
 focus-after-requires : tie.Need-focus-after-requires
-focus-after-requires c κs = search needs
+focus-after-requires c κs = omega (arith, low (c .before .before .before), c .before .before .before .before .before .before .before .before .before .pre .rep .shown)
 
 sub-self : tie.Need-sub-self
-sub-self c = search needs
+sub-self c = omega (arith, low (c .before .before .before .before))
+
+enum-told : tie.Need-enum-told
+enum-told c = search needs
 
 returns : tie.Need-returns
 returns c =
-    let s = c .before .before .before .before .before .before .before .before .before in
-    hides (s .args .t1) (s .args .id .0) _ (s .pre) (c .before .before .before .before .before .before .before .if2 .taken)
-    (hidden-now _ (s .pre .rep) _ _ (c .before .before .before .before .before .place-of .ensures) (c .before .before .before .if3 .taken) _ (c .before .before .close-gap .ensures) _ (c .focus-after .ensures))
+    let s = c .before .before .before .before .before .before .before .before .before .before in
+    hides (s .args .t1) (s .args .id .0) _ (s .pre) (c .before .before .before .before .before .before .before .before .if2 .taken)
+    (hidden-now _ (s .pre) _ _ (placed (c .before .before .before .before)) _ (c .before .before .close-gap .ensures) _ (c .focus-after .ensures))
 
 returns-2 : tie.Need-returns-2
 returns-2 c =
     let s = c .before .before .before .before .before .before in
-    hides (s .args .t1) (s .args .id .0) _ (s .pre) (c .before .before .before .before .if2 .taken) (hidden-already _ (s .pre .rep) _ _ (c .before .before .place-of .ensures) (c .if3 .left))
+    hides (s .args .t1) (s .args .id .0) _ (s .pre) (c .before .before .before .before .if2 .taken)
+    (hidden-already _ (s .pre) _ (sym (ap idxOf (c .enum-told .given .1)) ∙ c .before .before .get-render-idx .ensures))
 
 returns-3 : tie.Need-returns-3
 returns-3 c =
@@ -76,11 +93,13 @@ hide-spec =
     cast-at
     mul-if2
     element-copy-out-if2
-    place-of-requires
+    get-render-idx-requires
+    enum-known-idx
     close-gap-requires
     sub-focus-after
     focus-after-requires
     sub-self
+    enum-told
     returns
     returns-2
     returns-3

@@ -1,12 +1,21 @@
 -- The list is counted, and written if there is room for it.
-use mathlib.Core.Path.{ap, _∙_}
+use Prim.Native.Nat.{suc}
+use mathlib.Core.Path.{_≡_, ap, _∙_}
 use native.Mathlib.Omega.{arith}
 use Rattle.windows.proofs.laws.Rects.{lends}
-use Rattle.windows.proofs.laws.Above.{higher-next}
+use Rattle.windows.proofs.laws.Places.{in-order}
+use Rattle.windows.proofs.laws.Above.{higher, higher-next}
 use Rattle.windows.proofs.laws.Listed.{id-low, frame-fits, listed, no-room}
+use Rattle.rules.specs.Visible.{rectsOf}
 use borrow.Author.Needs.{needs}
 use Rattle.windows.proofs.Session.list_shown.Statement.{statement}
 use Rattle.windows.proofs.Session.list_shown.Tie as tie
+
+-- the rectangles that are lent are those of the windows above p
+lent : (c : tie.After-from) → let s = c .before .before .before .before .before .before .before .args in rectsOf (c .from .result .len) (c .from .result .numbers) ≡ higher (s .t1) (suc (s .p .0))
+lent c =
+    let s = c .before .before .before .before .before .before .before .args in
+    c .from .ensures .list ∙ ap (higher (s .t1)) (c .before .next .ensures) ∙ higher-next (s .t1) (s .p .0)
 
 cast-at : tie.Need-cast-at
 cast-at c = search needs
@@ -15,37 +24,47 @@ mul-w : tie.Need-mul-w
 mul-w c = search needs
 
 element-copy-out-w : tie.Need-element-copy-out-w
-element-copy-out-w c = omega (arith, id-low _ (c .before .before .pre .0) _ _ (c .before .before .pre .1) (c .before .before .pre .2))
+element-copy-out-w c = id-low _ (c .before .before .pre .0) _ _ (c .before .before .pre .1)
 
 rect-requires : tie.Need-rect-requires
 rect-requires c κs = search needs
 
-add-if1 : tie.Need-add-if1
-add-if1 c = omega (arith, c .before .before .before .before .before .before .pre .0 .rep .shown, c .before .before .before .before .before .before .pre .1)
+next-requires : tie.Need-next-requires
+next-requires c κs = omega (arith, in-order _ (c .before .before .before .before .before .pre .0) _ _ (c .before .before .before .before .before .pre .1), c .before .before .before .before .before .pre .0 .rep .shown)
 
 from-requires : tie.Need-from-requires
-from-requires c κs = (c .before .before .before .before .before .before .pre .0, omega (arith, c .before .before .before .before .before .before .pre .1))
+from-requires c κs = (c .before .before .before .before .before .before .pre .0, omega (arith, c .next .ensures, in-order _ (c .before .before .before .before .before .before .pre .0) _ _ (c .before .before .before .before .before .before .pre .1)))
 
 slice-aggregate-count : tie.Need-slice-aggregate-count
 slice-aggregate-count c = search needs
 
 count-requires : tie.Need-count-requires
-count-requires c κs = (frame-fits _ (c .before .before .before .before .before .before .before .before .before .pre .0) _ _ (c .before .before .before .before .before .before .before .before .before .pre .1) (c .before .before .before .before .before .before .before .before .before .pre .2) _ (c .before .before .before .before .rect .ensures), lends _ _ (c .before .before .from .ensures), omega (arith, c .before .before .from .ensures .few, c .before .before .from .ensures .count))
+count-requires c κs =
+    let s = c .before .before .before .before .before .before .before .before .before in
+    let f = c .before .before .from .ensures in
+    (frame-fits _ (s .pre .0) _ _ (s .pre .1) _ (c .before .before .before .before .rect .ensures), lends _ _ f, omega (arith, f .few, f .count))
 
 slice-aggregate-list : tie.Need-slice-aggregate-list
 slice-aggregate-list c = search needs
 
 list-requires : tie.Need-list-requires
-list-requires c κs = ((frame-fits _ (c .before .before .before .before .before .before .before .before .before .before .before .before .before .pre .0) _ _ (c .before .before .before .before .before .before .before .before .before .before .before .before .before .pre .1) (c .before .before .before .before .before .before .before .before .before .before .before .before .before .pre .2) _ (c .before .before .before .before .before .before .before .before .rect .ensures), lends _ _ (c .before .before .before .before .before .before .from .ensures)), omega (arith, c .before .before .before .count .ensures, c .before .before .if1 .taken))
+list-requires c κs =
+    let s = c .before .before .before .before .before .before .before .before .before .before .before .before .before in
+    ((frame-fits _ (s .pre .0) _ _ (s .pre .1) _ (c .before .before .before .before .before .before .before .before .rect .ensures), lends _ _ (c .before .before .before .before .before .before .from .ensures)), omega (arith, c .before .before .before .count .ensures, c .before .before .if1 .taken))
 
 same-length : tie.Need-same-length
 same-length c = search needs
 
 returns : tie.Need-returns
-returns c = listed _ (c .before .before .before .before .before .before .before .before .before .before .before .before .before .before .before .before .pre .0) _ _ (c .before .before .before .before .before .before .before .before .before .before .before .before .before .before .before .before .pre .1) (c .before .before .before .before .before .before .before .before .before .before .before .before .before .before .before .before .pre .2) _ (c .before .before .before .before .before .before .before .before .before .before .before .rect .ensures) _ (c .before .before .before .before .before .before .before .before .before .from .ensures .list ∙ higher-next (c .before .before .before .before .before .before .before .before .before .before .before .before .before .before .before .before .args .t1) (c .before .before .before .before .before .before .before .before .before .before .before .before .before .before .before .before .args .p .0)) _ (c .before .before .before .before .before .before .count .ensures) _ _ _ (omega (arith, c .before .before .before .before .before .if1 .taken)) (c .before .before .list .ensures .0) (c .before .before .list .ensures .1)
+returns c =
+    let s = c .before .before .before .before .before .before .before .before .before .before .before .before .before .before .before .before in
+    let l = c .before .before .list .ensures in
+    listed _ (s .pre .0) _ _ (s .pre .1) _ (c .before .before .before .before .before .before .before .before .before .before .before .rect .ensures) _ (lent (c .before .before .before .before .before .before .before .before .before)) _ (c .before .before .before .before .before .before .count .ensures) _ _ _ (omega (arith, c .before .before .before .before .before .if1 .taken)) (l .0) (l .1)
 
 returns-2 : tie.Need-returns-2
-returns-2 c = no-room _ (c .before .before .before .before .before .before .before .before .before .before .before .pre .0) _ _ (c .before .before .before .before .before .before .before .before .before .before .before .pre .1) (c .before .before .before .before .before .before .before .before .before .before .before .pre .2) _ (c .before .before .before .before .before .before .rect .ensures) _ (c .before .before .before .before .from .ensures .list ∙ higher-next (c .before .before .before .before .before .before .before .before .before .before .before .args .t1) (c .before .before .before .before .before .before .before .before .before .before .before .args .p .0)) _ (c .before .count .ensures) _ (omega (arith, c .if1 .left))
+returns-2 c =
+    let s = c .before .before .before .before .before .before .before .before .before .before .before in
+    no-room _ (s .pre .0) _ _ (s .pre .1) _ (c .before .before .before .before .before .before .rect .ensures) _ (lent (c .before .before .before .before)) _ (c .before .count .ensures) _ (omega (arith, c .if1 .left))
 
 pub list-shown-spec : {M : Type 1} → statement M
 list-shown-spec =
@@ -55,7 +74,7 @@ list-shown-spec =
     mul-w
     element-copy-out-w
     rect-requires
-    add-if1
+    next-requires
     from-requires
     slice-aggregate-count
     count-requires

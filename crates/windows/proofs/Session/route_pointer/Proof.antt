@@ -1,70 +1,80 @@
--- The windows above the first n do not contain the point; each turn looks at the highest of those that are left.
-use Prim.Native.Nat.{_-_, _≤_, _<_}
+-- The windows from place `above` on do not contain the point; each turn looks at the highest of those below.
+use Prim.Native.Nat.{ℕ, _-_, _≤_, _<_}
 use mathlib.Core.Path.{_≡_, sym, ap, subst, _∙_}
 use mathlib.Core.Bool.{true, _&&_}
 use native.Mathlib.Omega.{arith}
-use borrow.Author.Tests.{leb-true}
+use borrow.Author.Tests.{leb-true, le-leb}
 use Rattle.geom.specs.declared.Rect.{Rect}
+use Rattle.geom.specs.declared.Tested.{Tested}
 use Rattle.geom.specs.Questions.{small}
-use Rattle.geom.specs.Geom.{left, top, contains}
-use Rattle.geom.specs.Inner.{Fits}
+use Rattle.geom.specs.Geom.{left, top, right, bottom, contains}
+use Rattle.geom.specs.Bare.{bareContains}
 use Rattle.geom.proofs.basics.Tests.{fst, snd}
 use Rattle.geom.proofs.geometry.Facts.{In, says-in}
-use Rattle.window.specs.Held.{Small}
+use Rattle.window.specs.Held.{rectOf, Small}
 use Rattle.rules.specs.Calls.{Route}
 use Rattle.windows.specs.View.{windowAt, Meets, done}
 use Rattle.windows.specs.Events.{Tellable}
 use Rattle.windows.proofs.laws.Session.{putWindow}
-use Rattle.windows.proofs.laws.Topmost.{Seeking, idAt, seek, still, gone, in-use, hit, miss}
+use Rattle.windows.proofs.laws.Topmost.{Seeking, seek, still, gone, in-use, hit, miss}
 use Rattle.windows.proofs.laws.Routing.{point-tellable, too-far, nowhere, window-told}
 use borrow.Author.Needs.{needs}
 use Rattle.windows.proofs.Session.route_pointer.Statement.{statement}
 use Rattle.windows.proofs.Session.route_pointer.Tie as tie
 
 abbrev Inv-loop : tie.InvT-loop
-Inv-loop e x y self₀ answer₀ shown n₀ self answer n = Seeking self₀ self x y n answer
+Inv-loop e x y self₀ answer₀ order shown above₀ self answer above = Seeking self₀ self x y (above .0) answer
 
 abbrev μ-loop : tie.MeasureT-loop
-μ-loop e x y self₀ answer₀ shown n₀ self answer n = n
+μ-loop e x y self₀ answer₀ order shown above₀ self answer above = above .0
 
 -- the point is small
 is-small : (c : tie.Then1 Inv-loop μ-loop) → let a = c .before .before .args in small (a .x) && small (a .y) ≡ true
 is-small c = sym (c .before .small-point .ensures) ∙ c .if1 .taken
 
--- a window's rectangle fits
-small-fits : (f r : Rect) → f ≡ r → Small r → Fits f
-small-fits f r e h = rw e (record { east = omega arith; south = omega arith })
+-- a small rectangle passes question 14, so that the call gives the rule's answer
+small-yes : (r : Rect) (px py : ℕ) → Small r → bareContains r px py .yes ≡ contains r px py
+small-yes r px py h =
+    let e : right r ≤ 4294967295 = omega arith in
+    let f : bottom r ≤ 4294967295 = omega arith in
+    rw (le-leb (right r) 4294967295 e, le-leb (bottom r) 4294967295 f)
 
 -- the window that is looked at is in use
-looked : (c : tie.In-loop Inv-loop μ-loop)
-    → let l = c .before .loop in
-    (idAt (l .self) (l .n) < 16) × (windowAt (l .self) (idAt (l .self) (l .n)) .used ≡ true)
-looked c = in-use (c .before .loop .inv) (omega (arith, c .loop-test .taken))
+looked : (c : tie.After-window-at Inv-loop μ-loop)
+    → let t = c .before .before .before .before .loop .self in
+    (c .window-at .result .0 < 16) × (windowAt t (c .window-at .result .0) .used ≡ true)
+looked c = in-use (c .before .before .before .before .loop .inv) (c .before .before .if2 .taken) _ (c .before .prev .ensures) _ (c .window-at .ensures)
+
+-- the test is the rule's
+asks : (c : tie.After-contains Inv-loop μ-loop)
+    → let a = c .before .before .before .before .before .before .before .before .before .before .before .before .before .before .args in
+    c .contains .result .yes ≡ contains (rectOf (windowAt (c .before .before .before .before .before .before .before .before .before .before .loop .self) (c .before .before .before .before .before .before .window-at .result .0) .at)) (a .x) (a .y)
+asks c =
+    let a = c .before .before .before .before .before .before .before .before .before .before .before .before .before .before .args in
+    let t = c .before .before .before .before .before .before .before .before .before .before .loop .self in
+    let f = rectOf (windowAt t (c .before .before .before .before .before .before .window-at .result .0) .at) in
+    ap (λ (r : Tested). r .yes) (c .contains .ensures)
+    ∙ (λ i. bareContains (c .before .before .rect .ensures i) (c .before .new .ensures .0 i) (c .before .new .ensures .1 i) .yes)
+    ∙ small-yes f (a .x) (a .y) (c .before .before .before .before .before .before .before .before .before .before .loop .inv .given .rep .each _ (looked (c .before .before .before .before .before .before) .0) .at)
 
 -- the point lies in its rectangle
-in-frame : (c : tie.Then2 Inv-loop μ-loop)
-    → let a = c .before .before .before .before .before .before .before .before .before .before .before .args in
-    In (c .before .before .rect .result) (a .x) (a .y)
+in-frame : (c : tie.Then3 Inv-loop μ-loop) → let a = c .before .before .before .before .before .before .before .before .before .before .before .before .before .before .before .args in In (c .before .before .before .rect .result) (a .x) (a .y)
 in-frame c =
-    let a = c .before .before .before .before .before .before .before .before .before .before .before .args in
-    says-in (c .before .before .rect .result) (a .x) (a .y) .fact (sym (c .before .contains .ensures) ∙ c .if2 .taken)
+    let a = c .before .before .before .before .before .before .before .before .before .before .before .before .before .before .before .args in
+    says-in (c .before .before .before .rect .result) (a .x) (a .y) .fact
+    (ap (λ (r : Rect). contains r (a .x) (a .y)) (c .before .before .before .rect .ensures) ∙ sym (asks (c .before)) ∙ c .if3 .taken)
 
 small-point-requires : tie.Need-small-point-requires Inv-loop μ-loop
 small-point-requires c κs = search needs
 
 loop-holds : tie.Need-loop-holds Inv-loop μ-loop
-loop-holds c = let s = c .before .before in seek (s .args .t1) (s .args .x) (s .args .y) (s .pre .0)
+loop-holds c = let s = c .before .before .before in seek (s .args .t1) (s .args .x) (s .args .y) (s .pre .0)
 
-sub-id : tie.Need-sub-id Inv-loop μ-loop
-sub-id c = omega (arith, c .before .loop .inv .within)
+prev-requires : tie.Need-prev-requires Inv-loop μ-loop
+prev-requires c κs = search needs
 
-mul-id : tie.Need-mul-id Inv-loop μ-loop
-mul-id c = omega (arith, c .before .loop .inv .within, c .before .before .before .before .pre .0 .rep .shown)
-
-element-copy-out-id : tie.Need-element-copy-out-id Inv-loop μ-loop
-element-copy-out-id c =
-    let q = c .before .loop .inv in
-    omega (arith, q .within, q .given .rep .order, c .before .before .before .before .pre .0 .rep .shown)
+window-at-requires : tie.Need-window-at-requires Inv-loop μ-loop
+window-at-requires c κs = omega (arith, c .prev .ensures, c .before .if2 .taken, c .before .before .before .loop .inv .within, c .before .before .before .before .before .before .before .pre .0 .rep .shown)
 
 cast-at : tie.Need-cast-at Inv-loop μ-loop
 cast-at c = search needs
@@ -73,15 +83,16 @@ mul-win : tie.Need-mul-win Inv-loop μ-loop
 mul-win c = search needs
 
 element-copy-out-win : tie.Need-element-copy-out-win Inv-loop μ-loop
-element-copy-out-win c = omega (arith, looked (c .before .before) .0, c .before .before .before .loop .inv .given .rep .windows)
+element-copy-out-win c = omega (arith, looked (c .before) .0, c .before .before .before .before .before .loop .inv .given .rep .windows)
 
 rect-requires : tie.Need-rect-requires Inv-loop μ-loop
 rect-requires c κs = search needs
 
+new-requires : tie.Need-new-requires Inv-loop μ-loop
+new-requires c κs = search needs
+
 contains-requires : tie.Need-contains-requires Inv-loop μ-loop
-contains-requires c κs =
-    let i = c .before .before .before .before .before in
-    small-fits (c .rect .result) _ (c .rect .ensures) (i .before .loop .inv .given .rep .each _ (looked i .0) .at)
+contains-requires c κs = search needs
 
 sub-at-point : tie.Need-sub-at-point Inv-loop μ-loop
 sub-at-point c = omega (arith, in-frame (c .before) .west)
@@ -94,61 +105,49 @@ at-point-requires c κs = search needs
 
 push-event-requires : tie.Need-push-event-requires Inv-loop μ-loop
 push-event-requires c κs =
-    let two = c .before .before .before in
-    let i = two .before .before .before .before .before .before .before in
-    let one = i .before .before in
-    let a = one .before .before .args in
-    let f = two .before .before .rect .result in
+    let one = c .before .before .before .before .before .before .before .before .before .before .before .before .before .before .before .before in
+    let a = c .before .before .before .before .before .before .before .before .before .before .before .before .before .before .before .before .before .before .args in
+    let f = c .before .before .before .before .before .before .rect .result in
     let low-x : a .x ≤ 32767 = leb-true (a .x) 32767 (fst (small (a .x)) (small (a .y)) (is-small one)) in
     let low-y : a .y ≤ 32767 = leb-true (a .y) 32767 (snd (small (a .x)) (small (a .y)) (is-small one)) in (
-      i .before .loop .inv .given .rep .each _ (looked i .0),
+      c .before .before .before .before .before .before .before .before .before .before .before .before .before .before .loop .inv .given .rep .each _ (looked (c .before .before .before .before .before .before .before .before .before .before) .0),
       subst Tellable (sym (c .at-point .ensures)) (point-tellable (a .e) (a .x - left f) (a .y - top f) (omega arith) (omega arith)),
     )
 
 mul-v : tie.Need-mul-v Inv-loop μ-loop
-mul-v c = search needs
+mul-v c = omega (arith, looked (c .before .before .before .before .before .before .before .before .before .before .before .before) .0)
 
 element-set-from-v : tie.Need-element-set-from-v Inv-loop μ-loop
-element-set-from-v c =
-    let i = c .before .before .before .before .before .before .before .before .before .before .before .before in
-    omega (arith, looked i .0, i .before .loop .inv .given .rep .windows)
-
-sub-n : tie.Need-sub-n Inv-loop μ-loop
-sub-n c = omega arith
+element-set-from-v c = omega (arith, looked (c .before .before .before .before .before .before .before .before .before .before .before .before) .0, c .before .before .before .before .before .before .before .before .before .before .before .before .before .before .before .before .loop .inv .given .rep .windows)
 
 loop-less : tie.Need-loop-less Inv-loop μ-loop
-loop-less c = omega arith
+loop-less c = omega (arith, c .before .before .before .before .before .before .before .before .prev .ensures, c .before .before .before .before .before .before .before .before .before .if2 .taken)
 
 loop-again : tie.Need-loop-again Inv-loop μ-loop
-loop-again c =
-    let i = c .before .before .before .before .before .before .before in
-    let a = i .before .before .before .before .args in
-    miss (i .before .loop .inv) (omega (arith, i .loop-test .taken))
-    (ap (λ (f : Rect). contains f (a .x) (a .y)) (sym (c .before .before .rect .ensures)) ∙ sym (c .before .contains .ensures) ∙ c .if2 .left)
+loop-again c = miss (c .before .before .before .before .before .before .before .before .before .before .before .loop .inv) (c .before .before .before .before .before .before .before .before .before .if2 .taken) _ (c .before .before .before .before .before .before .before .before .prev .ensures) _ (c .before .before .before .before .before .before .before .window-at .ensures) (sym (asks (c .before)) ∙ c .if3 .left)
 
 returns : tie.Need-returns Inv-loop μ-loop
 returns c =
-    let q = c .before .loop .inv in
-    let one = c .before .before in
-    let s = one .before .before in
-    still q (λ r n. Meets (Route (s .args .e)) r (done (c .before .loop .self) n))
-    (nowhere (c .before .loop .self) (s .args .e) (q .given) (s .pre .1) (is-small one) (gone q (c .loop-test .left)))
+    let l = c .before .before .loop in
+    let q = l .inv in
+    let one = c .before .before .before .before in
+    let s = c .before .before .before .before .before .before in
+    still q (λ r n. Meets (Route (s .args .e)) r (done (l .self) n))
+    (nowhere (l .self) (s .args .e) (q .given) (s .pre .1) (is-small one) (gone q (c .if2 .left)))
 
 returns-2 : tie.Need-returns-2 Inv-loop μ-loop
 returns-2 c =
-    let two = c .before .before .before .before .before in
-    let i = two .before .before .before .before .before .before .before in
-    let one = i .before .before in
-    let s = one .before .before in
-    let l = i .before .loop in
+    let one = c .before .before .before .before .before .before .before .before .before .before .before .before .before .before .before .before .before .before in
+    let s = c .before .before .before .before .before .before .before .before .before .before .before .before .before .before .before .before .before .before .before .before in
+    let l = c .before .before .before .before .before .before .before .before .before .before .before .before .before .before .before .before .loop in
     let q = l .inv in
-    let f = two .before .before .rect in
+    let f = c .before .before .before .before .before .before .before .before .rect in
+    let v = c .before .before .before .before .before .before .before .before .before .before .before .before .window-at in
     let p = c .before .push-event in
-    still q (λ r _. Meets (Route (s .args .e)) r (done (putWindow (idAt (l .self) (l .n)) (p .result .window) (l .self)) (p .result .answer)))
+    still q (λ r _. Meets (Route (s .args .e)) r (done (putWindow (v .result .0) (p .result .window) (l .self)) (p .result .answer)))
     (window-told (l .self) (s .args .e) (q .given) (s .pre .1) (is-small one)
-    (hit q (omega (arith, i .loop-test .taken))
-    (ap (λ (r : Rect). contains r (s .args .x) (s .args .y)) (sym (f .ensures)) ∙ sym (two .before .contains .ensures) ∙ two .if2 .taken))
-    (looked i .1) (f .result) (f .ensures) (c .before .before .at-point .result) (c .before .before .at-point .ensures) (p .result) (p .ensures))
+    (hit q (c .before .before .before .before .before .before .before .before .before .before .before .before .before .before .if2 .taken) _ (c .before .before .before .before .before .before .before .before .before .before .before .before .before .prev .ensures) _ (v .ensures) (sym (asks (c .before .before .before .before .before .before)) ∙ c .before .before .before .before .before .if3 .taken))
+    (looked (c .before .before .before .before .before .before .before .before .before .before .before .before) .1) (f .result) (f .ensures) (c .before .before .at-point .result) (c .before .before .at-point .ensures) (p .result) (p .ensures))
 
 returns-3 : tie.Need-returns-3 Inv-loop μ-loop
 returns-3 c =
@@ -163,13 +162,13 @@ route-pointer-spec =
     μ-loop
     small-point-requires
     loop-holds
-    sub-id
-    mul-id
-    element-copy-out-id
+    prev-requires
+    window-at-requires
     cast-at
     mul-win
     element-copy-out-win
     rect-requires
+    new-requires
     contains-requires
     sub-at-point
     sub-at-point-2
@@ -177,7 +176,6 @@ route-pointer-spec =
     push-event-requires
     mul-v
     element-set-from-v
-    sub-n
     loop-less
     loop-again
     returns

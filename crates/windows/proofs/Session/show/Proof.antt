@@ -1,5 +1,6 @@
 -- A window in use joins the top of the order where it has no place yet.
-use mathlib.Core.Path.{refl, _∙_}
+use mathlib.Core.Path.{refl, sym, ap, _∙_}
+use Rattle.windows.specs.View.{idxOf}
 use Rattle.windows.proofs.laws.Session.{used-at, used-past}
 use Rattle.windows.proofs.laws.Shown.{is-shown, is-hidden, has-room, not-used}
 use borrow.Author.Needs.{needs}
@@ -15,29 +16,32 @@ mul-if2 c = search needs
 element-copy-out-if2 : tie.Need-element-copy-out-if2
 element-copy-out-if2 c = search needs
 
-place-of-requires : tie.Need-place-of-requires
-place-of-requires c κs = search needs
+get-render-idx-requires : tie.Need-get-render-idx-requires
+get-render-idx-requires c κs = search needs
 
-mul-id : tie.Need-mul-id
-mul-id c = search needs
+enum-told : tie.Need-enum-told
+enum-told c = search needs
 
-element-set-from-id : tie.Need-element-set-from-id
-element-set-from-id c =
+with-window-requires : tie.Need-with-window-requires
+with-window-requires c κs =
     let s = c .before .before .before .before .before .before in
-    has-room (s .args .t1) (s .args .id .0) (s .pre) (c .before .before .before .before .if2 .taken) (c .before .before .place-of .result .0) (c .before .before .place-of .ensures) (c .if3 .taken)
+    has-room (s .args .t1) (s .args .id .0) (s .pre) (c .before .before .before .before .if2 .taken) (sym (ap idxOf (c .enum-told .given .1)) ∙ c .before .before .get-render-idx .ensures)
 
 add-self : tie.Need-add-self
 add-self c = search needs
 
+enum-told-2 : tie.Need-enum-told-2
+enum-told-2 c = search needs
+
 returns : tie.Need-returns
 returns c =
-    let s = c .before .before .before .before .before .before in
-    is-hidden (s .args .t1) (s .args .id .0) (s .pre) (c .before .before .before .before .if2 .taken) (c .before .before .place-of .result .0) (c .before .before .place-of .ensures) _ refl (c .if3 .taken)
+    let s = c .before .before .before .before .before .before .before in
+    is-hidden (s .args .t1) (s .args .id .0) (s .pre) (c .before .before .before .before .before .if2 .taken) (sym (ap idxOf (c .before .enum-told .given .1)) ∙ c .before .before .before .get-render-idx .ensures) _ refl _ (c .with-window .ensures)
 
 returns-2 : tie.Need-returns-2
 returns-2 c =
     let s = c .before .before .before .before .before .before in
-    is-shown (s .args .t1) (s .args .id .0) (s .pre) (c .before .before .before .before .if2 .taken) (c .before .before .place-of .result .0) (c .before .before .place-of .ensures) (c .if3 .left)
+    is-shown (s .args .t1) (s .args .id .0) (s .pre) (c .before .before .before .before .if2 .taken) _ (sym (ap idxOf (c .enum-told2 .given .1)) ∙ c .before .before .get-render-idx .ensures)
 
 returns-3 : tie.Need-returns-3
 returns-3 c =
@@ -56,10 +60,11 @@ show-spec =
     cast-at
     mul-if2
     element-copy-out-if2
-    place-of-requires
-    mul-id
-    element-set-from-id
+    get-render-idx-requires
+    enum-told
+    with-window-requires
     add-self
+    enum-told-2
     returns
     returns-2
     returns-3

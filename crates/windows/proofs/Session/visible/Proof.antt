@@ -1,5 +1,6 @@
 -- Question 3, then the list of a window that has a place; a hidden window has none.
-use mathlib.Core.Path.{_∙_}
+use mathlib.Core.Path.{sym, ap, _∙_}
+use Rattle.windows.specs.View.{idxOf}
 use Rattle.windows.proofs.laws.Session.{used-at, used-past}
 use Rattle.windows.proofs.laws.Listed.{hidden-list, no-window}
 use borrow.Author.Needs.{needs}
@@ -15,11 +16,14 @@ mul-if2 c = search needs
 element-copy-out-if2 : tie.Need-element-copy-out-if2
 element-copy-out-if2 c = search needs
 
-place-of-requires : tie.Need-place-of-requires
-place-of-requires c κs = search needs
+get-render-idx-requires : tie.Need-get-render-idx-requires
+get-render-idx-requires c κs = search needs
+
+enum-known-idx : tie.Need-enum-known-idx
+enum-known-idx c = search needs
 
 list-shown-requires : tie.Need-list-shown-requires
-list-shown-requires c κs = search needs
+list-shown-requires c κs = (c .before .before .before .before .before .before .before .before .before .pre, sym (ap idxOf (c .before .before .idx .given .1)) ∙ c .before .before .before .before .get-render-idx .ensures)
 
 same-length : tie.Need-same-length
 same-length c = search needs
@@ -27,8 +31,11 @@ same-length c = search needs
 returns : tie.Need-returns
 returns c = search needs
 
+enum-told : tie.Need-enum-told
+enum-told c = search needs
+
 returns-2 : tie.Need-returns-2
-returns-2 c = hidden-list _ _ _ _ (c .before .before .before .before .before .before .before .pre) (c .before .before .before .before .if2 .taken) (c .if3 .left) (c .before .before .place-of .ensures)
+returns-2 c = hidden-list _ _ _ (c .before .before .before .before .before .before .before .pre) (c .before .before .before .before .if2 .taken) (sym (ap idxOf (c .enum-told .given .1)) ∙ c .before .before .get-render-idx .ensures)
 
 returns-3 : tie.Need-returns-3
 returns-3 c = no-window _ _ _ (used-at _ _ ∙ c .if2 .left)
@@ -43,10 +50,12 @@ visible-spec =
     cast-at
     mul-if2
     element-copy-out-if2
-    place-of-requires
+    get-render-idx-requires
+    enum-known-idx
     list-shown-requires
     same-length
     returns
+    enum-told
     returns-2
     returns-3
     returns-4)

@@ -1,48 +1,43 @@
--- The places up to i hold the order without the gap.
-use Prim.Native.Nat.{_-_}
-use borrow.Author.Needs.{needs}
+-- The places below the gap hold the order without the window at p, and `above` is the place above the gap.
+use Prim.Native.Nat.{_+_, _-_}
+use mathlib.Core.Path.{_≡_}
+use native.Mathlib.Omega.{arith}
 use Rattle.windows.proofs.laws.Order.{close, close-more, close-end, Closing}
+use borrow.Author.Needs.{needs}
 use Rattle.windows.proofs.order.close_gap.Statement.{statement}
 use Rattle.windows.proofs.order.close_gap.Tie as tie
 
 abbrev Inv-loop : tie.InvT-loop
-Inv-loop shown order next₀ i₀ next i = Closing shown i₀ order next i
+Inv-loop order shown closed₀ gap₀ above₀ closed gap above = (above .0 ≡ gap .0 + 1) × Closing shown (gap₀ .0) order closed (gap .0)
 
 abbrev μ-loop : tie.MeasureT-loop
-μ-loop shown order next₀ i₀ next i = shown - i
+μ-loop order shown closed₀ gap₀ above₀ closed gap above = shown - above .0
+
+next-requires : tie.Need-next-requires Inv-loop μ-loop
+next-requires c κs = search needs
 
 loop-holds : tie.Need-loop-holds Inv-loop μ-loop
-loop-holds c = close _ _ _ (c .pre .0) (search needs) (c .pre .1)
+loop-holds c = (c .next .ensures, close _ _ _ (c .before .pre .0) (search needs) (c .before .pre .1))
 
-add-loop : tie.Need-add-loop Inv-loop μ-loop
-add-loop c = search needs
+window-at-requires : tie.Need-window-at-requires Inv-loop μ-loop
+window-at-requires c κs = omega (arith, c .if1 .taken, c .before .before .loop .inv .1 .room)
 
-add-w : tie.Need-add-w Inv-loop μ-loop
-add-w c = search needs
+with-window-requires : tie.Need-with-window-requires Inv-loop μ-loop
+with-window-requires c κs = omega (arith, c .before .if1 .taken, c .before .before .before .loop .inv .0, c .before .before .before .loop .inv .1 .room)
 
-mul-w : tie.Need-mul-w Inv-loop μ-loop
-mul-w c = search needs
-
-array-copy-out-w : tie.Need-array-copy-out-w Inv-loop μ-loop
-array-copy-out-w c = search needs
-
-mul-next : tie.Need-mul-next Inv-loop μ-loop
-mul-next c = search needs
-
-array-set-from-next : tie.Need-array-set-from-next Inv-loop μ-loop
-array-set-from-next c = search needs
-
-add-i : tie.Need-add-i Inv-loop μ-loop
-add-i c = search needs
+next-requires-2 : tie.Need-next-requires-2 Inv-loop μ-loop
+next-requires-2 c κs = omega (arith, c .before .before .if1 .taken, c .before .before .before .before .loop .inv .1 .room)
 
 loop-less : tie.Need-loop-less Inv-loop μ-loop
-loop-less c = search needs
+loop-less c = omega (arith, c .next2 .ensures, c .before .before .before .if1 .taken)
 
 loop-again : tie.Need-loop-again Inv-loop μ-loop
-loop-again c = close-more (c .before .before .loop .inv) (search needs)
+loop-again c =
+    let up = c .before .before .before .before .before .loop .inv .0 in
+    (c .next2 .ensures, rw (c .before .with-window .ensures, c .before .before .window-at .ensures, up) (close-more (c .before .before .before .before .before .loop .inv .1) (omega (arith, c .before .before .before .if1 .taken))))
 
 returns : tie.Need-returns Inv-loop μ-loop
-returns c = close-end (c .before .loop .inv) (search needs)
+returns c = close-end (c .before .before .loop .inv .1) (omega (arith, c .if1 .left, c .before .before .loop .inv .0))
 
 pub close-gap-spec : {M : Type 1} → statement M
 close-gap-spec =
@@ -50,14 +45,11 @@ close-gap-spec =
     (tie.spec
     Inv-loop
     μ-loop
+    next-requires
     loop-holds
-    add-loop
-    add-w
-    mul-w
-    array-copy-out-w
-    mul-next
-    array-set-from-next
-    add-i
+    window-at-requires
+    with-window-requires
+    next-requires-2
     loop-less
     loop-again
     returns)
