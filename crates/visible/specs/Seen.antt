@@ -1,23 +1,22 @@
 -- The visible list of some parts of a window, and what is drawn of it: the rules for the parts that the depth-first search has reached.
 use Prim.Native.Nat.{ℕ, _+_, _*_, _≤_}
 use mathlib.Core.Path.{_≡_}
-use mathlib.Core.Bool.{cond}
 use mathlib.Core.List.{List, map}
 use lib.ListN.{length}
 use Rattle.geom.specs.declared.Rect.{Rect}
 use Rattle.geom.specs.Geom.{rect, width, height}
 use Rattle.geom.specs.Lists.{outsideAll, relative, listIntersect}
 use Rattle.window.specs.Held.{Small}
-use Rattle.rules.specs.Redraw.{none?, drawRegions}
+use Rattle.rules.specs.Redraw.{drawRegions}
 use Rattle.visible.specs.declared.region.View.{View}
 
 -- the parts `rs` of a window at `at`, outside each of `bs`, relative to the window
 unfoldable pub seen : Rect → List Rect → List Rect → List Rect
 seen at rs bs = map (relative at) (outsideAll rs bs)
 
--- those of them that are written, with the dirty entries `ds`
+-- what they have in common with the dirty entries `ds`
 unfoldable pub regions : Rect → List Rect → List Rect → List Rect → List Rect
-regions at rs bs ds = cond (none? ds) (seen at rs bs) (listIntersect (seen at rs bs) ds)
+regions at rs bs ds = listIntersect (seen at rs bs) ds
 
 -- the screen after the regions are drawn
 unfoldable pub drawn : View → List ℕ → List Rect → List ℕ → List ℕ

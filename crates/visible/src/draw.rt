@@ -1,6 +1,5 @@
 // The parts of a window that are seen, drawn as they are found.
 ghost use mathlib.Core.Path.{_≡_};
-ghost use mathlib.Core.Bool.{cond};
 ghost use mathlib.Core.List.{[], _∷_, map};
 ghost use Prim.Native.Nat.{_+_, _*_, _≤_};
 ghost use lib.ListN.{length};
@@ -9,14 +8,14 @@ ghost use Rattle.geom.specs.Inner.{Fits, Within};
 ghost use Rattle.geom.specs.Lists.{outsideAll, relative, meetsOf, listIntersect};
 ghost use Rattle.window.specs.Held.{Small};
 ghost use Rattle.rules.specs.Visible.{rectsOf};
-ghost use Rattle.rules.specs.Redraw.{none?, drawRegions};
+ghost use Rattle.rules.specs.Redraw.{drawRegions};
 ghost use Rattle.visible.specs.Lent.{Lent};
 ghost use Rattle.visible.specs.Seen.{Drawable, own, drawn, regions};
 use crate::rects;
 use crate::region::View;
 use crate::region::draw_region;
+use geom::Intersection;
 use geom::Rect;
-use geom::inner;
 use geom::inner::pieces;
 
 // Draws what a region has in common with a dirty entry.
@@ -24,8 +23,8 @@ fn draw_common(view: View, r: Rect, entry: Rect, store: &[u32], screen: &mut [u3
     requires { ⌜ Drawable view (now store) (now screen) × Within (own view) r × Fits entry ⌝ }
     ensures { λ _. ⌜ now (screen .exit) ≡ drawn view (now (store .entry)) (meetsOf r (entry ∷ [])) (now (screen .entry)) ⌝ }
 {
-    if inner::meets(r, entry) {
-        draw_region(view, inner::common(r, entry), store, screen);
+    if let Intersection::Common(both) = r.intersect(entry) {
+        draw_region(view, both, store, screen);
     }
 }
 
@@ -41,17 +40,13 @@ fn draw_dirty(view: View, r: Rect, dirty: &[u32], m: usize, store: &[u32], scree
     }
 }
 
-// Draws a part of the window that no higher window covers: where it is dirty, or all of it if there is no dirty entry.
+// Draws a part of the window that no higher window covers, where it is dirty.
 fn draw_part(view: View, part: Rect, dirty: &[u32], m: usize, store: &[u32], screen: &mut [u32])
     requires { ⌜ Drawable view (now store) (now screen) × Within (view .at) part × Lent m (now dirty) ⌝ }
     ensures { λ _. ⌜ now (screen .exit) ≡ drawn view (now (store .entry)) (regions (view .at) (part ∷ []) [] (rectsOf m (now (dirty .entry)))) (now (screen .entry)) ⌝ }
 {
     let r = rects::relative(view.at, part);
-    if m == 0 {
-        draw_region(view, r, store, screen);
-    } else {
-        draw_dirty(view, r, dirty, m, store, screen);
-    }
+    draw_dirty(view, r, dirty, m, store, screen);
 }
 
 // Draws what is seen of `part`, a part of the window.
@@ -93,8 +88,7 @@ fn draw_seen(
     }
 }
 
-// Draws a window at `at`, under n rectangles: where it is dirty, or all that is seen of it if there is no dirty entry. Its pixels
-// begin at `base` of the store.
+// Draws what is seen of a window at `at`, under n rectangles, where it is dirty. Its pixels begin at `base` of the store.
 pub fn draw(
     at: Rect,
     base: usize,
@@ -110,7 +104,7 @@ pub fn draw(
     requires { ⌜ Small at × (base + width at * height at ≤ length (now store)) ⌝ }
     requires { ⌜ Lent n (now above) × Lent m (now dirty) ⌝ }
     requires { ⌜ (sw ≤ 32767) × (sh ≤ 32767) × (length (now screen) ≡ sw * sh) ⌝ }
-    ensures { λ _. ⌜ now (screen .exit) ≡ drawRegions at base (now (store .entry)) sw sh (cond (none? (rectsOf m (now (dirty .entry)))) (map (relative at) (outsideAll (at ∷ []) (rectsOf n (now (above .entry))))) (listIntersect (map (relative at) (outsideAll (at ∷ []) (rectsOf n (now (above .entry))))) (rectsOf m (now (dirty .entry))))) (now (screen .entry)) ⌝ }
+    ensures { λ _. ⌜ now (screen .exit) ≡ drawRegions at base (now (store .entry)) sw sh (listIntersect (map (relative at) (outsideAll (at ∷ []) (rectsOf n (now (above .entry))))) (rectsOf m (now (dirty .entry)))) (now (screen .entry)) ⌝ }
 {
     let view = View { at, base, sw, sh };
     draw_seen(view, at, above, n, dirty, m, store, screen)

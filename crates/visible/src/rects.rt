@@ -6,6 +6,7 @@ ghost use Rattle.geom.specs.Geom.{left, top};
 ghost use Rattle.geom.specs.Inner.{Fits};
 ghost use Rattle.geom.specs.Lists as rule;
 ghost use Rattle.visible.specs.Lent.{rectAt, Lent, Missed};
+use geom::Pos;
 use geom::Rect;
 use geom::inner;
 
@@ -38,5 +39,5 @@ pub fn relative(to: Rect, r: Rect) -> Rect
     requires { ⌜ (left to ≤ left r) × (top to ≤ top r) ⌝ }
     ensures { λ s. ⌜ s ≡ rule.relative to r ⌝ }
 {
-    Rect::new(r.pos.x - to.pos.x, r.pos.y - to.pos.y, r.dims.w, r.dims.h)
+    Rect::new_pd(Pos::new(r.pos.x - to.pos.x, r.pos.y - to.pos.y), r.dims)
 }

@@ -3,8 +3,10 @@ ghost use mathlib.Core.Path.{_≡_};
 ghost use Rattle.geom.specs.Inner.{Within};
 ghost use Rattle.rules.specs.Redraw.{drawRegion};
 ghost use Rattle.visible.specs.Seen.{Drawable, own};
+use geom::Dims;
+use geom::Intersection;
+use geom::Pos;
 use geom::Rect;
-use geom::inner;
 use winbuf::inner::area::draw_area;
 
 // What stays the same while a window is drawn: its place, where its pixels begin in the store, and the size of the screen.
@@ -21,10 +23,9 @@ pub fn draw_region(view: View, r: Rect, store: &[u32], screen: &mut [u32])
     ensures { λ _. ⌜ now (screen .exit) ≡ drawRegion (view .at) (view .base) (now (store .entry)) (view .sw) (view .sh) r (now (screen .entry)) ⌝ }
 {
     let at = view.at;
-    let on = Rect::new(at.pos.x + r.pos.x, at.pos.y + r.pos.y, r.dims.w, r.dims.h);
-    let all = Rect::new(0, 0, view.sw, view.sh);
-    if inner::meets(on, all) {
-        let k = inner::common(on, all);
+    let on = Rect::new_pd(Pos::new(at.pos.x + r.pos.x, at.pos.y + r.pos.y), r.dims);
+    let all = Rect::new_pd(Pos::new(0, 0), Dims::new(view.sw, view.sh));
+    if let Intersection::Common(k) = on.intersect(all) {
         draw_area(
             screen,
             view.sw as usize,

@@ -10,6 +10,7 @@ pub mod Hidden
 pub mod Store
 pub mod Pixels
 pub mod Listed
+pub mod Full
 pub mod Drawn
 pub mod Parts
 pub mod Popping

@@ -1,13 +1,14 @@
 -- Up to sixteen rectangles held as numbers.
 use Prim.Native.Nat.{ℕ, _+_, _≤_, _<_}
+use mathlib.Core.Bool.{Bool, cond, _||_}
 use mathlib.Core.Path.{_≡_}
 use mathlib.Core.List.{List, [], _∷_, _++_}
 use lib.ListN.{length}
 use Rattle.geom.specs.declared.Rect.{Rect}
+use Rattle.geom.specs.Geom.{rect}
 use Rattle.geom.specs.Inner.{Fits}
-use Rattle.window.specs.declared.damage.Area.{Area}
-use Rattle.window.specs.Held.{rectOf}
 use Rattle.rules.specs.Visible.{rectsOf}
+use Rattle.rules.specs.Redraw.{none?}
 use Rattle.visible.specs.Lent.{AllFit}
 use Rattle.windows.specs.declared.rects.Rects.{Rects}
 
@@ -24,5 +25,13 @@ abbrev pub listed : ℕ → List ℕ → Rects
 listed n l = record { numbers = l; len = n }
 
 -- the numbers m are l with one more rectangle, at place n
-pub record Added (n : ℕ) (l : List ℕ) (a : Area) (m : List ℕ) : Type 0 where
-  pub holds : (rs : List Rect) → Fits (rectOf a) → Holds (listed n l) rs → Holds (listed (n + 1) m) (rs ++ (rectOf a ∷ []))
+pub record Added (n : ℕ) (l : List ℕ) (r : Rect) (m : List ℕ) : Type 0 where
+  pub holds : (rs : List Rect) → Fits r → Holds (listed n l) rs → Holds (listed (n + 1) m) (rs ++ (r ∷ []))
+
+-- the constant `Rect::FULL`, the Rust's `FULL_RECT`
+abbrev pub fullRect : Rect
+fullRect = rect 0 0 4294967295 4294967295
+
+-- what a redraw takes for dirty: the full rectangle "with full or an empty damage list", else the damage
+abbrev pub dirtyOf : Bool → List Rect → List Rect
+dirtyOf full damage = cond (full || none? damage) (fullRect ∷ []) damage

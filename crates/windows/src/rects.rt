@@ -1,16 +1,16 @@
 // Up to sixteen rectangles as numbers, four for each: what the crate `visible` is lent.
 ghost use mathlib.Core.Path.{_≡_};
-ghost use mathlib.Core.List.{[], map};
+ghost use mathlib.Core.List.{[], _∷_, map};
 ghost use Prim.Native.Nat.{_≤_, _<_};
 ghost use lib.ListN.{drop};
 ghost use Rattle.window.specs.Held.{rects, RepDamage};
 ghost use Rattle.rules.specs.Group.{win};
 ghost use Rattle.windows.specs.View.{group, Given};
-ghost use Rattle.windows.specs.Rects.{Holds, Added};
+ghost use Rattle.windows.specs.Rects.{Holds, Added, fullRect};
 use crate::Place;
 use crate::Session;
 use crate::places::window_at;
-use window::damage::Area;
+use geom::Rect;
 use window::damage::Damage;
 
 pub struct Rects {
@@ -18,26 +18,26 @@ pub struct Rects {
     pub len: usize,
 }
 
-// Writes an area as the rectangle at place i.
-fn put(numbers: &mut [u32; 64], i: usize, area: Area)
+// Writes a rectangle at place i.
+fn put(numbers: &mut [u32; 64], i: usize, r: Rect)
     requires { ⌜ i < 16 ⌝ }
-    ensures { λ _. ⌜ Added i (now (numbers .entry)) area (now (numbers .exit)) ⌝ }
+    ensures { λ _. ⌜ Added i (now (numbers .entry)) r (now (numbers .exit)) ⌝ }
 {
     let at = 4 * i;
-    numbers[at] = area.x as u32;
-    numbers[at + 1] = area.y as u32;
-    numbers[at + 2] = area.w as u32;
-    numbers[at + 3] = area.h as u32;
+    numbers[at] = r.pos.x;
+    numbers[at + 1] = r.pos.y;
+    numbers[at + 2] = r.dims.w;
+    numbers[at + 3] = r.dims.h;
 }
 
 impl Rects {
-    pub fn none() -> Rects
-        ensures { λ r. ⌜ Holds r [] ⌝ }
+    // The full rectangle alone.
+    pub fn full() -> Rects
+        ensures { λ r. ⌜ Holds r (fullRect ∷ []) ⌝ }
     {
-        Rects {
-            numbers: [0; 64],
-            len: 0,
-        }
+        let mut numbers = [0u32; 64];
+        put(&mut numbers, 0, Rect::FULL);
+        Rects { numbers, len: 1 }
     }
 
     // The dirty entries of a window.
@@ -49,7 +49,8 @@ impl Rects {
         let mut numbers = [0u32; 64];
         let mut i: usize = 0;
         while i < n {
-            put(&mut numbers, i, d.areas[i]);
+            let area = d.areas[i];
+            put(&mut numbers, i, area.rect());
             i += 1;
         }
         Rects { numbers, len: n }
@@ -70,7 +71,7 @@ pub fn from(s: Session, p: Place) -> Rects
         let id = window_at(order, next);
         let at = id.0 as usize;
         let w = s.windows[at];
-        put(&mut numbers, i, w.at);
+        put(&mut numbers, i, w.at.rect());
         next = next.next();
         i += 1;
     }

@@ -1,7 +1,6 @@
 // The call redraw: document 01, "Redraw, lowest window first".
 ghost use mathlib.Core.Path.{_≡_};
 ghost use mathlib.Core.Bool.{true, cond, _&&_, _||_};
-ghost use mathlib.Core.List.{[]};
 ghost use Prim.Native.Nat.{_+_, _*_, _≤_};
 ghost use lib.Dec.{leb, eqb};
 ghost use lib.ListN.{length};
@@ -12,7 +11,7 @@ ghost use Rattle.rules.specs.Redraw.{drawAll, cleanAll};
 ghost use Rattle.rules.specs.Calls.{Call};
 ghost use Rattle.visible.specs.Lent.{Lent};
 ghost use Rattle.windows.specs.View.{group, Rep, Given, MeetsScreen, Drawable, painted};
-ghost use Rattle.windows.specs.Rects.{Holds};
+ghost use Rattle.windows.specs.Rects.{Holds, dirtyOf};
 use crate::Done;
 use crate::Place;
 use crate::Session;
@@ -41,13 +40,13 @@ fn screen_fits(sw: u32, sh: u32, len: usize) -> bool
     len == sw as usize * sh as usize
 }
 
-// The dirty entries that a redraw looks at: none where it is full.
+// What a redraw takes for dirty: the full rectangle where it is full or no entry is there, else the entries.
 fn dirty_of(full: bool, d: Damage) -> Rects
     requires { ⌜ RepDamage d ⌝ }
-    ensures { λ r. ⌜ Holds r (cond full [] (rects d)) ⌝ }
+    ensures { λ r. ⌜ Holds r (dirtyOf full (rects d)) ⌝ }
 {
-    if full {
-        return Rects::none();
+    if either(full, d.len == 0) {
+        return Rects::full();
     }
     Rects::of_damage(d)
 }

@@ -15,9 +15,6 @@ use Rattle.visible.specs.Lent.{rectAt, AllFit, Lent}
 
 -- The one at a place -------------------------------------------------------------------------------------------------
 
-pub rects-none : (n : ℕ) (l : List ℕ) → n ≡ 0 → rectsOf n l ≡ []
-rects-none n l e = rw e refl
-
 pub length-rects : (n : ℕ) (l : List ℕ) → length (rectsOf n l) ≡ n
 length-rects zero l = refl
 length-rects (suc n) l = ap suc (length-rects n (drop 4 l))

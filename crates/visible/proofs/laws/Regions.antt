@@ -1,12 +1,11 @@
 -- The visible list and the drawn regions, part by part.
 use Prim.Native.Nat.{ℕ}
 use mathlib.Core.Path.{_≡_, refl, ap, _∙_}
-use mathlib.Core.Bool.{cond}
 use mathlib.Core.List.{List, [], _∷_, _++_, map, map-append, append-assoc, append-nil}
 use lib.ListN.{length, length-map}
 use Rattle.geom.specs.declared.Rect.{Rect}
 use Rattle.geom.specs.Lists.{outsideAll, relative, meetsOf, listIntersect}
-use Rattle.rules.specs.Redraw.{none?, drawRegion}
+use Rattle.rules.specs.Redraw.{drawRegion}
 use Rattle.visible.specs.declared.region.View.{View}
 use Rattle.visible.specs.Seen.{seen, regions, drawn}
 use Rattle.visible.proofs.laws.Depth.{outsideAll-next, outsideAll-none, outsideAll-end}
@@ -40,29 +39,22 @@ intersect-append (x ∷ xs) ys ds = rw (intersect-append xs ys ds, append-assoc)
 module _ (at : Rect) where
   pub regions-next : (p : Rect) (ps bs ds : List Rect) → regions at (p ∷ ps) bs ds ≡ regions at (p ∷ []) bs ds ++ regions at ps bs ds
   unfolding regions
-  regions-next p ps bs [] = seen-next at p ps bs
-  regions-next p ps bs (d ∷ ds) =
-      ap (λ (rs : List Rect). listIntersect rs (d ∷ ds)) (seen-next at p ps bs) ∙ intersect-append (seen at (p ∷ []) bs) (seen at ps bs) (d ∷ ds)
+  regions-next p ps bs ds =
+      ap (λ (rs : List Rect). listIntersect rs ds) (seen-next at p ps bs) ∙ intersect-append (seen at (p ∷ []) bs) (seen at ps bs) ds
 
   pub regions-none : (bs ds : List Rect) → regions at [] bs ds ≡ []
   unfolding regions listIntersect
-  regions-none bs [] = seen-none at bs
-  regions-none bs (d ∷ ds) = ap (λ (rs : List Rect). listIntersect rs (d ∷ ds)) (seen-none at bs)
+  regions-none bs ds = ap (λ (rs : List Rect). listIntersect rs ds) (seen-none at bs)
 
   -- rectangles that leave the same
   pub regions-same : (rs rs′ bs bs′ ds : List Rect) → seen at rs bs ≡ seen at rs′ bs′ → regions at rs bs ds ≡ regions at rs′ bs′ ds
   unfolding regions
-  regions-same rs rs′ bs bs′ ds e = ap (λ (v : List Rect). cond (none? ds) v (listIntersect v ds)) e
+  regions-same rs rs′ bs bs′ ds e = ap (λ (v : List Rect). listIntersect v ds) e
 
-  -- a part that no rectangle covers: all of it, or where it is dirty
-  pub regions-whole : (p : Rect) → regions at (p ∷ []) [] [] ≡ relative at p ∷ []
-  unfolding regions
-  regions-whole p = seen-end at p
-
-  pub regions-dirty : (p d : Rect) (ds : List Rect) → regions at (p ∷ []) [] (d ∷ ds) ≡ meetsOf (relative at p) (d ∷ ds)
+  -- a part that no rectangle covers
+  pub regions-end : (p : Rect) (ds : List Rect) → regions at (p ∷ []) [] ds ≡ meetsOf (relative at p) ds
   unfolding regions listIntersect
-  regions-dirty p d ds =
-      ap (λ (rs : List Rect). listIntersect rs (d ∷ ds)) (seen-end at p) ∙ append-nil (meetsOf (relative at p) (d ∷ ds))
+  regions-end p ds = ap (λ (rs : List Rect). listIntersect rs ds) (seen-end at p) ∙ append-nil (meetsOf (relative at p) ds)
 
 -- The screen ---------------------------------------------------------------------------------------------------------
 

@@ -6,12 +6,20 @@ use mathlib.Core.List.{List, [], _∷_, _++_}
 use native.Mathlib.Omega.{arith}
 use native.Mathlib.Nat.{mul-le-mul-right, mul-comm}
 use lib.ListN.{length, drop, drop-of-length-le}
+use denote.Enum.Declared.{tagOf}
+use types.Run.{OneOf, miss}
 use Rattle.geom.specs.declared.Rect.{Rect}
+use Rattle.geom.specs.declared.Intersection.{Intersection}
+use Rattle.geom.specs.declared.Intersection.the-variants.{Common, Apart, Refused}
 use Rattle.geom.specs.Geom.{rect, left, top, width, height, bottom, meets, common}
 use Rattle.geom.specs.Inner.{Fits, Within}
 use Rattle.geom.specs.Lists.{relative, meetsOf}
+use Rattle.geom.specs.Bare as Bare
+use Rattle.geom.specs.Bare.{bareIntersect}
 use Rattle.geom.proofs.basics.Tests.{cond-yes, cond-no}
 use Rattle.geom.proofs.geometry.Facts.{says-meet, common-within}
+use Rattle.geom.proofs.geometry.Answers.{apart-is, not-refused}
+use Rattle.geom.proofs.Intersection.{the-type}
 use Rattle.winbuf.specs.Pixels.{writeRows, part}
 use Rattle.winbuf.specs.Rows.{Inside}
 use Rattle.winbuf.proofs.rows.Written.{rows-same}
@@ -20,17 +28,25 @@ use Rattle.rules.specs.Visible.{rectsOf}
 use Rattle.visible.specs.declared.region.View.{View}
 use Rattle.visible.specs.Lent.{rectAt}
 use Rattle.visible.specs.Seen.{Drawable, own, drawn, regions}
-use Rattle.visible.proofs.laws.Numbers.{rects-none, length-rects, rects-next}
+use Rattle.visible.proofs.laws.Numbers.{length-rects, rects-next}
 use Rattle.visible.proofs.laws.Parts.{within-trans}
-use Rattle.visible.proofs.laws.Regions.{drawn-append, drawn-none, regions-whole, regions-dirty}
+use Rattle.visible.proofs.laws.Regions.{drawn-append, drawn-none, regions-end}
+
+-- What `intersect` tells of rectangles that pass question 14 ------------------------------------------------------------
+
+-- every case but `Common`
+pub apart : (a b : Rect) (i : Intersection) → Fits a × Fits b → Bare.met i ≡ bareIntersect a b → OneOf (1 ∷ 2 ∷ []) (tagOf the-type i) → meets a b ≡ false
+apart a b (Common k) f e t = absurd (miss (1 ∷ 2 ∷ []) 0 tt t)
+apart a b Apart f e t = apart-is f e refl
+apart a b Refused f e t = absurd (not-refused f e refl)
 
 -- The place on the screen ----------------------------------------------------------------------------------------------
 
 -- the region at its place on the screen, and the screen
-abbrev placed : View → Rect → Rect
+abbrev pub placed : View → Rect → Rect
 placed v r = rect (left (v .at) + left r) (top (v .at) + top r) (width r) (height r)
 
-abbrev screenRect : View → Rect
+abbrev pub screenRect : View → Rect
 screenRect v = rect 0 0 (v .sw) (v .sh)
 
 -- k lies within the window and on the screen
@@ -174,21 +190,9 @@ module _ (v : View) (store : List ℕ) where
         ∙ e
 
   -- a part that no rectangle covers
-  module _ (p r : Rect) (m : ℕ) (l screen screen′ : List ℕ) (er : r ≡ relative (v .at) p) where
-    pub part-whole : m ≡ 0 → screen′ ≡ drawRegion (v .at) (v .base) store (v .sw) (v .sh) r screen
-        → screen′ ≡ drawn v store (regions (v .at) (p ∷ []) [] (rectsOf m l)) screen
-    unfolding drawn
-    part-whole e es =
-        es
-        ∙ ap (λ (q : Rect). drawRegion (v .at) (v .base) store (v .sw) (v .sh) q screen) er
-        ∙ ap (λ (rs : List Rect). drawn v store rs screen)
-        (sym (ap (regions (v .at) (p ∷ []) []) (rects-none m l e) ∙ regions-whole (v .at) p))
-
-    pub part-dirty : (m ≡ 0 → ⊥) → screen′ ≡ drawn v store (meetsOf r (rectsOf m l)) screen
-        → screen′ ≡ drawn v store (regions (v .at) (p ∷ []) [] (rectsOf m l)) screen
-    part-dirty some es =
-        es
-        ∙ ap (λ (q : Rect). drawn v store (meetsOf q (rectsOf m l)) screen) er
-        ∙ ap (λ (rs : List Rect). drawn v store rs screen)
-        (ap (meetsOf (relative (v .at) p)) (rects-next m l 0 (omega arith))
-        ∙ sym (ap (regions (v .at) (p ∷ []) []) (rects-next m l 0 (omega arith)) ∙ regions-dirty (v .at) p (rectAt l 0) (drop (0 + 1) (rectsOf m l))))
+  pub part-drawn : (p r : Rect) (ds : List Rect) (screen screen′ : List ℕ) → r ≡ relative (v .at) p → screen′ ≡ drawn v store (meetsOf r ds) screen
+      → screen′ ≡ drawn v store (regions (v .at) (p ∷ []) [] ds) screen
+  part-drawn p r ds screen screen′ er es =
+      es
+      ∙ ap (λ (q : Rect). drawn v store (meetsOf q ds) screen) er
+      ∙ ap (λ (rs : List Rect). drawn v store rs screen) (sym (regions-end (v .at) p ds))

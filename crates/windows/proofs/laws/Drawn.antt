@@ -19,7 +19,7 @@ use Rattle.window.specs.Window.{Win}
 use Rattle.window.specs.Held.{winOf, rectOf, rects, RepWindow}
 use Rattle.rules.specs.Group.{Group, win, setWin}
 use Rattle.rules.specs.Visible.{visible, rectsOf}
-use Rattle.rules.specs.Redraw.{none?, regions, isDrawn, drawRegions, drawWindow, drawAll, clean, cleanAll, paid, screenFits}
+use Rattle.rules.specs.Redraw.{none?, regions, isDrawn, drawWindow, drawAll, clean, cleanAll, paid, screenFits}
 use Rattle.rules.specs.Redraw as Draw
 use Rattle.rules.specs.Store.{whole}
 use Rattle.rules.specs.Calls.{Redraw, does}
@@ -49,13 +49,6 @@ drop-map (suc n) f (x ∷ l) = drop-map n f l
 regions-lent : (full : Bool) (damage vis : List Rect) → cond (none? (cond full [] damage)) vis (listIntersect vis (cond full [] damage)) ≡ cond (full || none? damage) vis (listIntersect vis damage)
 regions-lent true damage vis = refl
 regions-lent false damage vis = refl
-
--- what the code lends to `draw` gives the screen that the rule says
-pub lent-drawn : (w : Window) (full : Bool) (base : ℕ) (bs : List Rect) (store : List ℕ) (sw sh : ℕ) (screen : List ℕ) (r : Rect) (ds : List Rect) (screen′ : List ℕ)
-    → full || w .marked ≡ true → r ≡ rectOf (w .at) → ds ≡ cond full [] (rects (w .damage))
-    → screen′ ≡ drawRegions r base store sw sh (cond (none? ds) (map (relative r) (outsideAll (r ∷ []) bs)) (listIntersect (map (relative r) (outsideAll (r ∷ []) bs)) ds)) screen
-    → screen′ ≡ cond (full || w .marked) (painted w full base bs store sw sh screen) screen
-lent-drawn w full base bs store sw sh screen r ds screen′ m e k q = q ∙ rw (e, k, m)
 
 -- the id v was read at place i
 module _ (s : Session) (h : Given s) (i : ℕ) (l : i < s .shown) (v : WinId) (read : v ≡ getD (s .order) i noId) where

@@ -12,13 +12,12 @@ use Rattle.geom.specs.Geom.{rect}
 use Rattle.geom.specs.Lists.{numbers}
 use Rattle.geom.specs.Inner.{Fits}
 use Rattle.winbuf.proofs.rows.Rows.{sets-on, sets-off}
-use Rattle.window.specs.declared.damage.Area.{Area}
-use Rattle.window.specs.Held.{rectOf, Low}
+use Rattle.window.specs.Held.{Low}
 use Rattle.rules.specs.Visible.{rectsOf}
 use Rattle.visible.specs.Lent.{rectAt, AllFit, Lent}
 use Rattle.visible.proofs.laws.Turns.{four-set}
 use Rattle.windows.specs.declared.rects.Rects.{Rects}
-use Rattle.windows.specs.Rects.{Holds, listed, Added}
+use Rattle.windows.specs.Rects.{Holds, listed, Added, fullRect}
 
 -- The list of some numbers -------------------------------------------------------------------------------------------
 
@@ -67,22 +66,30 @@ unfolding AllFit
 fit-append [] r h f = (f, tt)
 fit-append (x ∷ rs) r h f = (h .0, fit-append rs r (h .1) f)
 
-pub added : (n : ℕ) (l m : List ℕ) (a : Area) → n < 16 → m ≡ set (set (set (set l (4 * n) (a .x)) (4 * n + 1) (a .y)) (4 * n + 2) (a .w)) (4 * n + 3) (a .h)
-    → Added n l a m
-added n l m a less s = record {
+pub added : (n : ℕ) (l m : List ℕ) (r : Rect) → n < 16 → m ≡ set (set (set (set l (4 * n) (r .pos .x)) (4 * n + 1) (r .pos .y)) (4 * n + 2) (r .dims .w)) (4 * n + 3) (r .dims .h)
+    → Added n l r m
+added n l m r less s = record {
   holds = λ rs f h.
-      let t : m ≡ sets l (4 * n) (numbers (rectOf a ∷ [])) = s ∙ four-set l (4 * n) (rectOf a) in
+      let t : m ≡ sets l (4 * n) (numbers (r ∷ [])) = s ∙ four-set l (4 * n) r in
       let up : n + 1 ≡ suc n = omega arith in
       let room : 4 * n + 4 ≤ length l = omega (arith, h .room) in
-      let long : length (rs ++ (rectOf a ∷ [])) ≡ length rs + 1 = length-append rs (rectOf a ∷ []) in
+      let long : length (rs ++ (r ∷ [])) ≡ length rs + 1 = length-append rs (r ∷ []) in
       record {
-        room = ap length t ∙ length-sets l (4 * n) (numbers (rectOf a ∷ [])) ∙ h .room;
+        room = ap length t ∙ length-sets l (4 * n) (numbers (r ∷ [])) ∙ h .room;
         few = omega (arith, h .count);
         count = omega (arith, h .count);
-        list = rw (up, t) (with-one l n (rectOf a) room ∙ ap (λ (k : List Rect). k ++ (rectOf a ∷ [])) (h .list));
-        fit = fit-append rs (rectOf a) (h .fit) f;
+        list = rw (up, t) (with-one l n r room ∙ ap (λ (k : List Rect). k ++ (r ∷ [])) (h .list));
+        fit = fit-append rs r (h .fit) f;
       };
 }
+
+none-held : (l : List ℕ) → length l ≡ 64 → Holds (listed 0 l) []
+unfolding AllFit
+none-held l n = record { room = n; few = omega arith; count = refl; list = refl; fit = tt }
+
+-- the full rectangle alone
+pub full-held : (l m : List ℕ) → length l ≡ 64 → Added 0 l fullRect m → Holds (listed 1 m) (fullRect ∷ [])
+full-held l m n d = d .holds [] (omega arith) (none-held l n)
 
 -- What is lent -------------------------------------------------------------------------------------------------------
 
@@ -102,12 +109,11 @@ pub record Filling (rs : List Rect) (l : List ℕ) (i : ℕ) : Type 0 where
   pub holds : Holds (listed i l) (take i rs)
 
 pub fill-none : (rs : List Rect) (l : List ℕ) → length rs ≤ 16 → length l ≡ 64 → Filling rs l 0
-unfolding AllFit
-fill-none rs l f n = record { few = f; within = omega arith; holds = record { room = n; few = omega arith; count = refl; list = refl; fit = tt } }
+fill-none rs l f n = record { few = f; within = omega arith; holds = none-held l n }
 
 module _ {rs : List Rect} {l : List ℕ} {i : ℕ} (q : Filling rs l i) where
-  pub fill-next : (z : Rect) (a : Area) (m : List ℕ) → i < length rs → getD rs i z ≡ rectOf a → Fits (rectOf a) → Added i l a m → Filling rs m (i + 1)
-  fill-next z a m less e f d =
+  pub fill-next : (z r : Rect) (m : List ℕ) → i < length rs → getD rs i z ≡ r → Fits r → Added i l r m → Filling rs m (i + 1)
+  fill-next z r m less e f d =
       let up : i + 1 ≡ suc i = omega arith in
       record {
         few = q .few;

@@ -5,6 +5,7 @@ use native.Mathlib.Omega.{arith}
 use Rattle.windows.proofs.laws.Places.{id-low}
 use Rattle.windows.proofs.laws.Rects.{Filling, fill-end}
 use Rattle.windows.proofs.laws.Above.{higher, tall, above-none, above-next}
+use borrow.Author.Needs.{needs}
 use Rattle.windows.proofs.rects.from.Statement.{statement}
 use Rattle.windows.proofs.rects.from.Tie as tie
 
@@ -29,23 +30,26 @@ mul-w c = omega (arith, id-low _ (c .before .before .before .before .before .bef
 element-copy-out-w : tie.Need-element-copy-out-w Inv-loop μ-loop
 element-copy-out-w c = id-low _ (c .before .before .before .before .before .before .pre .0) _ (c .before .before .if1 .taken) _ (c .before .window-at .ensures)
 
+rect-requires : tie.Need-rect-requires Inv-loop μ-loop
+rect-requires c κs = search needs
+
 put-requires : tie.Need-put-requires Inv-loop μ-loop
-put-requires c κs = omega (arith, c .before .before .before .before .if1 .taken, c .before .before .before .before .before .before .loop .inv .0, c .before .before .before .before .before .before .before .before .pre .0 .rep .shown)
+put-requires c κs = omega (arith, c .before .before .before .before .before .if1 .taken, c .before .before .before .before .before .before .before .loop .inv .0, c .before .before .before .before .before .before .before .before .before .pre .0 .rep .shown)
 
 next-requires : tie.Need-next-requires Inv-loop μ-loop
-next-requires c κs = omega (arith, c .before .before .before .before .before .if1 .taken, c .before .before .before .before .before .before .before .before .before .pre .0 .rep .shown)
+next-requires c κs = omega (arith, c .before .before .before .before .before .before .if1 .taken, c .before .before .before .before .before .before .before .before .before .before .pre .0 .rep .shown)
 
 add-i : tie.Need-add-i Inv-loop μ-loop
-add-i c = omega (arith, c .before .before .before .before .before .before .if1 .taken, c .before .before .before .before .before .before .before .before .loop .inv .0, c .before .before .before .before .before .before .before .before .before .before .pre .0 .rep .shown)
+add-i c = omega (arith, c .before .before .before .before .before .before .before .if1 .taken, c .before .before .before .before .before .before .before .before .before .loop .inv .0, c .before .before .before .before .before .before .before .before .before .before .before .pre .0 .rep .shown)
 
 loop-less : tie.Need-loop-less Inv-loop μ-loop
-loop-less c = omega (arith, c .next .ensures, c .before .before .before .before .before .before .if1 .taken)
+loop-less c = omega (arith, c .next .ensures, c .before .before .before .before .before .before .before .if1 .taken)
 
 loop-again : tie.Need-loop-again Inv-loop μ-loop
 loop-again c =
-    let q = c .before .before .before .before .before .before .before .before .loop .inv in (
+    let q = c .before .before .before .before .before .before .before .before .before .loop .inv in (
       omega (arith, c .next .ensures, q .0),
-      above-next _ (c .before .before .before .before .before .before .before .before .before .before .pre .0) _ (q .1) _ (q .0) (c .before .before .before .before .before .before .if1 .taken) _ (c .before .before .before .before .before .window-at .ensures) _ (c .before .put .ensures),
+      above-next _ (c .before .before .before .before .before .before .before .before .before .before .before .pre .0) _ (q .1) _ (q .0) (c .before .before .before .before .before .before .before .if1 .taken) _ (c .before .before .before .before .before .before .window-at .ensures) _ (rw (c .before .before .rect .ensures) at (c .before .put .ensures)),
     )
 
 returns : tie.Need-returns Inv-loop μ-loop
@@ -66,6 +70,7 @@ from-spec =
     cast-at
     mul-w
     element-copy-out-w
+    rect-requires
     put-requires
     next-requires
     add-i

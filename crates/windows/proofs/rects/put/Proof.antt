@@ -8,17 +8,11 @@ use Rattle.windows.proofs.rects.put.Tie as tie
 mul-at : tie.Need-mul-at
 mul-at c = search needs
 
-cast-numbers : tie.Need-cast-numbers
-cast-numbers c = search needs
-
 mul-numbers : tie.Need-mul-numbers
 mul-numbers c = search needs
 
 element-write-numbers : tie.Need-element-write-numbers
 element-write-numbers c = search needs
-
-cast-numbers-2 : tie.Need-cast-numbers-2
-cast-numbers-2 c = search needs
 
 add-numbers : tie.Need-add-numbers
 add-numbers c = search needs
@@ -29,9 +23,6 @@ mul-numbers-2 c = search needs
 element-write-numbers-2 : tie.Need-element-write-numbers-2
 element-write-numbers-2 c = search needs
 
-cast-numbers-3 : tie.Need-cast-numbers-3
-cast-numbers-3 c = search needs
-
 add-numbers-2 : tie.Need-add-numbers-2
 add-numbers-2 c = search needs
 
@@ -40,9 +31,6 @@ mul-numbers-3 c = search needs
 
 element-write-numbers-3 : tie.Need-element-write-numbers-3
 element-write-numbers-3 c = search needs
-
-cast-numbers-4 : tie.Need-cast-numbers-4
-cast-numbers-4 c = search needs
 
 add-numbers-3 : tie.Need-add-numbers-3
 add-numbers-3 c = search needs
@@ -54,25 +42,21 @@ element-write-numbers-4 : tie.Need-element-write-numbers-4
 element-write-numbers-4 c = search needs
 
 returns : tie.Need-returns
-returns c = added _ _ _ _ (c .before .before .before .before .pre) refl
+returns c = added _ _ _ _ (c .pre) refl
 
 pub put-spec : {M : Type 1} → statement M
 put-spec =
     tie.close
     (tie.spec
     mul-at
-    cast-numbers
     mul-numbers
     element-write-numbers
-    cast-numbers-2
     add-numbers
     mul-numbers-2
     element-write-numbers-2
-    cast-numbers-3
     add-numbers-2
     mul-numbers-3
     element-write-numbers-3
-    cast-numbers-4
     add-numbers-3
     mul-numbers-4
     element-write-numbers-4

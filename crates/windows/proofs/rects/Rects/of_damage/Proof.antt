@@ -21,23 +21,26 @@ cast-n c = search needs
 loop-holds : tie.Need-loop-holds Inv-loop μ-loop
 loop-holds c = dirty-none _ (c .pre) _ refl
 
-mul-put : tie.Need-mul-put Inv-loop μ-loop
-mul-put c = omega (arith, c .before .before .before .pre .len, c .before .loop-test .taken)
+mul-area : tie.Need-mul-area Inv-loop μ-loop
+mul-area c = omega (arith, c .before .before .pre .len, c .loop-test .taken)
 
-element-copy-out-put : tie.Need-element-copy-out-put Inv-loop μ-loop
-element-copy-out-put c = omega (arith, c .before .before .before .pre .len, c .before .loop-test .taken)
+element-copy-out-area : tie.Need-element-copy-out-area Inv-loop μ-loop
+element-copy-out-area c = omega (arith, c .before .before .pre .len, c .loop-test .taken)
+
+rect-requires : tie.Need-rect-requires Inv-loop μ-loop
+rect-requires c κs = search needs
 
 put-requires : tie.Need-put-requires Inv-loop μ-loop
-put-requires c κs = omega (arith, c .before .before .before .before .pre .len, c .before .before .loop-test .taken)
+put-requires c κs = omega (arith, c .before .before .before .before .before .pre .len, c .before .before .before .loop-test .taken)
 
 add-i : tie.Need-add-i Inv-loop μ-loop
-add-i c = omega (arith, c .before .before .before .before .before .pre .len, c .before .before .before .loop-test .taken)
+add-i c = omega (arith, c .before .before .before .before .before .before .pre .len, c .before .before .before .before .loop-test .taken)
 
 loop-less : tie.Need-loop-less Inv-loop μ-loop
 loop-less c = omega arith
 
 loop-again : tie.Need-loop-again Inv-loop μ-loop
-loop-again c = dirty-next _ (c .before .before .before .before .before .pre) _ (c .before .before .before .before .loop .inv) (c .before .before .before .loop-test .taken) (c .put .ensures)
+loop-again c = dirty-next _ (c .before .before .before .before .before .before .pre) _ (c .before .before .before .before .before .loop .inv) (c .before .before .before .before .loop-test .taken) (rw (c .before .rect .ensures) at (c .put .ensures))
 
 returns : tie.Need-returns Inv-loop μ-loop
 returns c = fill-end (c .before .loop .inv) _ (c .loop-test .left) (dirty-count _ (c .before .before .pre))
@@ -50,8 +53,9 @@ of-damage-spec =
     μ-loop
     cast-n
     loop-holds
-    mul-put
-    element-copy-out-put
+    mul-area
+    element-copy-out-area
+    rect-requires
     put-requires
     add-i
     loop-less
