@@ -1,26 +1,20 @@
 -- How a session holds a group, which sessions there are, and what a call promises of its answer.
-use Prim.Native.Nat.{ℕ, suc, _-_, _*_, _≤_, _<_}
-use mathlib.Core.Bool.{Bool, true, false, cond, _||_}
+use Prim.Native.Nat.{ℕ, _≤_, _<_}
+use mathlib.Core.Bool.{false, cond}
 use mathlib.Core.Path.{_≡_}
-use mathlib.Core.List.{List, [], _∷_, _++_, map}
+use mathlib.Core.List.{List, [], _∷_, map}
 use mathlib.Core.Option.{Option, none, some}
-use lib.ListN.{length, getD, take, drop}
-use Rattle.geom.specs.declared.Rect.{Rect}
+use lib.ListN.{length, getD, take}
 use Rattle.geom.specs.Questions.{_is_, asked}
 use Rattle.geom.specs.Geom.{rect}
-use Rattle.geom.specs.Lists.{outsideAll, relative, listIntersect}
 use Rattle.window.specs.declared.Window.{Window}
 use Rattle.window.specs.declared.Event.{Event}
 use Rattle.window.specs.Window.{Win}
-use Rattle.window.specs.Held.{winOf, rectOf, rects, RepWindow}
+use Rattle.window.specs.Held.{winOf, RepWindow}
 use Rattle.rules.specs.Group.{Group, start, used, win}
-use Rattle.rules.specs.Order.{isIn, placeOf}
 use Rattle.rules.specs.Visible.{visibleList}
-use Rattle.rules.specs.Redraw.{none?, drawRegions}
 use Rattle.rules.specs.Calls.{Call, does, after}
 use Rattle.windows.specs.declared.WinId.{WinId}
-use Rattle.windows.specs.declared.RenderIdx.{RenderIdx}
-use Rattle.windows.specs.declared.RenderIdx.the-variants.{At, Hidden}
 use Rattle.windows.specs.declared.Session.{Session}
 use Rattle.windows.specs.declared.Done.{Done}
 use Rattle.windows.specs.declared.NewId.{NewId}
@@ -44,10 +38,6 @@ num i = i .0
 -- the first n ids
 abbrev pub ids : ℕ → List WinId → List ℕ
 ids n l = map num (take n l)
-
--- what a read past the end of the order gives
-abbrev pub noId : WinId
-noId = record { 0 = 0 }
 
 -- the group that a session holds
 unfoldable pub group : Session → Group
@@ -91,22 +81,6 @@ pub record Given (s : Session) : Type 0 where
   pub calls : List Call
   pub reached : group s ≡ after c calls
 
--- The render order -----------------------------------------------------------------------------------------------------
-
--- the place of a window, which a hidden one has not
-abbrev pub idxOf : RenderIdx → Option ℕ
-idxOf (At p) = some (p .0)
-idxOf Hidden = none
-
--- the same by the rule, in the order o
-abbrev pub renderIdx : ℕ → List ℕ → Option ℕ
-renderIdx id o = cond (isIn id o) (some (placeOf id o)) none
-
--- the order without the window at place p, of the first n
-pub record Closed (order : List WinId) (n p : ℕ) (r : List WinId) : Type 0 where
-  pub all : length r ≡ 16
-  pub front : take (n - 1) r ≡ take p order ++ drop (suc p) (take n order)
-
 -- What a call promises --------------------------------------------------------------------------------------------------
 
 -- answer and group are the rule's; a refused call hands back the very session; and the session can be given to the next call
@@ -133,22 +107,6 @@ idOf Absent = none
 pub record MeetsScreen (k : Call) (s : Session) (r : Done) (screen : List ℕ) : Type 0 where
   pub meets : Meets k s r
   pub shown : screen ≡ does (group s) k .screen
-
--- store and screen have the sizes that questions 1 and 8 ask for
-pub record Drawable (s : Session) (sw sh : ℕ) (store screen : List ℕ) : Type 0 where
-  pub whole : length store ≡ 16 * s .c
-  pub sw≤ : sw ≤ 32767
-  pub sh≤ : sh ≤ 32767
-  pub size : length screen ≡ sw * sh
-
--- the screen after a window is drawn under some rectangles: "with full or an empty damage list all visible entries are written, else
--- `list_intersect` of visible and damage". Its pixels begin at `base` of the store
-abbrev pub painted : Window → Bool → ℕ → List Rect → List ℕ → ℕ → ℕ → List ℕ → List ℕ
-painted w full base above store sw sh screen =
-    let at : Rect = rectOf (w .at) in
-    let dirty : List Rect = cond full [] (rects (w .damage)) in
-    let seen : List Rect = map (relative at) (outsideAll (at ∷ []) above) in
-    drawRegions at base store sw sh (cond (none? dirty) seen (listIntersect seen dirty)) screen
 
 -- the same of a call that gives an id
 pub record MeetsId (k : Call) (s : Session) (r : Created) : Type 0 where

@@ -1,7 +1,8 @@
 // The visible list of a window: document 01, "Visible list, relative to the window".
 ghost use mathlib.Core.Path.{_≡_};
 ghost use mathlib.Core.Option.{some};
-ghost use Rattle.windows.specs.View.{group, ids, Given, renderIdx, Lists};
+ghost use Rattle.windows.specs.View.{group, ids, Given, Lists};
+ghost use Rattle.windows.specs.Order.{renderIdx};
 use crate::Listing;
 use crate::Place;
 use crate::RenderIdx;

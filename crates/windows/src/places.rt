@@ -2,7 +2,7 @@
 ghost use mathlib.Core.Path.{_≡_};
 ghost use Prim.Native.Nat.{_+_, _-_, _<_};
 ghost use lib.ListN.{getD, set};
-ghost use Rattle.windows.specs.View.{noId};
+ghost use Rattle.windows.specs.Order.{noId};
 use crate::Place;
 use crate::WinId;
 

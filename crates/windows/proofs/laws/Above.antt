@@ -17,7 +17,8 @@ use Rattle.rules.specs.Group.{win}
 use Rattle.windows.specs.declared.WinId.{WinId}
 use Rattle.rules.specs.Redraw.{none?}
 use Rattle.windows.specs.declared.Session.{Session}
-use Rattle.windows.specs.View.{noId, group, windowAt, Given}
+use Rattle.windows.specs.View.{group, windowAt, Given}
+use Rattle.windows.specs.Order.{noId}
 use Rattle.windows.specs.Rects.{Added}
 use Rattle.windows.proofs.laws.Places.{order-length, id-at, id-low, win-there}
 use Rattle.windows.proofs.laws.Rects.{Filling, fill-none, fill-next}

@@ -29,7 +29,9 @@ use Rattle.windows.specs.declared.Session.{Session}
 use Rattle.visible.specs.Lent.{Lent}
 use Rattle.visible.proofs.laws.Numbers.{behind, rects-split, rest-lent}
 use Rattle.windows.specs.declared.rects.Rects.{Rects}
-use Rattle.windows.specs.View.{noId, group, blank, windowAt, Rep, Given, MeetsScreen, done, painted}
+use Rattle.windows.specs.View.{group, blank, windowAt, Rep, Given, MeetsScreen, done}
+use Rattle.windows.specs.Drawing.{painted}
+use Rattle.windows.specs.Order.{noId}
 use Rattle.windows.specs.Rects.{Holds}
 use Rattle.windows.proofs.laws.Session.{used-at, win-at, given-ok, putWindow, put-group, put-rep, refuses, gives}
 use Rattle.windows.proofs.laws.Places.{order-length, id-at, shown-at, id-low, is-used, win-there, above-there}

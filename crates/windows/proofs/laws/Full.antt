@@ -19,7 +19,7 @@ use Rattle.visible.specs.declared.region.View.{View}
 use Rattle.visible.specs.Lent.{AllFit}
 use Rattle.visible.specs.Seen.{drawn}
 use Rattle.visible.proofs.laws.Regions.{drawn-append}
-use Rattle.windows.specs.View.{painted}
+use Rattle.windows.specs.Drawing.{painted}
 use Rattle.windows.specs.Rects.{fullRect, dirtyOf}
 
 -- One region ---------------------------------------------------------------------------------------------------------

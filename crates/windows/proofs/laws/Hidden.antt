@@ -10,7 +10,8 @@ use lib.ListN.{getD}
 use Rattle.rules.specs.Order.{shown, without, nextFocus, hidden}
 use Rattle.windows.specs.declared.WinId.{WinId}
 use Rattle.windows.specs.declared.Session.{Session}
-use Rattle.windows.specs.View.{ids, group, Rep, Given, renderIdx, Closed}
+use Rattle.windows.specs.View.{ids, group, Rep, Given}
+use Rattle.windows.specs.Order.{renderIdx, Closed}
 use Rattle.windows.proofs.laws.Order.{ids-closed}
 use Rattle.windows.proofs.laws.Places.{has-place, is-shown, in-order, isnt-shown}
 

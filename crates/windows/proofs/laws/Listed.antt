@@ -19,7 +19,8 @@ use Rattle.rules.specs.Visible.{visible, visibleList}
 use Rattle.rules.proofs.group.Invariant.{used-small}
 use Rattle.windows.specs.declared.Session.{Session}
 use Rattle.windows.specs.declared.Listing.{Listing}
-use Rattle.windows.specs.View.{ids, group, windowAt, Given, renderIdx, Lists}
+use Rattle.windows.specs.View.{ids, group, windowAt, Given, Lists}
+use Rattle.windows.specs.Order.{renderIdx}
 use Rattle.windows.proofs.laws.Session.{used-at, win-at, given-ok}
 use Rattle.windows.proofs.laws.Places.{has-place, is-shown, isnt-shown, above-place}
 use Rattle.windows.proofs.laws.Above.{higher}

@@ -15,7 +15,8 @@ use Rattle.geom.proofs.basics.Tests.{clash, lt-or-le}
 use Rattle.rules.specs.Order.{isIn, placeOf, without}
 use Rattle.rules.proofs.group.Room.{shown-place, hidden-place}
 use Rattle.windows.specs.declared.WinId.{WinId}
-use Rattle.windows.specs.View.{num, ids, noId, renderIdx, Closed}
+use Rattle.windows.specs.View.{num, ids}
+use Rattle.windows.specs.Order.{noId, renderIdx, Closed}
 
 pub ids-length : (n : ℕ) (l : List WinId) → n ≤ length l → length (ids n l) ≡ n
 ids-length n l h = length-map (take n l) num ∙ length-take-le n l h

@@ -17,7 +17,8 @@ use Rattle.rules.proofs.group.Order.{Distinct, isIn-here}
 use Rattle.rules.proofs.group.Invariant.{used-small}
 use Rattle.windows.specs.declared.WinId.{WinId}
 use Rattle.windows.specs.declared.Session.{Session}
-use Rattle.windows.specs.View.{num, ids, noId, group, windowAt, Given, renderIdx}
+use Rattle.windows.specs.View.{num, ids, group, windowAt, Given}
+use Rattle.windows.specs.Order.{noId, renderIdx}
 use Rattle.windows.proofs.laws.Session.{used-at, win-at, given-ok}
 use Rattle.windows.proofs.laws.Order.{ids-length, ids-at, is-at, is-nowhere, place-low}
 

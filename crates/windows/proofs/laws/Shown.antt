@@ -15,7 +15,8 @@ use Rattle.rules.specs.Calls.{Show, does}
 use Rattle.rules.proofs.group.Room.{room}
 use Rattle.windows.specs.declared.WinId.{WinId}
 use Rattle.windows.specs.declared.Session.{Session}
-use Rattle.windows.specs.View.{num, ids, group, windowAt, Given, renderIdx, Meets, done}
+use Rattle.windows.specs.View.{num, ids, group, windowAt, Given, Meets, done}
+use Rattle.windows.specs.Order.{renderIdx}
 use Rattle.windows.proofs.laws.Session.{used-at, given-ok, refuses, gives}
 use Rattle.windows.proofs.laws.Places.{order-length, isnt-shown}
 use Rattle.windows.proofs.laws.Places as Places

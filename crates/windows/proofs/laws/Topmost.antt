@@ -16,7 +16,8 @@ use Rattle.rules.specs.Events.{topmostOf, topmost}
 use Rattle.rules.proofs.group.Invariant.{used-small}
 use Rattle.windows.specs.declared.WinId.{WinId}
 use Rattle.windows.specs.declared.Session.{Session}
-use Rattle.windows.specs.View.{num, ids, noId, group, windowAt, Given}
+use Rattle.windows.specs.View.{num, ids, group, windowAt, Given}
+use Rattle.windows.specs.Order.{noId}
 use Rattle.windows.proofs.laws.Session.{used-at, win-at, given-ok}
 use Rattle.windows.proofs.laws.Places.{id-low, is-used}
 

@@ -8,7 +8,8 @@ use Rattle.rules.specs.Group.{used}
 use Rattle.rules.specs.Order as Order
 use Rattle.rules.specs.Calls.{Hide, does}
 use Rattle.windows.specs.declared.Session.{Session}
-use Rattle.windows.specs.View.{ids, group, windowAt, Rep, Given, idxOf, renderIdx, Meets, done}
+use Rattle.windows.specs.View.{ids, group, windowAt, Rep, Given, Meets, done}
+use Rattle.windows.specs.Order.{idxOf, renderIdx}
 use Rattle.windows.proofs.laws.Session.{used-at, used-past, refuses, gives}
 use Rattle.windows.proofs.laws.Places.{in-order}
 use Rattle.windows.proofs.laws.Hidden.{hidden-already, hidden-now}

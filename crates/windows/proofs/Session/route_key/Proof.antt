@@ -4,7 +4,8 @@ use mathlib.Core.Path.{_≡_, sym, ap, _∙_}
 use mathlib.Core.Bool.{true}
 use native.Mathlib.Omega.{arith}
 use Rattle.rules.specs.Order.{shown}
-use Rattle.windows.specs.View.{group, windowAt, idxOf}
+use Rattle.windows.specs.View.{group, windowAt}
+use Rattle.windows.specs.Order.{idxOf}
 use Rattle.windows.proofs.laws.Places.{is-shown, isnt-shown}
 use Rattle.windows.proofs.laws.Topmost.{shown-used}
 use Rattle.windows.proofs.laws.Routing.{key-tellable, no-focus, focus-told}

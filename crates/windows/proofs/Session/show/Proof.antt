@@ -1,6 +1,6 @@
 -- A window in use joins the top of the order where it has no place yet.
 use mathlib.Core.Path.{refl, sym, ap, _∙_}
-use Rattle.windows.specs.View.{idxOf}
+use Rattle.windows.specs.Order.{idxOf}
 use Rattle.windows.proofs.laws.Session.{used-at, used-past}
 use Rattle.windows.proofs.laws.Shown.{is-shown, is-hidden, has-room, not-used}
 use borrow.Author.Needs.{needs}
