@@ -1,19 +1,20 @@
 -- Document 01, question 14: the calls on rectangles alone, with any numbers, and what each hands back on a no.
-use Prim.Native.Nat.{ℕ}
+use Prim.Native.Nat.{ℕ, _-_, _≤_}
 use mathlib.Core.Bool.{Bool, cond, _&&_}
 use mathlib.Core.Path.{_≡_}
-use mathlib.Core.List.{List, [], _∷_}
+use mathlib.Core.List.{List, [], _∷_, _++_}
 use mathlib.Core.Option.{Option, none, some}
 use lib.Dec.{leb}
+use lib.ListN.{length, replicate}
 use Rattle.geom.specs.declared.Rect.{Rect}
 use Rattle.geom.specs.declared.Tested.{Tested}
 use Rattle.geom.specs.declared.United.{United}
+use Rattle.geom.specs.declared.Pieces.{Pieces}
 use Rattle.geom.specs.declared.NotIntersect.{NotIntersect}
 use Rattle.geom.specs.declared.Intersection.{Intersection}
 use Rattle.geom.specs.declared.Intersection.the-variants.{Common, Apart, Refused}
 use Rattle.geom.specs.Questions.{_is_, asked}
 use Rattle.geom.specs.Geom.{rect, right, bottom, contains, containsRect, within, intersect, union, pieces}
-use Rattle.geom.specs.Inner.{Holds}
 
 -- "14: are x+w and y+h of each rectangle at most 4,294,967,295?"
 abbrev pub edgesFit : Rect → Bool
@@ -58,6 +59,12 @@ bareIntersect a b = record { answer = answer14 (bothFit a b); common = cond (bot
 -- "no pieces"
 abbrev pub barePieces : Rect → Rect → List Rect
 barePieces a b = cond (bothFit a b) (pieces a b) []
+
+-- the struct of four holds the list: its count, and behind the list only (0,0,0,0)
+pub record Holds (p : Pieces) (rs : List Rect) : Type 0 where
+  pub few : length rs ≤ 4
+  pub count : p .count ≡ length rs
+  pub list : p .rects ≡ rs ++ replicate (4 - length rs) (rect 0 0 0 0)
 
 pub record BareNotIntersect (a b : Rect) (r : NotIntersect) : Type 0 where
   pub answer : r .answer ≡ answer14 (bothFit a b)

@@ -1,11 +1,10 @@
--- What the functions of module `inner` ask of rectangles, and how the struct of four pieces holds a list.
-use Prim.Native.Nat.{_+_, _-_, _≤_}
-use mathlib.Core.Path.{_≡_}
+-- What the functions of module `inner` ask of rectangles, and what adding a piece does.
+use Prim.Native.Nat.{_+_, _≤_}
 use mathlib.Core.List.{List, _++_}
-use lib.ListN.{length, replicate}
 use Rattle.geom.specs.declared.Rect.{Rect}
 use Rattle.geom.specs.declared.Pieces.{Pieces}
-use Rattle.geom.specs.Geom.{rect, left, top, right, bottom, ifAny}
+use Rattle.geom.specs.Geom.{left, top, right, bottom, ifAny}
+use Rattle.geom.specs.Bare.{Holds}
 
 -- x+w and y+h are numbers of 32 bits: question 14 as facts
 pub record Fits (r : Rect) : Type 0 where
@@ -18,12 +17,6 @@ pub record Within (a i : Rect) : Type 0 where
   pub east : right i ≤ right a
   pub north : top a ≤ top i
   pub south : bottom i ≤ bottom a
-
--- the struct of four holds the list: its count, and behind the list only (0,0,0,0)
-pub record Holds (p : Pieces) (rs : List Rect) : Type 0 where
-  pub few : length rs ≤ 4
-  pub count : p .count ≡ length rs
-  pub list : p .rects ≡ rs ++ replicate (4 - length rs) (rect 0 0 0 0)
 
 -- q is p with one more piece, if it has a pixel
 pub record Added (p : Pieces) (r : Rect) (q : Pieces) : Type 0 where

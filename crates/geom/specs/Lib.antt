@@ -1,7 +1,7 @@
--- What everybody must believe of rectangles.
+-- What everybody must believe of rectangles; then what our own functions say, and the limits.
 pub mod Questions
 pub mod Geom
 pub mod Lists
-pub mod Inner
 pub mod Bare
+pub mod Inner
 pub mod Limits

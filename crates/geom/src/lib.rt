@@ -114,13 +114,6 @@ impl Rect {
         Rect { pos, dims }
     }
 
-    // The constant as a value: what a proof reads of it.
-    pub fn full() -> Rect
-        ensures { λ r. ⌜ r ≡ rect 0 0 4294967295 4294967295 ⌝ }
-    {
-        Rect::FULL
-    }
-
     pub fn pos(self) -> Pos
         ensures { λ v. ⌜ v ≡ self .pos ⌝ }
     {

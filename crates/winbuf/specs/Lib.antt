@@ -1,4 +1,4 @@
--- What everybody must believe of pixels.
+-- What everybody must believe of pixels; then what our own functions say, and the limits.
 pub mod Pixels
 pub mod Bare
 pub mod Rows

@@ -1,3 +1,4 @@
--- What everybody must believe of one window.
+-- What everybody must believe of one window; then what our own functions say.
 pub mod Window
 pub mod Held
+pub mod Inner

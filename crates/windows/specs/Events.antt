@@ -10,7 +10,8 @@ use Rattle.window.specs.declared.Window.{Window}
 use Rattle.window.specs.declared.Event.{Event}
 use Rattle.window.specs.declared.Event.the-variants.{Resize, KeyDown, KeyUp, KeyFire, Text, MouseMove, MouseDown, MouseClick, MouseUp}
 use Rattle.window.specs.Window.{Win, pushed, cursorTo}
-use Rattle.window.specs.Held.{winOf, Queued, RepWindow}
+use Rattle.window.specs.Held.{winOf, RepWindow}
+use Rattle.window.specs.Inner.{Queued}
 use Rattle.rules.specs.Events.{withQueue, withCursor}
 use Rattle.windows.specs.declared.events.Target.{Target}
 use Rattle.windows.specs.declared.events.Target.the-variants.{Nobody, Focus, Point}

@@ -10,7 +10,8 @@ use lib.Seq.{drop-cons, take-at, getD-take, length-take-le}
 use Rattle.geom.specs.declared.Rect.{Rect}
 use Rattle.geom.specs.declared.Pieces.{Pieces}
 use Rattle.geom.specs.Geom.{rect, pieces}
-use Rattle.geom.specs.Inner.{Fits, Within, Holds}
+use Rattle.geom.specs.Inner.{Fits, Within}
+use Rattle.geom.specs.Bare.{Holds}
 use Rattle.geom.proofs.basics.Lists.{All}
 use Rattle.visible.proofs.laws.Depth.{pieces-within}
 

@@ -10,7 +10,8 @@ use lib.Seq.{sets, sets-eq}
 use Rattle.geom.specs.declared.Rect.{Rect}
 use Rattle.geom.specs.declared.Pieces.{Pieces}
 use Rattle.geom.specs.Geom.{meets, pieces}
-use Rattle.geom.specs.Inner.{Within, Holds}
+use Rattle.geom.specs.Inner.{Within}
+use Rattle.geom.specs.Bare.{Holds}
 use Rattle.geom.specs.Lists.{outsideAll, relative, numbers}
 use Rattle.rules.specs.Visible.{rectsOf}
 use Rattle.visible.specs.Lent.{rectAt, Missed}

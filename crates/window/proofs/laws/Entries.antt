@@ -18,7 +18,8 @@ use Rattle.window.specs.declared.damage.Area.{Area}
 use Rattle.window.specs.declared.damage.Damage.{Damage}
 use Rattle.window.specs.declared.damage.Merged.{Merged}
 use Rattle.window.specs.Window.{anyContains, merges, mergeOrAppend, addDirty}
-use Rattle.window.specs.Held.{Small, Low, rectOf, noArea, rects, RepDamage, MergedInto, atMost16, JoinedTo, Dirtied}
+use Rattle.window.specs.Held.{Small, Low, rectOf, noArea, rects, RepDamage}
+use Rattle.window.specs.Inner.{MergedInto, atMost16, JoinedTo, Dirtied}
 
 -- Rectangles in 16 bits ----------------------------------------------------------------------------------------------
 

@@ -12,7 +12,8 @@ use Rattle.window.specs.declared.Event.the-variants.{Resize, KeyDown, Ke
 use Rattle.window.specs.declared.slots.Slot.{Slot}
 use Rattle.window.specs.declared.queue.Queue.{Queue}
 use Rattle.window.specs.Window.{pushed}
-use Rattle.window.specs.Held.{Queued, slot, slotOf, eventOf, events, RepQueue, PushedTo, PoppedFrom}
+use Rattle.window.specs.Held.{eventOf, events, RepQueue}
+use Rattle.window.specs.Inner.{Queued, slot, slotOf, PushedTo, PoppedFrom}
 
 -- what a queue can hold comes out of its slot again
 pub event-again : (e : Event) → Queued e → eventOf (slotOf e) ≡ e

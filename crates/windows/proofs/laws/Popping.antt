@@ -8,7 +8,8 @@ use Rattle.window.specs.declared.CursorPos.{CursorPos}
 use Rattle.window.specs.declared.Window.{Window}
 use Rattle.window.specs.declared.queue.Popped as Queue
 use Rattle.window.specs.Window.{Win, moveOf, cursorRead}
-use Rattle.window.specs.Held.{winOf, RepCursor, RepWindow, PoppedFrom}
+use Rattle.window.specs.Held.{winOf, RepCursor, RepWindow}
+use Rattle.window.specs.Inner.{PoppedFrom}
 use Rattle.rules.specs.Group.{used, win, setWin}
 use Rattle.rules.specs.Events as Rule
 use Rattle.rules.specs.Events.{popped, afterPop}

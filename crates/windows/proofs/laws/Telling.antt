@@ -19,7 +19,8 @@ use Rattle.window.specs.declared.CursorPos.{CursorPos}
 use Rattle.window.specs.declared.Window.{Window}
 use Rattle.window.specs.declared.queue.Queue.{Queue}
 use Rattle.window.specs.Window.{Win, pushed, cursorTo}
-use Rattle.window.specs.Held.{winOf, events, Queued, RepCursor, RepWindow, PushedTo}
+use Rattle.window.specs.Held.{winOf, events, RepCursor, RepWindow}
+use Rattle.window.specs.Inner.{Queued, PushedTo}
 use Rattle.window.proofs.Event.{the-type}
 use Rattle.rules.specs.Group.{Outcome, win, setWin, leaves}
 use Rattle.rules.specs.Events.{withQueue, withCursor}

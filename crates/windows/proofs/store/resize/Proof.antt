@@ -7,7 +7,8 @@ use Rattle.window.specs.declared.Window.{Window}
 use Rattle.window.specs.declared.damage.Damage.{Damage}
 use Rattle.window.specs.declared.queue.Queue.{Queue}
 use Rattle.window.specs.declared.Event.the-variants.{Resize}
-use Rattle.window.specs.Held.{winOf, rectOf, rects, RepWindow, RepDamage, PushedTo}
+use Rattle.window.specs.Held.{winOf, rectOf, rects, RepWindow, RepDamage}
+use Rattle.window.specs.Inner.{PushedTo}
 use Rattle.rules.specs.Store.{resizedWin}
 use Rattle.windows.specs.Pixels.{Becomes}
 use borrow.Author.Needs.{needs}
