@@ -7,14 +7,14 @@ use crate::Place;
 use crate::WinId;
 
 impl Place {
-    pub fn lowest() -> Place
+    pub(crate) fn lowest() -> Place
         ensures { λ p. ⌜ p .0 ≡ 0 ⌝ }
     {
         Place(0)
     }
 
     // The place above.
-    pub fn next(self) -> Place
+    pub(crate) fn next(self) -> Place
         requires { ⌜ self .0 < 16 ⌝ }
         ensures { λ p. ⌜ p .0 ≡ self .0 + 1 ⌝ }
     {
@@ -22,7 +22,7 @@ impl Place {
     }
 
     // The place below; the lowest has none, and is given back.
-    pub fn prev(self) -> Place
+    pub(crate) fn prev(self) -> Place
         ensures { λ p. ⌜ p .0 ≡ self .0 - 1 ⌝ }
     {
         if self.0 == 0 {
