@@ -81,11 +81,16 @@ fillScanline ps w h line ofs len v = lineWritten ps w h line ofs len (replicate 
 abbrev pub setScanline : List ℕ → ℕ → ℕ → ℕ → ℕ → ℕ → List ℕ → Part
 setScanline ps w h line ofs len vs = lineWritten ps w h line ofs len (take (lineLength w ofs len) vs)
 
--- "A strided region at (x,y) of w by h starts at x + y × stride and has (h−1) × stride + w pixels; 13 unless h ≥ 1, w ≤ stride
--- and it ends in the slice."
+-- question 5 of a region; its stride is none of the coordinates and sizes
+abbrev pub smallArea : ℕ → ℕ → ℕ → ℕ → Bool
+smallArea x y w h = small x && small y && (small w && small h)
+
+-- "13 unless h ≥ 1, w ≤ stride and it ends in the slice", of `total` pixels
+abbrev pub regionFits : ℕ → ℕ → ℕ → ℕ → ℕ → ℕ → Bool
+regionFits total stride x y w h = leb 1 h && leb w stride && leb (x + y * stride + ((h - 1) * stride + w)) total
+
+-- "A strided region at (x,y) of w by h starts at x + y × stride and has (h−1) × stride + w pixels"
 unfoldable pub region : List ℕ → ℕ → ℕ → ℕ → ℕ → ℕ → Part
 region ps stride x y w h =
-    let a : ℕ =
-    asked ((5 is (small x && small y && (small w && small h)))
-    ∷ (13 is (leb 1 h && leb w stride && leb (x + y * stride + ((h - 1) * stride + w)) (length ps))) ∷ []) in
+    let a : ℕ = asked ((5 is smallArea x y w h) ∷ (13 is regionFits (length ps) stride x y w h) ∷ []) in
     record { answer = a; pixels = cond (eqb a 0) (part (x + y * stride) ((h - 1) * stride + w) ps) [] }

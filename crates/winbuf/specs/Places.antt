@@ -1,8 +1,6 @@
 -- What the code finds out before it takes or writes a part of lent pixels.
-use Prim.Native.Nat.{ℕ, _+_, _-_, _*_}
-use mathlib.Core.Bool.{Bool, cond, _&&_}
-use lib.Dec.{leb}
-use Rattle.geom.specs.Questions.{small}
+use Prim.Native.Nat.{ℕ}
+use mathlib.Core.Bool.{cond}
 use Rattle.winbuf.specs.declared.inner.place.Place.{Place}
 use Rattle.winbuf.specs.declared.inner.place.Place.the-variants.{Large, Beside, Outside, Found}
 use Rattle.winbuf.specs.Pixels.{lineStart, lineLength, smallLine, onLine, inSlice}
@@ -15,10 +13,3 @@ linePlace total w h line ofs len =
     (cond (inSlice total w line ofs len) (Found (lineStart w line ofs) (lineLength w ofs len)) Outside)
     Beside)
     Large
-
--- the two questions of a region, as its rule asks them
-abbrev pub smallArea : ℕ → ℕ → ℕ → ℕ → Bool
-smallArea x y w h = small x && small y && (small w && small h)
-
-abbrev pub regionFits : ℕ → ℕ → ℕ → ℕ → ℕ → ℕ → Bool
-regionFits total stride x y w h = leb 1 h && leb w stride && leb (x + y * stride + ((h - 1) * stride + w)) total

@@ -10,9 +10,8 @@ use lib.ListN.{length}
 use denote.Ref.{RefT, now}
 use borrow.Author.Tests.{leb-true, le-leb, lt-leb}
 use Rattle.geom.proofs.basics.Tests.{fst, snd, says-le, same}
-use Rattle.winbuf.specs.Pixels.{part, region}
+use Rattle.winbuf.specs.Pixels.{part, region, smallArea, regionFits}
 use Rattle.winbuf.specs.Bare.{Hands, regionStart}
-use Rattle.winbuf.specs.Places.{smallArea, regionFits}
 
 -- where the region ends
 abbrev pub regionEnd : ℕ → ℕ → ℕ → ℕ → ℕ → ℕ

@@ -1,6 +1,6 @@
 // The questions of a strided region.
 ghost use mathlib.Core.Path.{_≡_};
-ghost use Rattle.winbuf.specs.Places.{smallArea, regionFits};
+ghost use Rattle.winbuf.specs.Pixels.{smallArea, regionFits};
 use super::MOST;
 
 pub fn small_area(x: u32, y: u32, w: u32, h: u32) -> bool
