@@ -19,7 +19,7 @@ use Rattle.rules.specs.Events.{route}
 use Rattle.rules.specs.Calls.{Call, does, accepted, after}
 use Rattle.rules.specs.Book.{Book, page, bookOf, topmost}
 use Rattle.rules.specs.Ledger.{Ledger, waiting, ledgerOf}
-use Rattle.rules.specs.Conditions.{Quiet, Sized, isRedraw, noRedraw, unmarked}
+use Rattle.rules.specs.Conditions.{deed, Quiet, Sized, isRedraw, noRedraw, unmarked}
 
 -- Pixels ----------------------------------------------------------------------------------------------------------------
 
@@ -35,8 +35,8 @@ expected b (some id) px py first = page b id .pixel (px - left (page b id .at)) 
 -- "any two accepted redraws in it with no accepted redraw between them": r₁ after the calls ks₁, and r₂ after ks₂ more, under the
 -- conditions
 pub record Two (c : ℕ) (w h : ℕ) (ks₁ : List Call) (r₁ : Call) (ks₂ : List Call) (r₂ : Call) : Type 0 where
-  pub first : T (isRedraw r₁ && accepted (after c ks₁) r₁)
-  pub second : T (isRedraw r₂ && accepted (after c (ks₁ ++ (r₁ ∷ ks₂))) r₂)
+  pub first : T (isRedraw (deed r₁ .draws) && accepted (after c ks₁) r₁)
+  pub second : T (isRedraw (deed r₂ .draws) && accepted (after c (ks₁ ++ (r₁ ∷ ks₂))) r₂)
   pub between : T (noRedraw (after c (ks₁ ++ (r₁ ∷ []))) ks₂)
   pub quiet : Quiet (start c .group) none none (ks₁ ++ (r₁ ∷ (ks₂ ++ (r₂ ∷ []))))
   pub sized : Sized w h (start c .group) (ks₁ ++ (r₁ ∷ (ks₂ ++ (r₂ ∷ []))))

@@ -24,7 +24,7 @@ use Rattle.rules.specs.Group.{Group, win, setWin, theWin}
 use Rattle.rules.specs.Order.{shown}
 use Rattle.rules.specs.Events.{topmost, afterPop}
 use Rattle.rules.specs.Calls.{Call, Create, Show, Hide, Drop, Mark, Pop, Move, Resize, Fill, Blit, Route, Redraw, does, accepted}
-use Rattle.rules.specs.Conditions.{owesMark, isRedraw}
+use Rattle.rules.specs.Conditions.{deed, owesMark, isRedraw}
 use Rattle.rules.proofs.group.Topmost.{topmost-same}
 use Rattle.rules.proofs.group.Steps.{on-create, on-show, on-hide, on-drop, on-move, on-pop, on-key, on-pointer, on-pointed, on-route, on-resize, on-fill, on-blit}
 use Rattle.rules.proofs.group.Invariant.{Ok, used-below, free-place}
@@ -88,7 +88,7 @@ calm-free g i f h k = record {
 
 -- what becomes of owing a mark
 abbrev pub flag : Group → Call → ℕ → Bool → Bool
-flag g k id u = owesMark id (does g k .id) u k
+flag g k id u = owesMark id (does g k .id) u (deed k)
 
 -- a call leaves a full redraw owed, or keeps that much
 abbrev pub Stays : Group → Call → Group → Type 0
@@ -159,7 +159,7 @@ module _ (g : Group) (ok : Ok g) where
       (inr (calm-set g ok i _ (flag g (Mark i)) (λ s. record { at = refl; damage = λ col row x y h. h; marks = λ u e. inr refl })
       (λ id ne u e. rw (ne-eqb i id (λ k. ne (sym k))) at e)))
 
-  pub stays : (k : Call) → isRedraw k ≡ false → accepted g k ≡ true → Stays g k (does g k .group)
+  pub stays : (k : Call) → isRedraw (deed k .draws) ≡ false → accepted g k ≡ true → Stays g k (does g k .group)
   unfolding does
   stays Create r e = stays-create e
   stays (Show i) r e = on-show (Stays g (Show i)) g i (λ u. inl refl) (λ u. inr as-it-was)
