@@ -164,9 +164,10 @@ impl Session {
             answer = 11;
             let order = self.order;
             let shown = self.shown;
-            let mut above = Place(shown);
-            while 0 < above.0 {
-                let p = above.prev();
+            // how many windows are left to look at: the lowest ones
+            let mut left = shown;
+            while 0 < left {
+                let p = Place(left - 1);
                 let id = window_at(order, p);
                 let at = id.0 as usize;
                 let win = self.windows[at];
@@ -181,7 +182,7 @@ impl Session {
                     answer = told.answer;
                     break;
                 }
-                above = p;
+                left -= 1;
             }
         }
         Done {

@@ -1,6 +1,6 @@
--- The windows from place `above` on do not contain the point; each turn looks at the highest of those below.
+-- The windows above the lowest `left` do not contain the point; each turn looks at the highest of those that are left.
 use Prim.Native.Nat.{ℕ, _-_, _≤_, _<_}
-use mathlib.Core.Path.{_≡_, sym, ap, subst, _∙_}
+use mathlib.Core.Path.{_≡_, refl, sym, ap, subst, _∙_}
 use mathlib.Core.Bool.{true, _&&_}
 use native.Mathlib.Omega.{arith}
 use borrow.Author.Tests.{leb-true, le-leb}
@@ -23,10 +23,10 @@ use Rattle.windows.proofs.Session.route_pointer.Statement.{statement}
 use Rattle.windows.proofs.Session.route_pointer.Tie as tie
 
 abbrev Inv-loop : tie.InvT-loop
-Inv-loop e x y self₀ answer₀ order shown above₀ self answer above = Seeking self₀ self x y (above .0) answer
+Inv-loop e x y self₀ answer₀ order shown left₀ self answer left = Seeking self₀ self x y left answer
 
 abbrev μ-loop : tie.MeasureT-loop
-μ-loop e x y self₀ answer₀ order shown above₀ self answer above = above .0
+μ-loop e x y self₀ answer₀ order shown left₀ self answer left = left
 
 -- the point is small
 is-small : (c : tie.Then1 Inv-loop μ-loop) → let a = c .before .before .args in small (a .x) && small (a .y) ≡ true
@@ -41,28 +41,27 @@ small-yes r px py h =
 
 -- the window that is looked at is in use
 looked : (c : tie.After-window-at Inv-loop μ-loop)
-    → let t = c .before .before .before .before .loop .self in
+    → let t = c .before .before .loop .self in
     (c .window-at .result .0 < 16) × (windowAt t (c .window-at .result .0) .used ≡ true)
-looked c = in-use (c .before .before .before .before .loop .inv) (c .before .before .if2 .taken) _ (c .before .prev .ensures) _ (c .window-at .ensures)
+looked c = in-use (c .before .before .loop .inv) (c .before .loop-test .taken) _ refl _ (c .window-at .ensures)
 
 -- the test is the rule's
 asks : (c : tie.After-contains Inv-loop μ-loop)
-    → let a = c .before .before .before .before .before .before .before .before .before .before .before .before .before .before .args in
-    c .contains .result .yes ≡ contains (rectOf (windowAt (c .before .before .before .before .before .before .before .before .before .before .loop .self) (c .before .before .before .before .before .before .window-at .result .0) .at)) (a .x) (a .y)
+    → let a = c .before .before .before .before .before .before .before .before .before .before .before .before .args in
+    c .contains .result .yes ≡ contains (rectOf (windowAt (c .before .before .before .before .before .before .before .before .loop .self) (c .before .before .before .before .before .before .window-at .result .0) .at)) (a .x) (a .y)
 asks c =
-    let a = c .before .before .before .before .before .before .before .before .before .before .before .before .before .before .args in
-    let t = c .before .before .before .before .before .before .before .before .before .before .loop .self in
-    let f = rectOf (windowAt t (c .before .before .before .before .before .before .window-at .result .0) .at) in
+    let a = c .before .before .before .before .before .before .before .before .before .before .before .before .args in
+    let f = rectOf (windowAt (c .before .before .before .before .before .before .before .before .loop .self) (c .before .before .before .before .before .before .window-at .result .0) .at) in
     ap (λ (r : Tested). r .yes) (c .contains .ensures)
     ∙ (λ i. bareContains (c .before .before .rect .ensures i) (c .before .new .ensures .0 i) (c .before .new .ensures .1 i) .yes)
-    ∙ small-yes f (a .x) (a .y) (c .before .before .before .before .before .before .before .before .before .before .loop .inv .given .rep .each _ (looked (c .before .before .before .before .before .before) .0) .at)
+    ∙ small-yes f (a .x) (a .y) (c .before .before .before .before .before .before .before .before .loop .inv .given .rep .each _ (looked (c .before .before .before .before .before .before) .0) .at)
 
 -- the point lies in its rectangle
-in-frame : (c : tie.Then3 Inv-loop μ-loop) → let a = c .before .before .before .before .before .before .before .before .before .before .before .before .before .before .before .args in In (c .before .before .before .rect .result) (a .x) (a .y)
+in-frame : (c : tie.Then2 Inv-loop μ-loop) → let a = c .before .before .before .before .before .before .before .before .before .before .before .before .before .args in In (c .before .before .before .rect .result) (a .x) (a .y)
 in-frame c =
-    let a = c .before .before .before .before .before .before .before .before .before .before .before .before .before .before .before .args in
+    let a = c .before .before .before .before .before .before .before .before .before .before .before .before .before .args in
     says-in (c .before .before .before .rect .result) (a .x) (a .y) .fact
-    (ap (λ (r : Rect). contains r (a .x) (a .y)) (c .before .before .before .rect .ensures) ∙ sym (asks (c .before)) ∙ c .if3 .taken)
+    (ap (λ (r : Rect). contains r (a .x) (a .y)) (c .before .before .before .rect .ensures) ∙ sym (asks (c .before)) ∙ c .if2 .taken)
 
 small-point-requires : tie.Need-small-point-requires Inv-loop μ-loop
 small-point-requires c κs = search needs
@@ -70,11 +69,11 @@ small-point-requires c κs = search needs
 loop-holds : tie.Need-loop-holds Inv-loop μ-loop
 loop-holds c = let s = c .before .before .before in seek (s .args .t1) (s .args .x) (s .args .y) (s .pre .0)
 
-prev-requires : tie.Need-prev-requires Inv-loop μ-loop
-prev-requires c κs = search needs
+sub-win : tie.Need-sub-win Inv-loop μ-loop
+sub-win c = omega (arith, c .loop-test .taken)
 
 window-at-requires : tie.Need-window-at-requires Inv-loop μ-loop
-window-at-requires c κs = omega (arith, c .prev .ensures, c .before .if2 .taken, c .before .before .before .loop .inv .within, c .before .before .before .before .before .before .before .pre .0 .rep .shown)
+window-at-requires c κs = omega (arith, c .loop-test .taken, c .before .loop .inv .within, c .before .before .before .before .before .pre .0 .rep .shown)
 
 cast-at : tie.Need-cast-at Inv-loop μ-loop
 cast-at c = search needs
@@ -83,7 +82,7 @@ mul-win : tie.Need-mul-win Inv-loop μ-loop
 mul-win c = search needs
 
 element-copy-out-win : tie.Need-element-copy-out-win Inv-loop μ-loop
-element-copy-out-win c = omega (arith, looked (c .before) .0, c .before .before .before .before .before .loop .inv .given .rep .windows)
+element-copy-out-win c = omega (arith, looked (c .before) .0, c .before .before .before .loop .inv .given .rep .windows)
 
 rect-requires : tie.Need-rect-requires Inv-loop μ-loop
 rect-requires c κs = search needs
@@ -105,12 +104,12 @@ at-point-requires c κs = search needs
 
 push-event-requires : tie.Need-push-event-requires Inv-loop μ-loop
 push-event-requires c κs =
-    let one = c .before .before .before .before .before .before .before .before .before .before .before .before .before .before .before .before in
-    let a = c .before .before .before .before .before .before .before .before .before .before .before .before .before .before .before .before .before .before .args in
+    let one = c .before .before .before .before .before .before .before .before .before .before .before .before .before .before in
+    let a = c .before .before .before .before .before .before .before .before .before .before .before .before .before .before .before .before .args in
     let f = c .before .before .before .before .before .before .rect .result in
     let low-x : a .x ≤ 32767 = leb-true (a .x) 32767 (fst (small (a .x)) (small (a .y)) (is-small one)) in
     let low-y : a .y ≤ 32767 = leb-true (a .y) 32767 (snd (small (a .x)) (small (a .y)) (is-small one)) in (
-      c .before .before .before .before .before .before .before .before .before .before .before .before .before .before .loop .inv .given .rep .each _ (looked (c .before .before .before .before .before .before .before .before .before .before) .0),
+      c .before .before .before .before .before .before .before .before .before .before .before .before .loop .inv .given .rep .each _ (looked (c .before .before .before .before .before .before .before .before .before .before) .0),
       subst Tellable (sym (c .at-point .ensures)) (point-tellable (a .e) (a .x - left f) (a .y - top f) (omega arith) (omega arith)),
     )
 
@@ -118,35 +117,38 @@ mul-v : tie.Need-mul-v Inv-loop μ-loop
 mul-v c = omega (arith, looked (c .before .before .before .before .before .before .before .before .before .before .before .before) .0)
 
 element-set-from-v : tie.Need-element-set-from-v Inv-loop μ-loop
-element-set-from-v c = omega (arith, looked (c .before .before .before .before .before .before .before .before .before .before .before .before) .0, c .before .before .before .before .before .before .before .before .before .before .before .before .before .before .before .before .loop .inv .given .rep .windows)
+element-set-from-v c = omega (arith, looked (c .before .before .before .before .before .before .before .before .before .before .before .before) .0, c .before .before .before .before .before .before .before .before .before .before .before .before .before .before .loop .inv .given .rep .windows)
+
+sub-left : tie.Need-sub-left Inv-loop μ-loop
+sub-left c = omega (arith, c .before .before .before .before .before .before .before .before .loop-test .taken)
 
 loop-less : tie.Need-loop-less Inv-loop μ-loop
-loop-less c = omega (arith, c .before .before .before .before .before .before .before .before .prev .ensures, c .before .before .before .before .before .before .before .before .before .if2 .taken)
+loop-less c = omega (arith, c .before .before .before .before .before .before .before .before .loop-test .taken)
 
 loop-again : tie.Need-loop-again Inv-loop μ-loop
-loop-again c = miss (c .before .before .before .before .before .before .before .before .before .before .before .loop .inv) (c .before .before .before .before .before .before .before .before .before .if2 .taken) _ (c .before .before .before .before .before .before .before .before .prev .ensures) _ (c .before .before .before .before .before .before .before .window-at .ensures) (sym (asks (c .before)) ∙ c .if3 .left)
+loop-again c = miss (c .before .before .before .before .before .before .before .before .before .loop .inv) (c .before .before .before .before .before .before .before .before .loop-test .taken) _ refl _ (c .before .before .before .before .before .before .before .window-at .ensures) (sym (asks (c .before)) ∙ c .if2 .left)
 
 returns : tie.Need-returns Inv-loop μ-loop
 returns c =
-    let l = c .before .before .loop in
+    let l = c .before .loop in
     let q = l .inv in
-    let one = c .before .before .before .before in
-    let s = c .before .before .before .before .before .before in
+    let one = c .before .before .before in
+    let s = c .before .before .before .before .before in
     still q (λ r n. Meets (Route (s .args .e)) r (done (l .self) n))
-    (nowhere (l .self) (s .args .e) (q .given) (s .pre .1) (is-small one) (gone q (c .if2 .left)))
+    (nowhere (l .self) (s .args .e) (q .given) (s .pre .1) (is-small one) (gone q (c .loop-test .left)))
 
 returns-2 : tie.Need-returns-2 Inv-loop μ-loop
 returns-2 c =
-    let one = c .before .before .before .before .before .before .before .before .before .before .before .before .before .before .before .before .before .before in
-    let s = c .before .before .before .before .before .before .before .before .before .before .before .before .before .before .before .before .before .before .before .before in
-    let l = c .before .before .before .before .before .before .before .before .before .before .before .before .before .before .before .before .loop in
+    let one = c .before .before .before .before .before .before .before .before .before .before .before .before .before .before .before .before in
+    let s = c .before .before .before .before .before .before .before .before .before .before .before .before .before .before .before .before .before .before in
+    let l = c .before .before .before .before .before .before .before .before .before .before .before .before .before .before .loop in
     let q = l .inv in
     let f = c .before .before .before .before .before .before .before .before .rect in
     let v = c .before .before .before .before .before .before .before .before .before .before .before .before .window-at in
     let p = c .before .push-event in
     still q (λ r _. Meets (Route (s .args .e)) r (done (putWindow (v .result .0) (p .result .window) (l .self)) (p .result .answer)))
     (window-told (l .self) (s .args .e) (q .given) (s .pre .1) (is-small one)
-    (hit q (c .before .before .before .before .before .before .before .before .before .before .before .before .before .before .if2 .taken) _ (c .before .before .before .before .before .before .before .before .before .before .before .before .before .prev .ensures) _ (v .ensures) (sym (asks (c .before .before .before .before .before .before)) ∙ c .before .before .before .before .before .if3 .taken))
+    (hit q (c .before .before .before .before .before .before .before .before .before .before .before .before .before .loop-test .taken) _ refl _ (v .ensures) (sym (asks (c .before .before .before .before .before .before)) ∙ c .before .before .before .before .before .if2 .taken))
     (looked (c .before .before .before .before .before .before .before .before .before .before .before .before) .1) (f .result) (f .ensures) (c .before .before .at-point .result) (c .before .before .at-point .ensures) (p .result) (p .ensures))
 
 returns-3 : tie.Need-returns-3 Inv-loop μ-loop
@@ -162,7 +164,7 @@ route-pointer-spec =
     μ-loop
     small-point-requires
     loop-holds
-    prev-requires
+    sub-win
     window-at-requires
     cast-at
     mul-win
@@ -176,6 +178,7 @@ route-pointer-spec =
     push-event-requires
     mul-v
     element-set-from-v
+    sub-left
     loop-less
     loop-again
     returns
