@@ -3,19 +3,20 @@ use Prim.Native.String.{String}
 use mathlib.Core.Path.{_≡_, refl}
 use mathlib.Core.List.{[], _∷_}
 use Rattle.script.specs.Text.{bytes}
-use Rattle.script.specs.Script.{split, words, value, number, nameByte, isName, names, kindOf, needed, more, counted, ranged, nameFits, accepts, Heard, silent, malformed, call, withWord, complete, hears}
+use Rattle.script.specs.Kind as Kind
+use Rattle.script.specs.Script.{split, words, value, number, nameByte, isName, table, kindOf, counted, ranged, nameFits, accepts, Heard, silent, malformed, call, withWord, complete, hears}
 
 infix 20 _means_
 abbrev _means_ : String → Heard → Type 0
 s means h = hears (bytes s) ≡ h
 
-pub calls : ("start 4294967295" means call 2 (4294967295 ∷ []) [])
-    × ("  resize 0  010 10 " means call 9 (0 ∷ 10 ∷ 10 ∷ []) [])
-    × ("mouseclick 3 4 255 2" means call 19 (3 ∷ 4 ∷ 255 ∷ 2 ∷ []) [])
-    × ("blit 0 1 2 1 2 1 7 8" means call 11 (0 ∷ 1 ∷ 2 ∷ 1 ∷ 2 ∷ 1 ∷ 7 ∷ 8 ∷ []) [])
-    × ("picture 8 4 2.ppm" means call 30 (8 ∷ 4 ∷ []) (bytes "2.ppm"))
-    × ("picture 8 4 12" means call 30 (8 ∷ 4 ∷ []) (bytes "12"))
-unfolding split words value number nameByte isName names kindOf needed more counted ranged nameFits accepts withWord complete hears
+pub calls : ("start 4294967295" means call Kind.start (4294967295 ∷ []) [])
+    × ("  resize 0  010 10 " means call Kind.resize (0 ∷ 10 ∷ 10 ∷ []) [])
+    × ("mouseclick 3 4 255 2" means call Kind.mouseclick (3 ∷ 4 ∷ 255 ∷ 2 ∷ []) [])
+    × ("blit 0 1 2 1 2 1 7 8" means call Kind.blit (0 ∷ 1 ∷ 2 ∷ 1 ∷ 2 ∷ 1 ∷ 7 ∷ 8 ∷ []) [])
+    × ("picture 8 4 2.ppm" means call Kind.picture (8 ∷ 4 ∷ []) (bytes "2.ppm"))
+    × ("picture 8 4 12" means call Kind.picture (8 ∷ 4 ∷ []) (bytes "12"))
+unfolding split words value number nameByte isName table kindOf counted ranged nameFits accepts withWord complete hears
 calls = (refl, refl, refl, refl, refl, refl)
 
 pub no-calls : ("" means silent)
@@ -31,5 +32,5 @@ pub no-calls : ("" means silent)
     × ("set-scanline 2 2 0 0 1 2 7" means malformed)
     × ("picture 8 4 .ppm" means malformed)
     × ("picture 8 4" means malformed)
-unfolding split words value number nameByte isName names kindOf needed more counted ranged nameFits accepts withWord complete hears
+unfolding split words value number nameByte isName table kindOf counted ranged nameFits accepts withWord complete hears
 no-calls = (refl, refl, refl, refl, refl, refl, refl, refl, refl, refl, refl, refl, refl)

@@ -9,6 +9,7 @@ use lib.Dec.{leb, ltb, eqb}
 use lib.ListN.{length, take, getD}
 use Rattle.script.specs.declared.Reading.{Reading}
 use Rattle.script.specs.declared.shape.Line.{Line}
+use Rattle.script.specs.Kind as Kind
 use Rattle.script.specs.Script.{Heard, silent, malformed, call, begun, complete, kindOf, nameNext, isDigit, nameByte, heardOf, Shaped}
 
 -- at the start; spaces alone; in the first word; between words; in a number; in a name; after a name; in a comment; malformed.
@@ -25,7 +26,7 @@ pub data State : Type 0 where
   spoiled : State
 
 abbrev pub opened : ℕ → State
-opened k = cond (eqb k 1) spoiled (between k [])
+opened k = cond (eqb k Kind.malformed) spoiled (between k [])
 
 -- a number with one byte more
 unfoldable pub digit : Option ℕ → ℕ → Option ℕ
@@ -117,7 +118,7 @@ pub record ReadTo (block : List ℕ) (start at : ℕ) : Type 0 where
   pub none : (i : ℕ) → start ≤ i → i < at → getD block i 0 ≡ 10 → ⊥
   pub stops : at < length block → getD block at 0 ≡ 10
 
--- no call: of kind 0 nothing, of kind 1 a malformed line
+-- no call: a line that is passed over, or a malformed one
 abbrev pub noCall : ℕ → Line
 noCall k = record { kind = k; count = 0; name = 0 }
 

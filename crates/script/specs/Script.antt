@@ -1,5 +1,6 @@
 -- CALL-SCRIPT.md, "Lines": what the bytes of a line mean. A byte is a number: a space is 32, `#` is 35, the digits are 48 to 57.
-use Prim.Native.Nat.{ℕ, suc, _+_, _*_, _-_, _≤_}
+use Prim.Native.Nat.{ℕ, _+_, _*_, _-_, _≤_}
+use Prim.Native.String.{String}
 use mathlib.Core.Bool.{Bool, true, false, cond, not, _&&_, _||_}
 use mathlib.Core.List.{List, [], _∷_, _++_, foldl}
 use mathlib.Core.Option.{Option, none, some}
@@ -7,6 +8,7 @@ use mathlib.Core.Path.{_≡_}
 use lib.Dec.{leb, ltb, eqb}
 use lib.ListN.{length, take, getD}
 use Rattle.script.specs.Text.{bytes}
+use Rattle.script.specs.Kind as Kind
 use Rattle.script.specs.declared.shape.Line.{Line}
 
 -- Words ---------------------------------------------------------------------------------------------------------------
@@ -71,48 +73,62 @@ isName w = leb (length w) 64 && (noDotFirst w && all nameByte w)
 
 -- Kinds ---------------------------------------------------------------------------------------------------------------
 
--- the words that a line begins with, in the order of the tables
-unfoldable pub names : List (List ℕ)
-names =
-    bytes "start"
-    ∷ bytes "create"
-    ∷ bytes "show"
-    ∷ bytes "hide"
-    ∷ bytes "drop"
-    ∷ bytes "mark"
-    ∷ bytes "move"
-    ∷ bytes "resize"
-    ∷ bytes "fill"
-    ∷ bytes "blit"
-    ∷ bytes "keydown"
-    ∷ bytes "keyup"
-    ∷ bytes "keyfire"
-    ∷ bytes "text"
-    ∷ bytes "mousemove"
-    ∷ bytes "mousedown"
-    ∷ bytes "mouseup"
-    ∷ bytes "mouseclick"
-    ∷ bytes "resized"
-    ∷ bytes "pop"
-    ∷ bytes "redraw"
-    ∷ bytes "visible"
-    ∷ bytes "focus"
-    ∷ bytes "lend"
-    ∷ bytes "lend-screen"
-    ∷ bytes "lend-list"
-    ∷ bytes "screen"
-    ∷ bytes "pixels"
-    ∷ bytes "picture"
-    ∷ bytes "intersect"
-    ∷ bytes "pieces"
-    ∷ bytes "union"
-    ∷ bytes "contains"
-    ∷ bytes "contains-rect"
-    ∷ bytes "within"
-    ∷ bytes "scanline"
-    ∷ bytes "fill-scanline"
-    ∷ bytes "set-scanline"
-    ∷ bytes "region"
+-- a row of the tables: the word that a line begins with, the line's kind, how many numbers it has, PIXELS and DATA not counted, and whether
+-- these may follow
+pub record Row : Type 0 where
+  pub word : List ℕ
+  pub kind : ℕ
+  pub numbers : ℕ
+  pub more : Bool
+
+abbrev pub row : String → ℕ → ℕ → Row
+row w k n = record { word = bytes w; kind = k; numbers = n; more = false }
+
+-- PIXELS or DATA may follow
+abbrev pub rowOn : String → ℕ → ℕ → Row
+rowOn w k n = record { word = bytes w; kind = k; numbers = n; more = true }
+
+unfoldable pub table : List Row
+table =
+    row "start" Kind.start 1
+    ∷ row "create" Kind.create 0
+    ∷ row "show" Kind.show 1
+    ∷ row "hide" Kind.hide 1
+    ∷ row "drop" Kind.drop 1
+    ∷ row "mark" Kind.mark 1
+    ∷ row "move" Kind.move 3
+    ∷ row "resize" Kind.resize 3
+    ∷ row "fill" Kind.fill 6
+    ∷ rowOn "blit" Kind.blit 6
+    ∷ row "keydown" Kind.keydown 1
+    ∷ row "keyup" Kind.keyup 1
+    ∷ row "keyfire" Kind.keyfire 1
+    ∷ row "text" Kind.text 1
+    ∷ row "mousemove" Kind.mousemove 2
+    ∷ row "mousedown" Kind.mousedown 3
+    ∷ row "mouseup" Kind.mouseup 3
+    ∷ row "mouseclick" Kind.mouseclick 4
+    ∷ row "resized" Kind.resized 0
+    ∷ row "pop" Kind.pop 1
+    ∷ row "redraw" Kind.redraw 3
+    ∷ row "visible" Kind.visible 1
+    ∷ row "focus" Kind.focus 0
+    ∷ row "lend" Kind.lend 1
+    ∷ row "lend-screen" Kind.lend-screen 1
+    ∷ row "lend-list" Kind.lend-list 1
+    ∷ row "screen" Kind.screen 2
+    ∷ row "pixels" Kind.pixels 1
+    ∷ row "picture" Kind.picture 2
+    ∷ row "intersect" Kind.intersect 8
+    ∷ row "pieces" Kind.pieces 8
+    ∷ row "union" Kind.union 8
+    ∷ row "contains" Kind.contains 6
+    ∷ row "contains-rect" Kind.contains-rect 8
+    ∷ row "within" Kind.within 6
+    ∷ rowOn "scanline" Kind.scanline 5
+    ∷ rowOn "fill-scanline" Kind.fill-scanline 6
+    ∷ rowOn "set-scanline" Kind.set-scanline 6
+    ∷ rowOn "region" Kind.region 5
     ∷ []
 
 abbrev pub sameWord : List ℕ → List ℕ → Bool
@@ -121,42 +137,39 @@ sameWord [] (y ∷ ys) = false
 sameWord (x ∷ xs) [] = false
 sameWord (x ∷ xs) (y ∷ ys) = eqb x y && sameWord xs ys
 
--- the number of the first name that the word is, counted from k, or 1
-abbrev pub placeOf : List ℕ → List (List ℕ) → ℕ → ℕ
-placeOf w [] k = 1
-placeOf w (n ∷ ns) k = cond (sameWord w n) k (placeOf w ns (suc k))
+-- the kind of the row that has the word; "unknown word"
+abbrev pub kindIn : List ℕ → List Row → ℕ
+kindIn w [] = Kind.malformed
+kindIn w (r ∷ rs) = cond (sameWord w (r .word)) (r .kind) (kindIn w rs)
 
--- 2 for `start` to 40 for `region`; 1: "unknown word"
 unfoldable pub kindOf : List ℕ → ℕ
-kindOf w = placeOf w names 2
+kindOf w = kindIn w table
 
--- how many numbers a line of each kind has, PIXELS and DATA not counted. Kinds 0 and 1 are no calls
-unfoldable pub needed : List ℕ
-needed =
-    0 ∷ 0 ∷ 1 ∷ 0 ∷ 1 ∷ 1 ∷ 1 ∷ 1 ∷ 3 ∷ 3 ∷ 6 ∷ 6 ∷ 1 ∷ 1 ∷ 1 ∷ 1 ∷ 2 ∷ 3 ∷ 3 ∷ 4 ∷ 0
-    ∷ 1 ∷ 3 ∷ 1 ∷ 0 ∷ 1 ∷ 1 ∷ 1 ∷ 2 ∷ 1 ∷ 2 ∷ 8 ∷ 8 ∷ 8 ∷ 6 ∷ 8 ∷ 6 ∷ 5 ∷ 6 ∷ 6 ∷ 5 ∷ []
-
--- PIXELS or DATA may follow: 11 blit, 37 scanline, 38 fill-scanline, 39 set-scanline, 40 region
-unfoldable pub more : ℕ → Bool
-more k = eqb k 11 || leb 37 k
+-- the row of a kind
+abbrev pub rowIn : ℕ → List Row → Option Row
+rowIn k [] = none
+rowIn k (r ∷ rs) = cond (eqb k (r .kind)) (some r) (rowIn k rs)
 
 -- "DATA is 0 to 4,096 numbers"; "PIXELS and DATA are at most 4,096 numbers together; more make the line malformed"
-unfoldable pub counted : ℕ → ℕ → Bool
-counted k n = leb 2 k && (leb k 40 && (leb (getD needed k 0) n && leb n (getD needed k 0 + cond (more k) 4096 0)))
+abbrev pub countedBy : Option Row → ℕ → Bool
+countedBy none n = false
+countedBy (some r) n = leb (r .numbers) n && leb n (r .numbers + cond (r .more) 4096 0)
 
--- "B is 0 to 255, else malformed" (17 mousedown, 18 mouseup), "B and N are 0 to 255" (19 mouseclick), "FULL is 0 or 1, else malformed"
--- (22 redraw), "N is how many DATA come" (39 set-scanline)
+unfoldable pub counted : ℕ → ℕ → Bool
+counted k n = countedBy (rowIn k table) n
+
+-- "B is 0 to 255, else malformed", "B and N are 0 to 255", "FULL is 0 or 1, else malformed", "N is how many DATA come"
 unfoldable pub ranged : ℕ → ℕ → List ℕ → Bool
 ranged k n ns =
-    cond (eqb k 17) (leb (getD ns 2 0) 255)
-    (cond (eqb k 18) (leb (getD ns 2 0) 255)
-    (cond (eqb k 19) (leb (getD ns 2 0) 255 && leb (getD ns 3 0) 255)
-    (cond (eqb k 22) (leb (getD ns 0 0) 1)
-    (cond (eqb k 39) (leb (6 + getD ns 5 0) n) true))))
+    cond (eqb k Kind.mousedown) (leb (getD ns 2 0) 255)
+    (cond (eqb k Kind.mouseup) (leb (getD ns 2 0) 255)
+    (cond (eqb k Kind.mouseclick) (leb (getD ns 2 0) 255 && leb (getD ns 3 0) 255)
+    (cond (eqb k Kind.redraw) (leb (getD ns 0 0) 1)
+    (cond (eqb k Kind.set-scanline) (leb (6 + getD ns 5 0) n) true))))
 
--- a `picture` (30) has a name, and no other line has
+-- a `picture` has a name, and no other line has
 unfoldable pub nameFits : ℕ → ℕ → Bool
-nameFits k m = cond (eqb k 30) (ltb 0 m) (eqb m 0)
+nameFits k m = cond (eqb k Kind.picture) (ltb 0 m) (eqb m 0)
 
 unfoldable pub accepts : ℕ → List ℕ → List ℕ → Bool
 accepts k ns name = counted k (length ns) && ranged k (length ns) ns && nameFits k (length name)
@@ -170,7 +183,7 @@ pub data Heard : Type 0 where
   call : ℕ → List ℕ → List ℕ → Heard
 
 abbrev pub begun : ℕ → Heard
-begun k = cond (eqb k 1) malformed (call k [] [])
+begun k = cond (eqb k Kind.malformed) malformed (call k [] [])
 
 abbrev pub withNumber : ℕ → List ℕ → Option ℕ → Heard
 withNumber k ns none = malformed
@@ -183,7 +196,7 @@ withName k ns (b ∷ bs) w = malformed
 
 -- `picture W H NAME`: the word after two numbers is a name
 abbrev pub nameNext : ℕ → List ℕ → Bool
-nameNext k ns = eqb k 30 && eqb (length ns) 2
+nameNext k ns = eqb k Kind.picture && eqb (length ns) 2
 
 -- what is heard with one word more
 unfoldable pub withWord : Heard → List ℕ → Heard
@@ -207,20 +220,20 @@ hears (b ∷ bs) = cond (eqb b 35) silent (complete (foldl withWord silent (word
 -- what a line says, with the numbers and the name that were read
 unfoldable pub heardOf : Line → List ℕ → List ℕ → Heard
 heardOf l ns name =
-    cond (eqb (l .kind) 0) silent
-    (cond (eqb (l .kind) 1) malformed (call (l .kind) (take (l .count) ns) (take (l .name) name)))
+    cond (eqb (l .kind) Kind.passed) silent
+    (cond (eqb (l .kind) Kind.malformed) malformed (call (l .kind) (take (l .count) ns) (take (l .name) name)))
 
 -- what a program may rely on of any line: of its kind k, its n numbers, the m bytes of its name, and the numbers
 pub record Shaped (k n m : ℕ) (ns : List ℕ) : Type 0 where
   pub few : n ≤ 4102
   pub named : m ≤ 64
-  pub kinds : k ≤ 40
-  pub blit : k ≡ 11 → 6 ≤ n
-  pub scan : k ≡ 37 → 5 ≤ n
-  pub fills : k ≡ 38 → 6 ≤ n
-  pub sets : k ≡ 39 → (6 ≤ n) × (6 + getD ns 5 0 ≤ n)
-  pub rgn : k ≡ 40 → 5 ≤ n
-  pub down : k ≡ 17 → getD ns 2 0 ≤ 255
-  pub up : k ≡ 18 → getD ns 2 0 ≤ 255
-  pub click : k ≡ 19 → (getD ns 2 0 ≤ 255) × (getD ns 3 0 ≤ 255)
-  pub told : k ≡ 22 → getD ns 0 0 ≤ 1
+  pub kinds : k ≤ Kind.last
+  pub blit : k ≡ Kind.blit → 6 ≤ n
+  pub scan : k ≡ Kind.scanline → 5 ≤ n
+  pub fills : k ≡ Kind.fill-scanline → 6 ≤ n
+  pub sets : k ≡ Kind.set-scanline → (6 ≤ n) × (6 + getD ns 5 0 ≤ n)
+  pub rgn : k ≡ Kind.region → 5 ≤ n
+  pub down : k ≡ Kind.mousedown → getD ns 2 0 ≤ 255
+  pub up : k ≡ Kind.mouseup → getD ns 2 0 ≤ 255
+  pub click : k ≡ Kind.mouseclick → (getD ns 2 0 ≤ 255) × (getD ns 3 0 ≤ 255)
+  pub told : k ≡ Kind.redraw → getD ns 0 0 ≤ 1

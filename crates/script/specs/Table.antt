@@ -1,19 +1,40 @@
--- How the names are held: 16 bytes for each, of which the first are its letters.
-use Prim.Native.Nat.{ℕ, _*_, _<_}
-use mathlib.Core.List.{List, [], _∷_}
+-- How the rows are held: 19 bytes for each, which are how many letters the word has, how many numbers a line has, `+` (43) where PIXELS or
+-- DATA may follow, and the word with spaces behind it.
+use Prim.Native.Nat.{ℕ, _+_, _*_, _-_, _≤_, _<_}
+use mathlib.Core.List.{List}
 use mathlib.Core.Path.{_≡_}
-use lib.ListN.{take, drop, getD}
-use Rattle.script.specs.Script.{names}
+use lib.Dec.{eqb}
+use lib.ListN.{length, take, drop, getD}
+use Rattle.script.specs.Kind as Kind
+use Rattle.script.specs.Script.{Row, row, table}
 
-unfoldable pub letters : List ℕ
-letters =
-    5 ∷ 6 ∷ 4 ∷ 4 ∷ 4 ∷ 4 ∷ 4 ∷ 6 ∷ 4 ∷ 4 ∷ 7 ∷ 5 ∷ 7 ∷ 4 ∷ 9 ∷ 9 ∷ 7 ∷ 10 ∷ 7 ∷ 3
-    ∷ 6 ∷ 7 ∷ 5 ∷ 4 ∷ 11 ∷ 9 ∷ 6 ∷ 6 ∷ 7 ∷ 9 ∷ 6 ∷ 5 ∷ 8 ∷ 13 ∷ 6 ∷ 8 ∷ 13 ∷ 12 ∷ 6 ∷ []
+-- how many there are: the kinds before `start` have none
+abbrev pub words : ℕ
+words = Kind.last - 1
 
--- the name at place k of the table
-abbrev pub row : List ℕ → ℕ → List ℕ
-row table k = take (getD letters k 0) (drop (k * 16) table)
+abbrev pub noRow : Row
+noRow = row "" Kind.malformed 0
 
--- the table holds the names
-pub record Rows (table : List ℕ) : Type 0 where
-  pub name : (k : ℕ) → k < 39 → row table k ≡ getD names k []
+unfoldable pub rowAt : ℕ → Row
+rowAt k = getD table k noRow
+
+-- the bytes of the row at place k
+abbrev pub letters : List ℕ → ℕ → ℕ
+letters rows k = getD rows (k * 19) 0
+
+abbrev pub byte : List ℕ → ℕ → ℕ → ℕ
+byte rows k i = getD rows (k * 19 + i) 0
+
+abbrev pub wordIn : List ℕ → ℕ → List ℕ
+wordIn rows k = take (letters rows k) (drop (k * 19 + 3) rows)
+
+pub record Held (rows : List ℕ) (k : ℕ) (r : Row) : Type 0 where
+  pub short : letters rows k ≤ 16
+  pub numbers : byte rows k 1 ≡ r .numbers
+  pub more : eqb (byte rows k 2) 43 ≡ r .more
+  pub word : wordIn rows k ≡ r .word
+
+-- the bytes hold the rows
+pub record Rows (rows : List ℕ) : Type 0 where
+  pub bytes : length rows ≡ words * 19
+  pub held : (k : ℕ) → k < words → Held rows k (rowAt k)

@@ -1,36 +1,32 @@
 // How many numbers a line has.
 ghost use mathlib.Core.Path.{_≡_};
-ghost use Prim.Native.Nat.{_≤_, _<_};
-ghost use lib.ListN.{getD};
-ghost use Rattle.script.specs.Script.{needed, more, counted};
-use crate::kind::BLIT;
-use crate::kind::REGION;
-use crate::kind::SCANLINE;
+ghost use mathlib.Core.Option.{some};
+ghost use Prim.Native.Nat.{_<_};
+ghost use Rattle.script.specs.Script.{countedBy, counted};
+ghost use Rattle.script.specs.Table.{words, rowAt, Rows};
+use crate::kind::LAST;
+use crate::kind::ROW;
+use crate::kind::ROWS;
 use crate::kind::START;
-
-// The numbers that a line of each kind has at least, by its kind.
-const NEEDS: [u8; 41] = *b"\
-    \x00\x00\x01\x00\x01\x01\x01\x01\x03\x03\x06\x06\x01\x01\x01\x01\x02\x03\x03\x04\x00\
-    \x01\x03\x01\x00\x01\x01\x01\x02\x01\x02\x08\x08\x08\x06\x08\x06\x05\x06\x06\x05";
+use crate::kind::wide;
 
 // The most that PIXELS and DATA are together.
 const DATA: usize = 4096;
 
-fn needs_of(k: usize) -> usize
-    requires { ⌜ k < 41 ⌝ }
-    ensures { λ n. ⌜ (n ≡ getD needed k 0) × (n ≤ 8) ⌝ }
+// Does a line of the row k have so many numbers?
+fn fits_row(rows: &[u8], k: usize, count: usize) -> bool
+    requires { ⌜ (k < words) × Rows (now rows) ⌝ }
+    ensures { λ r. ⌜ r ≡ countedBy (some (rowAt k)) count ⌝ }
 {
-    NEEDS[k] as usize
-}
-
-// May PIXELS or DATA follow?
-fn has_more(kind: u8) -> bool
-    ensures { λ r. ⌜ r ≡ more kind ⌝ }
-{
-    if kind == BLIT {
-        return true;
+    let at = k * ROW;
+    let least = wide(rows[at + 1]);
+    if count < least {
+        return false;
     }
-    kind >= SCANLINE
+    if rows[at + 2] == b'+' {
+        return count <= least + DATA;
+    }
+    count <= least
 }
 
 // Does a line of this kind have so many numbers?
@@ -40,15 +36,8 @@ pub fn is_counted(kind: u8, count: usize) -> bool
     if kind < START {
         return false;
     }
-    if kind > REGION {
+    if kind > LAST {
         return false;
     }
-    let least = needs_of(kind as usize);
-    if count < least {
-        return false;
-    }
-    if has_more(kind) {
-        return count <= least + DATA;
-    }
-    count <= least
+    fits_row(&ROWS, (kind - START) as usize, count)
 }

@@ -1,9 +1,9 @@
 // What a line is: a number for each word that a line begins with, in the order of CALL-SCRIPT.md's tables.
 ghost use mathlib.Core.Path.{_≡_};
-ghost use Prim.Native.Nat.{_≤_, _<_};
-ghost use lib.ListN.{length, take, getD};
+ghost use Prim.Native.Nat.{_<_};
+ghost use lib.ListN.{take};
 ghost use Rattle.script.specs.Script.{kindOf, sameWord};
-ghost use Rattle.script.specs.Table.{letters, row, Rows};
+ghost use Rattle.script.specs.Table.{words, rowAt, Rows};
 
 // Empty, or begins with `#`: nothing is written.
 pub const PASSED: u8 = 0;
@@ -88,45 +88,83 @@ pub const SET_SCANLINE: u8 = 39;
 
 pub const REGION: u8 = 40;
 
-// The words in the order of their kinds, each in 16 bytes, and how many letters each has.
-const NAMES: [u8; 624] = *b"\
-    start           create          show            hide            drop            mark            \
-    move            resize          fill            blit            keydown         keyup           \
-    keyfire         text            mousemove       mousedown       mouseup         mouseclick      \
-    resized         pop             redraw          visible         focus           lend            \
-    lend-screen     lend-list       screen          pixels          picture         intersect       \
-    pieces          union           contains        contains-rect   within          scanline        \
-    fill-scanline   set-scanline    region          ";
+// The last of them.
+pub const LAST: u8 = REGION;
 
-const LETTERS: [u8; 39] = *b"\
-    \x05\x06\x04\x04\x04\x04\x04\x06\x04\x04\x07\x05\x07\x04\x09\x09\x07\x0a\x07\x03\
-    \x06\x07\x05\x04\x0b\x09\x06\x06\x07\x09\x06\x05\x08\x0d\x06\x08\x0d\x0c\x06";
+const WORDS: usize = LAST as usize - 1;
 
-fn letters_of(k: usize) -> usize
-    requires { ⌜ k < 39 ⌝ }
-    ensures { λ n. ⌜ (n ≡ getD letters k 0) × (n ≤ 13) ⌝ }
+// The bytes of a row of the table: how many letters the word has, how many numbers a line has at least, `+` where PIXELS or DATA may follow,
+// and the word.
+pub const ROW: usize = 19;
+
+// The words in the order of their kinds.
+pub const ROWS: [u8; WORDS * ROW] = *b"\
+    \x05\x01 start           \
+    \x06\x00 create          \
+    \x04\x01 show            \
+    \x04\x01 hide            \
+    \x04\x01 drop            \
+    \x04\x01 mark            \
+    \x04\x03 move            \
+    \x06\x03 resize          \
+    \x04\x06 fill            \
+    \x04\x06+blit            \
+    \x07\x01 keydown         \
+    \x05\x01 keyup           \
+    \x07\x01 keyfire         \
+    \x04\x01 text            \
+    \x09\x02 mousemove       \
+    \x09\x03 mousedown       \
+    \x07\x03 mouseup         \
+    \x0a\x04 mouseclick      \
+    \x07\x00 resized         \
+    \x03\x01 pop             \
+    \x06\x03 redraw          \
+    \x07\x01 visible         \
+    \x05\x00 focus           \
+    \x04\x01 lend            \
+    \x0b\x01 lend-screen     \
+    \x09\x01 lend-list       \
+    \x06\x02 screen          \
+    \x06\x01 pixels          \
+    \x07\x02 picture         \
+    \x09\x08 intersect       \
+    \x06\x08 pieces          \
+    \x05\x08 union           \
+    \x08\x06 contains        \
+    \x0d\x08 contains-rect   \
+    \x06\x06 within          \
+    \x08\x05+scanline        \
+    \x0d\x06+fill-scanline   \
+    \x0c\x06+set-scanline    \
+    \x06\x05+region          \
+    ";
+
+pub fn wide(b: u8) -> usize
+    ensures { λ r. ⌜ (r ≡ b) × (r < 256) ⌝ }
 {
-    LETTERS[k] as usize
+    b as usize
 }
 
-// Is this the word of the kind k + 2?
-fn is_name(word: &[u8], names: &[u8], k: usize) -> bool
-    requires { ⌜ (k < 39) × (length (now names) ≡ 624) ⌝ }
-    ensures { λ r. ⌜ r ≡ sameWord (now (word .entry)) (row (now (names .entry)) k) ⌝ }
+// Is this the word of the row k?
+fn is_word(word: &[u8], rows: &[u8], k: usize) -> bool
+    requires { ⌜ (k < words) × Rows (now rows) ⌝ }
+    ensures { λ r. ⌜ r ≡ sameWord (now (word .entry)) (rowAt k .word) ⌝ }
 {
-    let from = k * 16;
-    let to = from + letters_of(k);
-    check::same(word, &names[from..to])
+    let at = k * ROW;
+    let from = at + 3;
+    let to = from + wide(rows[at]);
+    check::same(word, &rows[from..to])
 }
 
-fn search(word: &[u8], names: &[u8]) -> u8
-    requires { ⌜ (length (now names) ≡ 624) × Rows (now names) ⌝ }
+fn search(word: &[u8], rows: &[u8]) -> u8
+    requires { ⌜ Rows (now rows) ⌝ }
     ensures { λ k. ⌜ k ≡ kindOf (now (word .entry)) ⌝ }
 {
     let mut k = 0;
-    while k < 39 {
-        if is_name(word, names, k) {
-            return k as u8 + 2;
+    while k < WORDS {
+        if is_word(word, rows, k) {
+            return k as u8 + START;
         }
         k += 1;
     }
@@ -137,7 +175,7 @@ fn search(word: &[u8], names: &[u8]) -> u8
 pub fn kind_of(word: &[u8]) -> u8
     ensures { λ k. ⌜ k ≡ kindOf (now (word .entry)) ⌝ }
 {
-    search(word, &NAMES)
+    search(word, &ROWS)
 }
 
 // The same of the first letters of a word.

@@ -1,28 +1,25 @@
 -- The end of a line: a call that the tables have is shaped as promised, and what the code tests is what `accepts` says.
-use Prim.Native.Nat.{ℕ, suc, _+_, _≤_, _<_, min}
+use Prim.Native.Nat.{ℕ, suc, _+_, _-_, _≤_, _<_, min}
 use mathlib.Core.Path.{_≡_, refl, sym, ap, subst, _∙_}
 use mathlib.Core.Bool.{Bool, true, false, cond, _&&_}
 use mathlib.Core.List.{List, []}
+use mathlib.Core.Option.{Option, none, some}
 use native.Mathlib.Nat.{add-zero}
 use native.Mathlib.Omega.{arith}
 use native.Mathlib.Numerals.{add-one}
 use lib.Dec.{leb, eqb}
 use lib.ListN.{length, take, getD}
 use lib.Seq.{getD-take, length-take-le, take-all, take-suc}
-use borrow.Author.Tests.{eqb-true, ne-eqb, leb-true, leb-false, lt-ltb, le-ltb, le-leb, lt-leb}
-use Rattle.geom.proofs.basics.Tests.{fst, snd}
-use Rattle.script.proofs.laws.Tables.{at}
+use borrow.Author.Tests.{eqb-true, eq-eqb, ne-eqb, leb-true, leb-false, lt-ltb, le-ltb, le-leb, lt-leb}
+use Rattle.geom.proofs.basics.Tests.{fst, snd, clash}
+use Rattle.script.proofs.laws.Kinds.{row-of, no-row, at-row}
 use Rattle.script.proofs.laws.Stages.{at-stage}
 use Rattle.script.specs.declared.Reading.{Reading}
 use Rattle.script.specs.declared.shape.Line.{Line}
-use Rattle.script.specs.Script.{malformed, call, begun, needed, more, counted, ranged, nameFits, accepts, complete, heardOf, Shaped, kindOf}
+use Rattle.script.specs.Kind as Kind
+use Rattle.script.specs.Table.{words, rowAt, byte, Held}
+use Rattle.script.specs.Script.{malformed, call, begun, Row, table, rowIn, countedBy, counted, ranged, nameFits, accepts, complete, heardOf, Shaped, kindOf}
 use Rattle.script.specs.Machine.{spaces, spoiled, ends, standing, stateOf, noCall, Checked, Ended}
-
--- The table ------------------------------------------------------------------------------------------------------------
-
-pub few-needed : (k : ℕ) → k < 41 → getD needed k 0 ≤ 8
-unfolding needed
-few-needed k h = leb-true (getD needed k 0) 8 (at 0 (λ _ n. leb n 8) needed refl k h)
 
 -- A call ---------------------------------------------------------------------------------------------------------------
 
@@ -30,79 +27,90 @@ cond-same : {A : Type 0} (t : Bool) {x x' y y' : A} → (t ≡ true → x ≡ x'
 cond-same true f e = f refl
 cond-same false f e = e
 
+-- a kind that no row has
+pub no-count : (k n : ℕ) → (Kind.start ≤ k → Kind.last < k) → false ≡ counted k n
+unfolding counted
+no-count k n h = sym (ap (λ (r : Option Row). countedBy r n) (no-row k h))
+
+-- the row of a kind
+pub row-count : (k n : ℕ) → Kind.start ≤ k → k ≤ Kind.last → countedBy (some (rowAt (k - Kind.start))) n ≡ counted k n
+unfolding counted
+row-count k n h l =
+    let e : k - Kind.start + Kind.start ≡ k = omega arith in
+    ap (λ (r : Option Row). countedBy r n) (sym (row-of (k - Kind.start) (omega arith))) ∙ ap (λ (j : ℕ). counted j n) e
+
+-- how many numbers a line of a row has at least
+abbrev needed : Option Row → ℕ
+needed none = 0
+needed (some r) = r .numbers
+
 module _ (k n : ℕ) (h : counted k n ≡ true) where
-  kind-first : 2 ≤ k
-  unfolding counted
-  kind-first = leb-true 2 k (fst (leb 2 k) _ h)
+  -- the kind is that of a row
+  known : (Kind.start ≤ k) × (k ≤ Kind.last)
+  known = go (leb Kind.start k) (leb k Kind.last) refl refl
+    where
+      out : (Kind.start ≤ k → Kind.last < k) → (Kind.start ≤ k) × (k ≤ Kind.last)
+      out f = clash h (sym (no-count k n f))
 
-  kind-small : k ≤ 40
-  unfolding counted
-  kind-small = leb-true k 40 (fst (leb k 40) _ (snd (leb 2 k) _ h))
+      go : (t u : Bool) → leb Kind.start k ≡ t → leb k Kind.last ≡ u → (Kind.start ≤ k) × (k ≤ Kind.last)
+      go true true d e = (leb-true Kind.start k d, leb-true k Kind.last e)
+      go true false d e = out (λ _. leb-false k Kind.last e)
+      go false u d e = out (λ l. omega (arith, leb-false Kind.start k d))
 
-  enough : (j : ℕ) → k ≡ j → getD needed j 0 ≤ n
+  enough : (j : ℕ) → k ≡ j → needed (rowIn j table) ≤ n
   unfolding counted
-  enough j e =
-      subst (λ (x : ℕ). getD needed x 0 ≤ n) e
-      (leb-true (getD needed k 0) n (fst (leb (getD needed k 0) n) _ (snd (leb k 40) _ (snd (leb 2 k) _ h))))
+  enough j e = go (rowIn j table) (subst (λ (x : ℕ). counted x n ≡ true) e h)
+    where
+      go : (r : Option Row) → countedBy r n ≡ true → needed r ≤ n
+      go none c = omega arith
+      go (some r) c = leb-true (r .numbers) n (fst (leb (r .numbers) n) _ c)
 
   -- no line has more than 4,102 numbers
   pub not-over : n ≤ 4102
-  unfolding counted needed more
+  unfolding counted table
   not-over =
+      let r : Row = rowAt (k - Kind.start) in
+      let c : countedBy (some r) n ≡ true = row-count k n (known .0) (known .1) ∙ h in
       omega (
         arith,
-        leb-true n (getD needed k 0 + cond (more k) 4096 0)
-            (snd (leb (getD needed k 0) n) _ (snd (leb k 40) _ (snd (leb 2 k) _ h))),
-        leb-true (getD needed k 0 + cond (more k) 4096 0) 4102
-            (at 0 (λ j m. leb (m + cond (more j) 4096 0) 4102) needed refl k (omega (arith, kind-small))),
+        leb-true n (r .numbers + cond (r .more) 4096 0) (snd (leb (r .numbers) n) _ c),
+        leb-true (r .numbers + cond (r .more) 4096 0) 4102 (at-row (λ _ q. leb (q .numbers + cond (q .more) 4096 0) 4102) refl (k - Kind.start) (omega (arith, known))),
       )
 
   -- the numbers that are tested are among the first n
   ranged-take : (ns : List ℕ) → ranged k n (take n ns) ≡ ranged k n ns
-  unfolding ranged needed
+  unfolding ranged table
   ranged-take ns =
-      cond-same (eqb k 17) (λ e. at 2 (enough 17 (eqb-true k 17 e)))
-      (cond-same (eqb k 18) (λ e. at 2 (enough 18 (eqb-true k 18 e)))
-      (cond-same (eqb k 19)
-      (λ e.
-      rw (getD-take n ns 2 0 (omega (arith, enough 19 (eqb-true k 19 e))), getD-take n ns 3 0 (omega (arith, enough 19 (eqb-true k 19 e)))))
-      (cond-same (eqb k 22) (λ e. rw (getD-take n ns 0 0 (omega (arith, enough 22 (eqb-true k 22 e)))))
-      (cond-same (eqb k 39) (λ e. rw (getD-take n ns 5 0 (omega (arith, enough 39 (eqb-true k 39 e))))) refl))))
+      cond-same (eqb k Kind.mousedown) (λ e. at 2 (enough Kind.mousedown (eqb-true k Kind.mousedown e)))
+      (cond-same (eqb k Kind.mouseup) (λ e. at 2 (enough Kind.mouseup (eqb-true k Kind.mouseup e)))
+      (cond-same (eqb k Kind.mouseclick) (λ e. let c = enough Kind.mouseclick (eqb-true k Kind.mouseclick e) in
+      rw (getD-take n ns 2 0 (omega arith), getD-take n ns 3 0 (omega arith)))
+      (cond-same (eqb k Kind.redraw) (λ e. rw (getD-take n ns 0 0 (omega (arith, enough Kind.redraw (eqb-true k Kind.redraw e)))))
+      (cond-same (eqb k Kind.set-scanline) (λ e. rw (getD-take n ns 5 0 (omega (arith, enough Kind.set-scanline (eqb-true k Kind.set-scanline e))))) refl))))
     where
       at : (i : ℕ) → suc i ≤ n → leb (getD (take n ns) i 0) 255 ≡ leb (getD ns i 0) 255
       at i g = rw (getD-take n ns i 0 g)
 
--- the count as the code tests it
-module _ (k n : ℕ) where
-  pub no-kind : k < 2 → counted k n ≡ false
-  unfolding counted
-  no-kind h = rw (lt-leb 2 k h)
+-- the row as the code reads it
+module _ {rows : List ℕ} {k : ℕ} {r : Row} (q : Held rows k r) {a : ℕ} (e : a ≡ byte rows k 1) where
+  is-numbers : r .numbers ≡ a
+  is-numbers = sym (e ∙ q .numbers)
 
-  module _ (two : 2 ≤ k) where
-    pub beyond : 40 < k → counted k n ≡ false
-    unfolding counted
-    beyond h = rw (le-leb 2 k two, lt-leb k 40 h)
+  pub too-few : {n : ℕ} → n < a → false ≡ countedBy (some r) n
+  too-few {n} h = rw (is-numbers, lt-leb a n h)
 
-    module _ (last : k ≤ 40) {a : ℕ} (e : a ≡ getD needed k 0) where
-      pub too-few : n < a → counted k n ≡ false
-      unfolding counted
-      too-few h = rw (le-leb 2 k two, le-leb k 40 last, ← e, lt-leb a n h)
+  pub with-more : {n : ℕ} → a ≤ n → byte rows k 2 ≡ 43 → leb n (a + 4096) ≡ countedBy (some r) n
+  with-more {n} h f = rw (is-numbers, le-leb a n h, ← q .more, eq-eqb (byte rows k 2) 43 f)
 
-      module _ {t : Bool} (h : a ≤ n) (f : t ≡ more k) where
-        pub with-more : t ≡ true → leb n (a + 4096) ≡ counted k n
-        unfolding counted
-        with-more y = rw (le-leb 2 k two, le-leb k 40 last, ← e, ← f, le-leb a n h, y)
-
-        pub without-more : t ≡ false → leb n a ≡ counted k n
-        unfolding counted
-        without-more y = rw (le-leb 2 k two, le-leb k 40 last, ← e, ← f, le-leb a n h, y, add-zero)
+  pub without-more : {n : ℕ} → a ≤ n → (byte rows k 2 ≡ 43 → ⊥) → leb n a ≡ countedBy (some r) n
+  without-more {n} h f = rw (is-numbers, le-leb a n h, ← q .more, ne-eqb (byte rows k 2) 43 f, add-zero)
 
 -- what the code tests
 abbrev pub passes : ℕ → ℕ → ℕ → List ℕ → Bool
 passes k n m ns = counted k n && (ranged k n ns && nameFits k m)
 
 -- a line that is no call
-pub no-shape : (k : ℕ) (ns : List ℕ) → k ≤ 1 → Shaped k 0 0 ns
+pub no-shape : (k : ℕ) (ns : List ℕ) → k ≤ Kind.malformed → Shaped k 0 0 ns
 no-shape k ns h =
     record {
       few = omega arith;
@@ -130,19 +138,19 @@ module _ (k n m : ℕ) (ns : List ℕ) (few : n ≤ 4102) (long : m ≤ 64) (roo
       go false e = rw e
 
   shaped : passes k n m ns ≡ true → Shaped k n m ns
-  unfolding ranged needed
+  unfolding ranged table
   shaped p =
       let h : counted k n ≡ true = fst (counted k n) (ranged k n ns && nameFits k m) p in
       let r : ranged k n ns ≡ true = fst (ranged k n ns) (nameFits k m) (snd (counted k n) (ranged k n ns && nameFits k m) p) in
       record {
         few = few;
         named = long;
-        kinds = kind-small k n h;
-        blit = λ e. enough k n h 11 e;
-        scan = λ e. enough k n h 37 e;
-        fills = λ e. enough k n h 38 e;
-        sets = λ e. (enough k n h 39 e, leb-true (6 + getD ns 5 0) n (subst (λ (x : ℕ). ranged x n ns ≡ true) e r));
-        rgn = λ e. enough k n h 40 e;
+        kinds = known k n h .1;
+        blit = λ e. enough k n h Kind.blit e;
+        scan = λ e. enough k n h Kind.scanline e;
+        fills = λ e. enough k n h Kind.fill-scanline e;
+        sets = λ e. (enough k n h Kind.set-scanline e, leb-true (6 + getD ns 5 0) n (subst (λ (x : ℕ). ranged x n ns ≡ true) e r));
+        rgn = λ e. enough k n h Kind.region e;
         down = λ e. leb-true (getD ns 2 0) 255 (subst (λ (x : ℕ). ranged x n ns ≡ true) e r);
         up = λ e. leb-true (getD ns 2 0) 255 (subst (λ (x : ℕ). ranged x n ns ≡ true) e r);
         click =
@@ -158,14 +166,14 @@ module _ (k n m : ℕ) (ns : List ℕ) (few : n ≤ 4102) (long : m ≤ 64) (roo
   unfolding heardOf complete
   is-call p =
       let h : counted k n ≡ true = fst (counted k n) (ranged k n ns && nameFits k m) p in
-      let z : eqb k 0 ≡ false = ne-eqb k 0 (λ e. omega (arith, kind-first k n h)) in
-      let o : eqb k 1 ≡ false = ne-eqb k 1 (λ e. omega (arith, kind-first k n h)) in
+      let z : eqb k Kind.passed ≡ false = ne-eqb k Kind.passed (λ e. omega (arith, known k n h .0)) in
+      let o : eqb k Kind.malformed ≡ false = ne-eqb k Kind.malformed (λ e. omega (arith, known k n h .0)) in
       record { shaped = shaped p; heard = λ name full. rw (accepts-is name full ∙ p, z, o) }
 
-  pub no-call : passes k n m ns ≡ false → {l : Line} → l ≡ noCall 1 → Checked k n m ns l
+  pub no-call : passes k n m ns ≡ false → {l : Line} → l ≡ noCall Kind.malformed → Checked k n m ns l
   unfolding heardOf complete
   no-call p e =
-      subst (Checked k n m ns) (sym e) (record { shaped = no-shape 1 ns (omega arith); heard = λ name full. rw (accepts-is name full ∙ p) })
+      subst (Checked k n m ns) (sym e) (record { shaped = no-shape Kind.malformed ns (omega arith); heard = λ name full. rw (accepts-is name full ∙ p) })
 
 -- A reading ------------------------------------------------------------------------------------------------------------
 
@@ -183,11 +191,11 @@ take-min n limit l e = go (leb n limit) refl
 
 -- a word that is no name is no call either
 begins : (k : ℕ) → complete (call k [] []) ≡ complete (begun k)
-unfolding complete accepts counted
-begins k = go (eqb k 1) refl
+unfolding complete accepts counted table
+begins k = go (eqb k Kind.malformed) refl
   where
-    go : (t : Bool) → eqb k 1 ≡ t → complete (call k [] []) ≡ complete (begun k)
-    go true e = rw (eqb-true k 1 e)
+    go : (t : Bool) → eqb k Kind.malformed ≡ t → complete (call k [] []) ≡ complete (begun k)
+    go true e = rw (eqb-true k Kind.malformed e)
     go false e = rw e
 
 module _ (r : Reading) (w ns : List ℕ) (room : length ns ≡ 4102) (l : Line) where
@@ -229,12 +237,12 @@ module _ (r : Reading) (w ns : List ℕ) (room : length ns ≡ 4102) (l : Line) 
             (sym (ap ends (at-stage r w ns name 4 e) ∙ rw (length-take-le (r .count) ns (omega arith), lt-ltb (r .count) 4102 (omega arith))));
       }
 
-  pub ends-full : r .stage ≡ 4 → (n : ℕ) → n ≡ min (r .count) 4102 → 4102 ≤ n → l ≡ noCall 1 → Ended r w ns l
+  pub ends-full : r .stage ≡ 4 → (n : ℕ) → n ≡ min (r .count) 4102 → 4102 ≤ n → l ≡ noCall Kind.malformed → Ended r w ns l
   unfolding ends standing heardOf
   ends-full e n f h i =
       subst (Ended r w ns) (sym i)
       (record {
-        shaped = no-shape 1 ns (omega arith);
+        shaped = no-shape Kind.malformed ns (omega arith);
         heard =
             λ name full.
             sym
@@ -251,23 +259,23 @@ module _ (r : Reading) (w ns : List ℕ) (room : length ns ≡ 4102) (l : Line) 
       }
 
   -- nothing, or a malformed line
-  nothing : (k : ℕ) → k ≤ 1 → l ≡ noCall k → ((name : List ℕ) → heardOf (noCall k) ns name ≡ ends (stateOf r w ns name)) → Ended r w ns l
+  nothing : (k : ℕ) → k ≤ Kind.malformed → l ≡ noCall k → ((name : List ℕ) → heardOf (noCall k) ns name ≡ ends (stateOf r w ns name)) → Ended r w ns l
   nothing k h i f = subst (Ended r w ns) (sym i) (record { shaped = no-shape k ns h; heard = λ name _. f name })
 
-  pub ends-start : r .stage ≡ 0 → l ≡ noCall 0 → Ended r w ns l
+  pub ends-start : r .stage ≡ 0 → l ≡ noCall Kind.passed → Ended r w ns l
   unfolding ends standing heardOf
-  ends-start e i = nothing 0 (omega arith) i (λ name. sym (ap ends (at-stage r w ns name 0 e)))
+  ends-start e i = nothing Kind.passed (omega arith) i (λ name. sym (ap ends (at-stage r w ns name 0 e)))
 
-  pub ends-comment : r .stage ≡ 7 → l ≡ noCall 0 → Ended r w ns l
+  pub ends-comment : r .stage ≡ 7 → l ≡ noCall Kind.passed → Ended r w ns l
   unfolding ends standing heardOf
-  ends-comment e i = nothing 0 (omega arith) i (λ name. sym (ap ends (at-stage r w ns name 7 e)))
+  ends-comment e i = nothing Kind.passed (omega arith) i (λ name. sym (ap ends (at-stage r w ns name 7 e)))
 
   -- spaces alone, and a malformed line
   pub ends-other : (r .stage ≡ 4 → ⊥) → (r .stage ≡ 3 → ⊥) → (r .stage ≡ 2 → ⊥) → (r .stage ≡ 0 → ⊥) → (r .stage ≡ 7 → ⊥) → (r .stage ≡ 5 → ⊥)
-      → (r .stage ≡ 6 → ⊥) → l ≡ noCall 1 → Ended r w ns l
+      → (r .stage ≡ 6 → ⊥) → l ≡ noCall Kind.malformed → Ended r w ns l
   unfolding ends standing heardOf
   ends-other n4 n3 n2 n0 n7 n5 n6 i =
-      nothing 1 (omega arith) i
+      nothing Kind.malformed (omega arith) i
       (λ name.
       rw (
         ne-eqb (r .stage) 0 n0,

@@ -13,6 +13,7 @@ use borrow.Author.Tests.{eqb-true, eqb-false, ne-eqb, ltb-false}
 use Rattle.script.specs.declared.Reading.{Reading}
 use Rattle.script.specs.declared.shape.Line.{Line}
 use Rattle.geom.proofs.basics.Tests.{is-false}
+use Rattle.script.specs.Kind as Kind
 use Rattle.script.specs.Script.{Cutting, closed, withSpace, withLetter, cut, split, words, value, number, isName, kindOf, counted, accepts, Heard, silent, malformed, call, withNumber, nameNext, withWord, complete, hears, heardOf}
 use Rattle.script.specs.Machine.{State, atStart, spaces, inWord, between, inNumber, inName, afterName, inComment, spoiled, digit, mayFollow, grown, longer, named, space, letter, step, run, ends, Reads, Ended}
 use Rattle.script.proofs.laws.Kinds.{long-unknown}
@@ -41,7 +42,7 @@ unfolding withWord
 lost-more bad w = bad
 lost-more (over k ns name l) w =
     let e : eqb (length ns) 2 ≡ false = ne-eqb (length ns) 2 (λ f. omega arith) in
-    rw (e, and-false (eqb k 30)) (go (number w))
+    rw (e, and-false (eqb k Kind.picture)) (go (number w))
   where
     go : (o : Option ℕ) → Lost (withNumber k ns o)
     go none = bad

@@ -12,6 +12,7 @@ use lib.Seq.{length-take-le, take-all, take-suc, take-suc-set, take-set-le, getD
 use borrow.Author.Tests.{ne-eqb, leb-true, leb-false, lt-ltb, le-ltb, le-leb, lt-leb}
 use Rattle.script.specs.declared.Reading.{Reading}
 use Rattle.script.proofs.laws.Stages.{standingAt, at-stage}
+use Rattle.script.specs.Kind as Kind
 use Rattle.script.specs.Script.{isDigit, nameNext}
 use Rattle.script.specs.Machine.{State, atStart, spaces, inWord, between, inNumber, inName, afterName, inComment, spoiled, digit, mayFollow, grown, longer, named, space, letter, step, standing, stateOf}
 
@@ -80,7 +81,7 @@ module _ (k : ℕ) (ns : List ℕ) (n : ℕ) (room : length ns ≡ 4102) where
           let l : 4102 < n = leb-false n 4102 e in
           rw (take-all n ns (omega arith), ne-eqb n 2 (λ f. omega arith), ne-eqb (length ns) 2 (λ f. omega arith))
 
-  module _ {t : Bool} (asked : t ≡ eqb k 30 && eqb n 2) where
+  module _ {t : Bool} (asked : t ≡ eqb k Kind.picture && eqb n 2) where
     next-is : t ≡ nameNext k (take n ns)
     next-is = asked ∙ rw two
 

@@ -1,4 +1,5 @@
 -- One kind after the other.
+use Rattle.script.specs.Kind as Kind
 use Rattle.script.specs.Script.{ranged}
 use borrow.Author.Tests.{ne-eqb, le-leb, lt-leb}
 use borrow.Author.Needs.{needs}
@@ -56,7 +57,13 @@ returns-6 c = rw (c .before .before .if6 .taken, c .wide .ensures .0)
 returns-7 : tie.Need-returns-7
 unfolding ranged
 returns-7 c =
-    rw (ne-eqb _ 17 (c .before .before .before .before .if1 .left), ne-eqb _ 18 (c .before .before .before .if2 .left), ne-eqb _ 19 (c .before .before .if3 .left), ne-eqb _ 22 (c .before .if5 .left), ne-eqb _ 39 (c .if6 .left))
+    rw (
+      ne-eqb _ Kind.mousedown (c .before .before .before .before .if1 .left),
+      ne-eqb _ Kind.mouseup (c .before .before .before .if2 .left),
+      ne-eqb _ Kind.mouseclick (c .before .before .if3 .left),
+      ne-eqb _ Kind.redraw (c .before .if5 .left),
+      ne-eqb _ Kind.set-scanline (c .if6 .left),
+    )
 
 pub is-ranged-spec : {M : Type 1} → statement M
 is-ranged-spec =

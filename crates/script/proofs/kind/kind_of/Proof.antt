@@ -1,7 +1,6 @@
--- The table holds the names.
-use Rattle.script.specs.Table.{letters}
-use Rattle.script.specs.Script.{names}
-use Rattle.script.proofs.laws.Kinds.{rows}
+-- The bytes hold the rows.
+use Rattle.script.specs.Script.{table}
+use Rattle.script.proofs.laws.Kinds.{held}
 use mathlib.Core.Path.{refl}
 use borrow.Author.Needs.{needs}
 use Rattle.script.proofs.kind.kind_of.Statement.{statement}
@@ -11,8 +10,8 @@ slice-aggregate-search : tie.Need-slice-aggregate-search
 slice-aggregate-search c = search needs
 
 search-requires : tie.Need-search-requires
-unfolding names letters
-search-requires c κs = (refl, rows _ refl)
+unfolding table
+search-requires c κs = held _ refl refl
 
 returns : tie.Need-returns
 returns c = search needs

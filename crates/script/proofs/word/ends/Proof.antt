@@ -1,4 +1,5 @@
 -- An unknown word makes the line malformed.
+use Rattle.script.specs.Kind as Kind
 use Rattle.script.specs.Machine.{standing}
 use borrow.Author.Tests.{ne-eqb}
 use mathlib.Core.Path.{_∙_}
@@ -17,7 +18,7 @@ returns c = λ w ns name. c .spoiled .ensures w ns name ∙ rw (← c .before .b
 
 returns-2 : tie.Need-returns-2
 unfolding standing
-returns-2 c = λ w ns name. rw (← c .before .kind-of-letters .ensures, ne-eqb _ 1 (c .if1 .left))
+returns-2 c = λ w ns name. rw (← c .before .kind-of-letters .ensures, ne-eqb _ Kind.malformed (c .if1 .left))
 
 pub ends-spec : {M : Type 1} → statement M
 ends-spec = tie.close (tie.spec kind-of-letters-requires spoiled-requires returns returns-2)
