@@ -1,47 +1,93 @@
--- The call that a line makes: the tables of CALL-SCRIPT.md. The words are numbered as in the crate `script`.
+-- The call that a line makes: the tables of CALL-SCRIPT.md.
 use Prim.Native.Nat.{ℕ, _-_}
-use mathlib.Core.Bool.{cond}
-use mathlib.Core.List.{List}
+use mathlib.Core.Bool.{Bool, true, false, cond, _&&_, _||_}
+use mathlib.Core.List.{List, [], _∷_, _++_}
+use mathlib.Core.Option.{Option, none, some}
+use mathlib.Core.Path.{_≡_}
 use lib.IntN.{pos}
-use lib.Dec.{eqb}
+use lib.Dec.{leb, eqb}
 use lib.ListN.{take, drop}
-use Rattle.window.specs.declared.Event.{Event}
 use Rattle.window.specs.declared.Event.the-variants.{Resize, KeyDown, KeyUp, KeyFire, Text, MouseMove, MouseDown, MouseClick, MouseUp}
+use Rattle.script.specs.Kind as Kind
 use Rattle.rules.specs.Calls as Call
 use Rattle.rules.specs.Calls.{Call}
 use Rattle.replay.specs.Numbers.{num, idOf, rectAt}
 
--- "`keydown V` · `keyup V` · `keyfire V` · `text V`: route"; "`mousemove X Y`: route a MouseMove, its differences 0"; "`mousedown X Y B` ·
--- `mouseup X Y B`: route"; "`mouseclick X Y B N`: route"; "`resized`: route a Resize"
-abbrev pub eventOf : ℕ → List ℕ → Event
-eventOf k ns =
-    cond (eqb k 12) (KeyDown (num ns 0))
-    (cond (eqb k 13) (KeyUp (num ns 0))
-    (cond (eqb k 14) (KeyFire (num ns 0))
-    (cond (eqb k 15) (Text (num ns 0))
-    (cond (eqb k 16) (MouseMove (num ns 0) (num ns 1) (pos 0) (pos 0))
-    (cond (eqb k 17) (MouseDown (num ns 0) (num ns 1) (num ns 2))
-    (cond (eqb k 18) (MouseUp (num ns 0) (num ns 1) (num ns 2))
-    (cond (eqb k 19) (MouseClick (num ns 0) (num ns 1) (num ns 2) (num ns 3))
-    Resize)))))))
+-- the call of a kind in a table
+abbrev pub pick : ℕ → List (ℕ × Call) → Option Call
+pick k [] = none
+pick k (e ∷ es) = cond (eqb k (e .0)) (some (e .1)) (pick k es)
+
+-- there is such a call, and P says what holds of it
+pub record Picked (o : Option Call) (P : Call → Type 0) : Type 0 where
+  pub call : Call
+  pub is : o ≡ some call
+  pub so : P call
 
 -- "`show ID` · `hide ID` · `drop ID` · `mark ID`: these"; "`move ID X Y`: move"
-abbrev pub plainCall : ℕ → List ℕ → Call
-plainCall k ns =
-    cond (eqb k 4) (Call.Show (idOf ns))
-    (cond (eqb k 5) (Call.Hide (idOf ns))
-    (cond (eqb k 6) (Call.Drop (idOf ns))
-    (cond (eqb k 7) (Call.Mark (idOf ns))
-    (cond (eqb k 8) (Call.Move (idOf ns) (num ns 1) (num ns 2))
-    (Call.Route (eventOf k ns))))))
+abbrev pub windowCalls : List ℕ → List (ℕ × Call)
+windowCalls ns =
+    (Kind.show, Call.Show (idOf ns))
+    ∷ (Kind.hide, Call.Hide (idOf ns))
+    ∷ (Kind.drop, Call.Drop (idOf ns))
+    ∷ (Kind.mark, Call.Mark (idOf ns))
+    ∷ (Kind.move, Call.Move (idOf ns) (num ns 1) (num ns 2))
+    ∷ []
+
+-- "`keydown V` · `keyup V` · `keyfire V` · `text V`: route"; "`mousemove X Y`: route a MouseMove, its differences 0"; "`mousedown X Y B` ·
+-- `mouseup X Y B`: route"; "`mouseclick X Y B N`: route"; "`resized`: route a Resize"
+abbrev pub routeCalls : List ℕ → List (ℕ × Call)
+routeCalls ns =
+    (Kind.keydown, Call.Route (KeyDown (num ns 0)))
+    ∷ (Kind.keyup, Call.Route (KeyUp (num ns 0)))
+    ∷ (Kind.keyfire, Call.Route (KeyFire (num ns 0)))
+    ∷ (Kind.text, Call.Route (Text (num ns 0)))
+    ∷ (Kind.mousemove, Call.Route (MouseMove (num ns 0) (num ns 1) (pos 0) (pos 0)))
+    ∷ (Kind.mousedown, Call.Route (MouseDown (num ns 0) (num ns 1) (num ns 2)))
+    ∷ (Kind.mouseup, Call.Route (MouseUp (num ns 0) (num ns 1) (num ns 2)))
+    ∷ (Kind.mouseclick, Call.Route (MouseClick (num ns 0) (num ns 1) (num ns 2) (num ns 3)))
+    ∷ (Kind.resized, Call.Route Resize)
+    ∷ []
 
 -- "`resize ID W H`: resize"; "`fill ID X Y W H COLOUR`: fill"; "`blit ID X Y W H STRIDE DATA…`: blit". n is how many numbers the line has
-abbrev pub storeCall : ℕ → ℕ → List ℕ → List ℕ → Call
-storeCall k n ns store =
-    cond (eqb k 10) (Call.Fill (idOf ns) (rectAt ns 1) (num ns 5) store)
-    (cond (eqb k 11) (Call.Blit (idOf ns) (rectAt ns 1) (take (n - 6) (drop 6 ns)) (num ns 5) store)
-    (Call.Resize (idOf ns) (num ns 1) (num ns 2) store))
+abbrev pub storeCalls : ℕ → List ℕ → List ℕ → List (ℕ × Call)
+storeCalls n ns store =
+    (Kind.resize, Call.Resize (idOf ns) (num ns 1) (num ns 2) store)
+    ∷ (Kind.fill, Call.Fill (idOf ns) (rectAt ns 1) (num ns 5) store)
+    ∷ (Kind.blit, Call.Blit (idOf ns) (rectAt ns 1) (take (n - 6) (drop 6 ns)) (num ns 5) store)
+    ∷ []
+
+unfoldable pub plainCall : ℕ → List ℕ → Option Call
+plainCall k ns = pick k (windowCalls ns ++ routeCalls ns)
+
+unfoldable pub storeCall : ℕ → ℕ → List ℕ → List ℕ → Option Call
+storeCall k n ns store = pick k (storeCalls n ns store)
 
 -- "`redraw FULL W H`: redraw; FULL is 0 or 1"
 abbrev pub redrawOf : List ℕ → List ℕ → List ℕ → Call
 redrawOf ns store screen = Call.Redraw (eqb (num ns 0) 1) (num ns 1) (num ns 2) store screen
+
+-- Which function plays a line -----------------------------------------------------------------------------------------
+
+abbrev pub kinds : List (ℕ × Call) → List ℕ
+kinds [] = []
+kinds (e ∷ es) = e .0 ∷ kinds es
+
+abbrev pub isOne : ℕ → List ℕ → Bool
+isOne k [] = false
+isOne k (j ∷ js) = eqb k j || isOne k js
+
+abbrev pub within : ℕ → ℕ → ℕ → Bool
+within low high k = leb low k && leb k high
+
+-- an event is routed
+abbrev pub routes : ℕ → Bool
+routes k = within Kind.keydown Kind.resized k
+
+-- a call is made that is lent nothing and hands back an answer alone
+abbrev pub isPlain : ℕ → Bool
+isPlain k = isOne k (kinds (windowCalls [])) || routes k
+
+-- pixels or a list are lent
+abbrev pub isLent : ℕ → Bool
+isLent k = within Kind.resize Kind.blit k || (eqb k Kind.redraw || (eqb k Kind.visible || within Kind.screen Kind.region k))

@@ -6,6 +6,7 @@ use mathlib.Core.Bool.{cond}
 use mathlib.Core.List.{List, _++_}
 use lib.ListN.{take, drop}
 use Rattle.script.specs.declared.shape.Line.{Line}
+use Rattle.script.specs.Kind as Kind
 use Rattle.script.specs.Script.{hears, heardOf}
 use Rattle.rules.specs.Group.{Group, start, sessionC}
 use Rattle.rules.specs.Visible.{visibleList}
@@ -17,7 +18,7 @@ use Rattle.windows.specs.declared.Listing.{Listing}
 use Rattle.windows.specs.View.{group, Meets}
 use Rattle.replay.specs.declared.player.Player.{Player}
 use Rattle.replay.specs.Numbers.{num, idOf}
-use Rattle.replay.specs.Called.{plainCall, storeCall, redrawOf}
+use Rattle.replay.specs.Called.{Picked, plainCall, storeCall, redrawOf}
 use Rattle.replay.specs.Ready.{Next, lendStore, lendScreen, unset, lendList, counted}
 
 -- "The program owns one store, one screen"
@@ -61,9 +62,9 @@ pub record ListsPart (g : Group) (id n : ℕ) (list : List ℕ) (r : Listing) (a
   pub room : 4 * r .count ≤ n
 
 -- `resize`, `fill` and `blit` are lent the store as `lend` says
-pub record Stores (l : Line) (ns : List ℕ) (p : Player) (store : List ℕ) (r : Player) (after : List ℕ) : Type 0 where
-  pub makes : Makes (storeCall (l .kind) (l .count) ns (take (p .lent) store)) p r
-  pub stored : after ≡ does (group (p .session)) (storeCall (l .kind) (l .count) ns (take (p .lent) store)) .store ++ drop (p .lent) store
+pub record Stores (k : Call) (p : Player) (store : List ℕ) (r : Player) (after : List ℕ) : Type 0 where
+  pub makes : Makes k p r
+  pub stored : after ≡ does (group (p .session)) k .store ++ drop (p .lent) store
 
 -- "lend the next `redraw` a screen of LEN pixels, whatever its W and H": a redraw uses that up
 pub record Draws (ns : List ℕ) (len : ℕ) (p : Player) (store screen : List ℕ) (r : Player) (after : List ℕ) : Type 0 where
@@ -74,53 +75,34 @@ pub record Draws (ns : List ℕ) (len : ℕ) (p : Player) (store screen : List �
 -- `lend-list` above those limits, and a `redraw` (with no `lend-screen` pending) … of more than 384,000 pixels are answered by `!`, and
 -- nothing is called."
 pub data Beyond (k : ℕ) (ns : List ℕ) (p : Player) : Type 0 where
-  no-start : k ≡ 2 → 65536 < num ns 0 → num ns 0 ≤ 1048576 → Beyond k ns p
-  no-redraw : k ≡ 22 → 384000 < screenLen p ns → Beyond k ns p
-  no-store : k ≡ 25 → 1048576 < num ns 0 → Beyond k ns p
-  no-screen : k ≡ 26 → 384000 < num ns 0 → Beyond k ns p
-  no-list : k ≡ 27 → 1984 < num ns 0 → Beyond k ns p
-
--- `show` to `move`, and the events: 4 to 8, and 12 to 20
-pub record Plain (k : ℕ) : Type 0 where
-  pub low : 4 ≤ k
-  pub high : k ≤ 20
-  pub resize : k ≡ 9 → ⊥
-  pub fill : k ≡ 10 → ⊥
-  pub blit : k ≡ 11 → ⊥
-
--- none of the kinds that are lent pixels or a list, or that say how much is lent; and one that can be played
-pub record Other (k : ℕ) : Type 0 where
-  pub low : 2 ≤ k
-  pub resize : k ≡ 9 → ⊥
-  pub fill : k ≡ 10 → ⊥
-  pub blit : k ≡ 11 → ⊥
-  pub redraw : k ≡ 22 → ⊥
-  pub visible : k ≡ 23 → ⊥
-  pub store : k ≡ 25 → ⊥
-  pub screen : k ≡ 26 → ⊥
-  pub list : k ≡ 27 → ⊥
+  no-start : k ≡ Kind.start → 65536 < num ns 0 → num ns 0 ≤ 1048576 → Beyond k ns p
+  no-redraw : k ≡ Kind.redraw → 384000 < screenLen p ns → Beyond k ns p
+  no-store : k ≡ Kind.lend → 1048576 < num ns 0 → Beyond k ns p
+  no-screen : k ≡ Kind.lend-screen → 384000 < num ns 0 → Beyond k ns p
+  no-list : k ≡ Kind.lend-list → 1984 < num ns 0 → Beyond k ns p
 
 -- the player p with the pixels a is r with the pixels b after the line l with the numbers ns
 pub data Plays (l : Line) (ns : List ℕ) (p : Player) (a : Pixels) (r : Player) (b : Pixels) : Type 0 where
   -- "An empty line and a line whose first character is `#` are passed over"; "A malformed line … makes no call, changes nothing"
-  unread : l .kind ≤ 1 → Next p (p .session) r → b ≡ a → Plays l ns p a r b
+  unread : l .kind ≤ Kind.malformed → Next p (p .session) r → b ≡ a → Plays l ns p a r b
   beyond : Beyond (l .kind) ns p → Next p (p .session) r → b ≡ a → Plays l ns p a r b
-  starts : l .kind ≡ 2 → Begins (num ns 0) p r → b ≡ a → Plays l ns p a r b
-  creates : l .kind ≡ 3 → Makes Call.Create p r → b ≡ a → Plays l ns p a r b
-  plain : Plain (l .kind) → Makes (plainCall (l .kind) ns) p r → b ≡ a → Plays l ns p a r b
-  stores : 9 ≤ l .kind → l .kind ≤ 11 → Stores l ns p (a .store) r (b .store) → b .screen ≡ a .screen → Plays l ns p a r b
-  pops : l .kind ≡ 21 → Makes (Call.Pop (idOf ns)) p r → b ≡ a → Plays l ns p a r b
-  redraws : l .kind ≡ 22 → screenLen p ns ≤ 384000 → Draws ns (screenLen p ns) p (a .store) (a .screen) r (b .screen) → b .store ≡ a .store
+  starts : l .kind ≡ Kind.start → Begins (num ns 0) p r → b ≡ a → Plays l ns p a r b
+  creates : l .kind ≡ Kind.create → Makes Call.Create p r → b ≡ a → Plays l ns p a r b
+  plain : Picked (plainCall (l .kind) ns) (λ c. Makes c p r) → b ≡ a → Plays l ns p a r b
+  stores : Picked (storeCall (l .kind) (l .count) ns (take (p .lent) (a .store))) (λ c. Stores c p (a .store) r (b .store)) → b .screen ≡ a .screen
+      → Plays l ns p a r b
+  pops : l .kind ≡ Kind.pop → Makes (Call.Pop (idOf ns)) p r → b ≡ a → Plays l ns p a r b
+  redraws : l .kind ≡ Kind.redraw → screenLen p ns ≤ 384000 → Draws ns (screenLen p ns) p (a .store) (a .screen) r (b .screen) → b .store ≡ a .store
       → Plays l ns p a r b
   -- "the visible list, lent 1,984 numbers", or as many as `lend-list` said, which it uses up
-  lists : l .kind ≡ 23 → Next (lendList 1984 p) (p .session) r → b ≡ a → Plays l ns p a r b
-  asks-focus : l .kind ≡ 24 → Next p (p .session) r → b ≡ a → Plays l ns p a r b
+  lists : l .kind ≡ Kind.visible → Next (lendList 1984 p) (p .session) r → b ≡ a → Plays l ns p a r b
+  asks-focus : l .kind ≡ Kind.focus → Next p (p .session) r → b ≡ a → Plays l ns p a r b
   -- "from here on lend a store of STORE pixels, until the next `start`"
-  lends : l .kind ≡ 25 → num ns 0 ≤ 1048576 → Next (lendStore (num ns 0) p) (p .session) r → b ≡ a → Plays l ns p a r b
-  lends-screen : l .kind ≡ 26 → num ns 0 ≤ 384000 → Next (lendScreen (num ns 0) p) (p .session) r → b ≡ a → Plays l ns p a r b
-  lends-list : l .kind ≡ 27 → num ns 0 ≤ 1984 → Next (lendList (num ns 0) p) (p .session) r → b ≡ a → Plays l ns p a r b
+  lends : l .kind ≡ Kind.lend → num ns 0 ≤ 1048576 → Next (lendStore (num ns 0) p) (p .session) r → b ≡ a → Plays l ns p a r b
+  lends-screen : l .kind ≡ Kind.lend-screen → num ns 0 ≤ 384000 → Next (lendScreen (num ns 0) p) (p .session) r → b ≡ a → Plays l ns p a r b
+  lends-list : l .kind ≡ Kind.lend-list → num ns 0 ≤ 1984 → Next (lendList (num ns 0) p) (p .session) r → b ≡ a → Plays l ns p a r b
   -- "no call"; bare geometry and bare pixels
-  shows : 28 ≤ l .kind → Next p (p .session) r → b ≡ a → Plays l ns p a r b
+  shows : Kind.screen ≤ l .kind → l .kind ≤ Kind.region → Next p (p .session) r → b ≡ a → Plays l ns p a r b
 
 -- a line of the kind k that is lent no pixels
 abbrev pub PlaysAt : ℕ → List ℕ → Player → Player → Type 0

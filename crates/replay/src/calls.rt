@@ -1,13 +1,17 @@
-// The lines that are calls on a session and are lent nothing.
+// The lines that are lent nothing.
+ghost use mathlib.Core.Path.{_≡_};
+ghost use mathlib.Core.Bool.{true, false};
 ghost use Prim.Native.Nat.{_*_, _≤_};
 ghost use Rattle.rules.specs.Group.{sessionC};
 ghost use Rattle.rules.specs.Calls.{Call};
 ghost use Rattle.windows.specs.View.{Given, Meets};
-ghost use Rattle.replay.specs.Called.{plainCall};
+ghost use Rattle.script.specs.Kind as Kind;
+ghost use Rattle.replay.specs.Called.{Picked, plainCall, isPlain, isLent};
 ghost use Rattle.replay.specs.Numbers.{idOf, Sound};
 ghost use Rattle.replay.specs.Ready.{Ready, Next};
-ghost use Rattle.replay.specs.Played.{Pixels, Makes, Begins, Other, Plays, PlaysAt};
+ghost use Rattle.replay.specs.Played.{Pixels, Makes, Begins, Plays, PlaysAt};
 use crate::events;
+use crate::lend;
 use crate::numbers;
 use crate::player::Player;
 use crate::text;
@@ -20,8 +24,8 @@ use windows::Session;
 
 // A line that hands back an answer alone.
 fn plain(s: Session, line: Line, ns: &[u32; 4102]) -> Done
-    requires { ⌜ Given s × Sound line (now ns) ⌝ }
-    ensures { λ r. ⌜ Meets (plainCall (line .kind) (now (ns .entry))) s r ⌝ }
+    requires { ⌜ Given s × Sound line (now ns) × (isPlain (line .kind) ≡ true) ⌝ }
+    ensures { λ r. ⌜ Picked (plainCall (line .kind) (now (ns .entry))) (λ c. Meets c s r) ⌝ }
 {
     let k = line.kind;
     let id = numbers::id(ns);
@@ -35,16 +39,22 @@ fn plain(s: Session, line: Line, ns: &[u32; 4102]) -> Done
     }
 }
 
+// A line that is lent no pixels and no list.
 pub fn call(p: Player, line: Line, ns: &[u32; 4102], out: &mut [u8; 65536]) -> Player
-    requires { ⌜ Ready p × Sound line (now ns) × Other (line .kind) × (line .kind ≤ 24) ⌝ }
+    requires { ⌜ Ready p × Sound line (now ns) × (isLent (line .kind) ≡ false) ⌝ }
     ensures { λ r. ⌜ ((a : Pixels) → Plays line (now (ns .entry)) p a r a) ⌝ }
 {
     let k = line.kind;
     match k {
+        kind::PASSED => p,
+        kind::MALFORMED => p.malformed(out),
         kind::START => start(p, ns, out),
         kind::CREATE => create(p, out),
         kind::POP => pop(p, ns, out),
         kind::FOCUS => focus(p, out),
+        kind::LEND => lend::lend_store(p, ns, out),
+        kind::LEND_SCREEN => lend::lend_screen(p, ns, out),
+        kind::LEND_LIST => lend::lend_list(p, ns, out),
         _ => {
             let s = p.session;
             let done = plain(s, line, ns);
@@ -56,7 +66,7 @@ pub fn call(p: Player, line: Line, ns: &[u32; 4102], out: &mut [u8; 65536]) -> P
 // A start that document 01 accepts but whose store the program cannot lend is not called.
 fn start(p: Player, ns: &[u32; 4102], out: &mut [u8; 65536]) -> Player
     requires { ⌜ Ready p ⌝ }
-    ensures { λ r. ⌜ PlaysAt 2 (now (ns .entry)) p r ⌝ }
+    ensures { λ r. ⌜ PlaysAt Kind.start (now (ns .entry)) p r ⌝ }
 {
     let c = ns[0];
     if c <= 65536 {

@@ -1,17 +1,20 @@
 // The events of a script: those that a line routes, and the text of those that are popped.
 ghost use mathlib.Core.Path.{_≡_};
+ghost use mathlib.Core.Bool.{true};
 ghost use Prim.Native.Nat.{_≤_};
-ghost use Rattle.replay.specs.Called.{eventOf};
+ghost use mathlib.Core.Option.{some};
+ghost use Rattle.rules.specs.Calls.{Call};
+ghost use Rattle.replay.specs.Called.{plainCall, routes};
 ghost use Rattle.replay.specs.Numbers.{Sound};
 use crate::text;
 use script::Line;
 use script::kind;
 use window::Event;
 
-// The event that a line routes: `resized` where it is no other.
+// The event that a line routes.
 pub fn event(line: Line, ns: &[u32; 4102]) -> Event
-    requires { ⌜ Sound line (now ns) ⌝ }
-    ensures { λ r. ⌜ r ≡ eventOf (line .kind) (now (ns .entry)) ⌝ }
+    requires { ⌜ Sound line (now ns) × (routes (line .kind) ≡ true) ⌝ }
+    ensures { λ r. ⌜ plainCall (line .kind) (now (ns .entry)) ≡ some (Call.Route r) ⌝ }
 {
     let k = line.kind;
     let x = ns[0];

@@ -5,9 +5,10 @@ ghost use Prim.Native.Nat.{_-_, _*_, _≤_};
 ghost use lib.ListN.{length, take, drop};
 ghost use Rattle.rules.specs.Calls.{Call};
 ghost use Rattle.windows.specs.View.{group, Given, MeetsStore};
-ghost use Rattle.replay.specs.Called.{storeCall, redrawOf};
+ghost use Rattle.replay.specs.Called.{Picked, storeCall, redrawOf};
 ghost use Rattle.replay.specs.Numbers.{num, idOf, rectAt, Sound};
 ghost use Rattle.script.specs.declared.shape.Line.{Line};
+ghost use Rattle.script.specs.Kind as Kind;
 ghost use Rattle.replay.specs.Ready.{Ready, Next, lendList};
 ghost use Rattle.replay.specs.Played.{pixels, MeetsPart, DrawsPart, ListsPart, Stores, Draws, Plays, PlaysAt};
 use crate::numbers;
@@ -38,8 +39,8 @@ fn part(s: Session, ns: &[u32; 4102], all: &[u32], count: usize, store: &mut [u3
 
 // The calls that write the store.
 fn write(s: Session, line: Line, ns: &[u32; 4102], store: &mut [u32]) -> Done
-    requires { ⌜ Given s × Sound line (now ns) ⌝ }
-    ensures { λ r. ⌜ MeetsStore (storeCall (line .kind) (line .count) (now (ns .entry)) (now (store .entry))) s r (now (store .exit)) ⌝ }
+    requires { ⌜ Given s × Sound line (now ns) × (Kind.resize ≤ line .kind) × (line .kind ≤ Kind.blit) ⌝ }
+    ensures { λ r. ⌜ Picked (storeCall (line .kind) (line .count) (now (ns .entry)) (now (store .entry))) (λ c. MeetsStore c s r (now (store .exit))) ⌝ }
 {
     let k = line.kind;
     match k {
@@ -50,8 +51,9 @@ fn write(s: Session, line: Line, ns: &[u32; 4102], store: &mut [u32]) -> Done
 }
 
 fn lent(s: Session, line: Line, ns: &[u32; 4102], store: &mut [u32], lent: usize) -> Done
-    requires { ⌜ Given s × Sound line (now ns) × (lent ≤ length (now store)) ⌝ }
-    ensures { λ r. ⌜ MeetsPart (storeCall (line .kind) (line .count) (now (ns .entry)) (take lent (now (store .entry)))) lent (now (store .entry)) s r (now (store .exit)) ⌝ }
+    requires { ⌜ Given s × Sound line (now ns) × (Kind.resize ≤ line .kind) × (line .kind ≤ Kind.blit) × (lent ≤ length (now store)) ⌝ }
+    ensures { λ r. ⌜ Picked (storeCall (line .kind) (line .count) (now (ns .entry)) (take lent (now (store .entry))))
+        (λ c. MeetsPart c lent (now (store .entry)) s r (now (store .exit))) ⌝ }
 {
     write(s, line, ns, &mut store[0..lent])
 }
@@ -63,8 +65,9 @@ pub fn stored(
     store: &mut [u32; 1048576],
     out: &mut [u8; 65536],
 ) -> Player
-    requires { ⌜ Ready p × Sound line (now ns) ⌝ }
-    ensures { λ r. ⌜ Stores line (now (ns .entry)) p (now (store .entry)) r (now (store .exit)) ⌝ }
+    requires { ⌜ Ready p × Sound line (now ns) × (Kind.resize ≤ line .kind) × (line .kind ≤ Kind.blit) ⌝ }
+    ensures { λ r. ⌜ Picked (storeCall (line .kind) (line .count) (now (ns .entry)) (take (p .lent) (now (store .entry))))
+        (λ c. Stores c p (now (store .entry)) r (now (store .exit))) ⌝ }
 {
     let s = p.session;
     let done = lent(s, line, ns, store, p.lent);
@@ -121,7 +124,7 @@ pub fn redraw(
     out: &mut [u8; 65536],
 ) -> Player
     requires { ⌜ Ready p ⌝ }
-    ensures { λ r. ⌜ ((l : Line) → l .kind ≡ 22 → Plays l (now (ns .entry)) p (pixels (now (store .entry)) (now (screen .entry))) r (pixels (now (store .entry)) (now (screen .exit)))) ⌝ }
+    ensures { λ r. ⌜ ((l : Line) → l .kind ≡ Kind.redraw → Plays l (now (ns .entry)) p (pixels (now (store .entry)) (now (screen .entry))) r (pixels (now (store .entry)) (now (screen .exit)))) ⌝ }
 {
     let len = screen_len(p, ns[1], ns[2]);
     if len <= 384000 {
@@ -176,7 +179,7 @@ pub fn visible(
 // The lend lines: more than the program has is refused.
 pub fn lend_store(mut p: Player, ns: &[u32; 4102], out: &mut [u8; 65536]) -> Player
     requires { ⌜ Ready p ⌝ }
-    ensures { λ r. ⌜ PlaysAt 25 (now (ns .entry)) p r ⌝ }
+    ensures { λ r. ⌜ PlaysAt Kind.lend (now (ns .entry)) p r ⌝ }
 {
     let n = numbers::wide(ns[0]);
     if n <= 1048576 {
@@ -188,7 +191,7 @@ pub fn lend_store(mut p: Player, ns: &[u32; 4102], out: &mut [u8; 65536]) -> Pla
 
 pub fn lend_screen(mut p: Player, ns: &[u32; 4102], out: &mut [u8; 65536]) -> Player
     requires { ⌜ Ready p ⌝ }
-    ensures { λ r. ⌜ PlaysAt 26 (now (ns .entry)) p r ⌝ }
+    ensures { λ r. ⌜ PlaysAt Kind.lend-screen (now (ns .entry)) p r ⌝ }
 {
     let n = numbers::wide(ns[0]);
     if n <= 384000 {
@@ -201,7 +204,7 @@ pub fn lend_screen(mut p: Player, ns: &[u32; 4102], out: &mut [u8; 65536]) -> Pl
 
 pub fn lend_list(mut p: Player, ns: &[u32; 4102], out: &mut [u8; 65536]) -> Player
     requires { ⌜ Ready p ⌝ }
-    ensures { λ r. ⌜ PlaysAt 27 (now (ns .entry)) p r ⌝ }
+    ensures { λ r. ⌜ PlaysAt Kind.lend-list (now (ns .entry)) p r ⌝ }
 {
     let n = numbers::wide(ns[0]);
     if n <= 1984 {

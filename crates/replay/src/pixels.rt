@@ -1,6 +1,7 @@
 // The lines of bare pixels. The pixels are numbers of the line.
 ghost use Prim.Native.Nat.{_+_, _≤_};
 ghost use lib.ListN.{length};
+ghost use Rattle.script.specs.Kind as Kind;
 ghost use Rattle.replay.specs.Numbers.{num, Sound};
 use crate::numbers;
 use crate::text;
@@ -8,7 +9,7 @@ use script::Line;
 use script::kind;
 
 pub fn asked(line: Line, ns: &mut [u32; 4102], out: &mut [u8; 65536], at: usize) -> usize
-    requires { ⌜ Sound line (now ns) × (37 ≤ line .kind) × (at ≤ 65536) ⌝ }
+    requires { ⌜ Sound line (now ns) × (Kind.scanline ≤ line .kind) × (line .kind ≤ Kind.region) × (at ≤ 65536) ⌝ }
     ensures { λ r. ⌜ r ≤ 65536 ⌝ }
 {
     let k = line.kind;

@@ -1,9 +1,11 @@
 // What is played: the session, what is lent to its calls, and how far the script and its answers have come.
 ghost use mathlib.Core.Path.{_≡_};
 ghost use Rattle.windows.specs.View.{Given};
+ghost use Prim.Native.Nat.{_≤_};
+ghost use Rattle.script.specs.Kind as Kind;
 ghost use Rattle.replay.specs.Numbers.{Sound};
 ghost use Rattle.replay.specs.Ready.{Ready, Next, counted};
-ghost use Rattle.replay.specs.Played.{Pixels, pixels, Other, Plays};
+ghost use Rattle.replay.specs.Played.{pixels, Plays};
 use crate::calls;
 use crate::geometry;
 use crate::lend;
@@ -96,7 +98,7 @@ impl Player {
         self
     }
 
-    fn malformed(mut self, out: &mut [u8; 65536]) -> Player
+    pub fn malformed(mut self, out: &mut [u8; 65536]) -> Player
         requires { ⌜ Ready self ⌝ }
         ensures { λ r. ⌜ Next self (self .session) r ⌝ }
     {
@@ -114,7 +116,7 @@ impl Player {
         screen: &[u32; 384000],
         out: &mut [u8; 65536],
     ) -> Player
-        requires { ⌜ Ready self × Sound line (now ns) ⌝ }
+        requires { ⌜ Ready self × Sound line (now ns) × (Kind.screen ≤ line .kind) × (line .kind ≤ Kind.region) ⌝ }
         ensures { λ r. ⌜ Next self (self .session) r ⌝ }
     {
         let k = line.kind;
@@ -122,33 +124,14 @@ impl Player {
         if k == kind::PIXELS {
             let s = self.session;
             self.at = show::pixels(s, ns, store, self.lent, out, at);
-        } else if k <= 30 {
+        } else if k <= kind::PICTURE {
             self.at = show::screen(line, ns, name, screen, out, at);
-        } else if k <= 36 {
+        } else if k <= kind::WITHIN {
             self.at = geometry::asked(k, ns, out, at);
         } else {
             self.at = pixels::asked(line, ns, out, at);
         }
         self
-    }
-
-    // A line that is lent no pixels to write, and says nothing of what is lent.
-    fn other(
-        self,
-        line: Line,
-        ns: &mut [u32; 4102],
-        name: &[u8; 64],
-        store: &[u32; 1048576],
-        screen: &[u32; 384000],
-        out: &mut [u8; 65536],
-    ) -> Player
-        requires { ⌜ Ready self × Sound line (now ns) × Other (line .kind) ⌝ }
-        ensures { λ r. ⌜ ((a : Pixels) → Plays line (now (ns .entry)) self a r a) ⌝ }
-    {
-        if line.kind <= 24 {
-            return calls::call(self, line, ns, out);
-        }
-        self.shown(line, ns, name, store, screen, out)
     }
 
     // Plays one line.
@@ -167,15 +150,11 @@ impl Player {
     {
         let k = line.kind;
         match k {
-            kind::PASSED => self,
-            kind::MALFORMED => self.malformed(out),
             kind::RESIZE | kind::FILL | kind::BLIT => lend::stored(self, line, ns, store, out),
             kind::REDRAW => lend::redraw(self, ns, store, screen, out),
             kind::VISIBLE => lend::visible(self, ns, list, out),
-            kind::LEND => lend::lend_store(self, ns, out),
-            kind::LEND_SCREEN => lend::lend_screen(self, ns, out),
-            kind::LEND_LIST => lend::lend_list(self, ns, out),
-            _ => self.other(line, ns, name, store, screen, out),
+            kind::SCREEN..=kind::REGION => self.shown(line, ns, name, store, screen, out),
+            _ => calls::call(self, line, ns, out),
         }
     }
 }

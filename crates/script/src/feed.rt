@@ -6,7 +6,7 @@ ghost use lib.Dec.{eqb};
 ghost use Prim.Native.Nat.{ℕ, _≤_};
 ghost use lib.ListN.{length, take};
 ghost use lib.Seq.{slice};
-ghost use Rattle.script.specs.Kind.{picture};
+ghost use Rattle.script.specs.Kind as Kind;
 ghost use Rattle.script.specs.Machine.{ReadTo, stateOf, between, afterName, step};
 use crate::Reading;
 use crate::Step;
@@ -26,7 +26,7 @@ use crate::word;
 
 // The word after `picture W H` is a name, and any other a number.
 fn name_next(kind: u8, count: usize) -> bool
-    ensures { λ r. ⌜ r ≡ eqb kind picture && eqb count 2 ⌝ }
+    ensures { λ r. ⌜ r ≡ eqb kind Kind.picture && eqb count 2 ⌝ }
 {
     if kind == PICTURE {
         return count == 2;

@@ -2,6 +2,7 @@
 use Prim.Native.Nat.{ℕ, _*_, _≤_}
 use mathlib.Core.Path.{_≡_, refl, sym, ap, subst, _∙_}
 use mathlib.Core.List.{List, _++_}
+use mathlib.Core.Option.{Option}
 use native.Mathlib.Omega.{arith}
 use lib.ListN.{length, take, drop}
 use lib.Seq.{length-take-le}
@@ -16,7 +17,9 @@ use Rattle.windows.specs.View.{group, Meets, MeetsStore, MeetsScreen, Starts, L
 use Rattle.replay.specs.declared.player.Player.{Player}
 use Rattle.replay.specs.Ready.{Ready, Next, lendStore}
 use Rattle.replay.specs.Played.{Pixels, Makes, Begins, MeetsPart, DrawsPart, ListsPart, Plays}
+use Rattle.replay.specs.Called.{Picked}
 use Rattle.replay.proofs.laws.Sizes.{counted}
+use Rattle.replay.proofs.laws.Picked.{picked-so}
 use Rattle.replay.specs.Played.{unread, beyond, starts, creates, plain, stores, pops, redraws, lists, asks-focus, lends, lends-screen, lends-list, shows}
 
 -- the session that r has is the next
@@ -41,11 +44,12 @@ begins c p r d h n =
 -- Parts ---------------------------------------------------------------------------------------------------------------
 
 -- a call that is lent the front of the store writes that part alone
-pub store-part : (k : List ℕ → Call) (n m : ℕ) (store last : List ℕ) (s : Session) (r : Done) → n ≡ m → MeetsStore (k (take m (drop 0 store))) s r last
-    → MeetsPart (k (take n store)) n store s r (take 0 store ++ (last ++ drop m (drop 0 store)))
+pub store-part : (k : List ℕ → Option Call) (n m : ℕ) (store last : List ℕ) (s : Session) (r : Done) → n ≡ m
+    → Picked (k (take m (drop 0 store))) (λ c. MeetsStore c s r last)
+    → Picked (k (take n store)) (λ c. MeetsPart c n store s r (take 0 store ++ (last ++ drop m (drop 0 store))))
 store-part k n m store last s r e =
-    subst (λ (m : ℕ). MeetsStore (k (take m (drop 0 store))) s r last → MeetsPart (k (take n store)) n store s r (take 0 store ++ (last ++ drop m (drop 0 store)))) e
-    (λ h. record { meets = h .meets; stored = ap (λ (l : List ℕ). l ++ drop n store) (h .stored) })
+    subst (λ (m : ℕ). Picked (k (take m (drop 0 store))) (λ c. MeetsStore c s r last) → Picked (k (take n store)) (λ c. MeetsPart c n store s r (take 0 store ++ (last ++ drop m (drop 0 store))))) e
+    (picked-so (λ c h. record { meets = h .meets; stored = ap (λ (l : List ℕ). l ++ drop n store) (h .stored) }))
 
 pub screen-part : (k : List ℕ → Call) (n m : ℕ) (screen last : List ℕ) (s : Session) (r : Done) → n ≡ m → MeetsScreen (k (take m (drop 0 screen))) s r last
     → DrawsPart (k (take n screen)) n screen s r (take 0 screen ++ (last ++ drop m (drop 0 screen)))
@@ -73,8 +77,8 @@ ready-of (unread k n e) = n .ready
 ready-of (beyond k n e) = n .ready
 ready-of (starts k h e) = h .next .ready
 ready-of (creates k m e) = m .next .ready
-ready-of (plain k m e) = m .next .ready
-ready-of (stores k j h e) = h .makes .next .ready
+ready-of (plain m e) = m .so .next .ready
+ready-of (stores h e) = h .so .makes .next .ready
 ready-of (pops k m e) = m .next .ready
 ready-of (redraws k j h e) = h .makes .next .ready
 ready-of (lists k n e) = n .ready
@@ -82,4 +86,4 @@ ready-of (asks-focus k n e) = n .ready
 ready-of (lends k j n e) = n .ready
 ready-of (lends-screen k j n e) = n .ready
 ready-of (lends-list k j n e) = n .ready
-ready-of (shows k n e) = n .ready
+ready-of (shows k j n e) = n .ready

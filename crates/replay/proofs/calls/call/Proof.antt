@@ -1,12 +1,16 @@
--- Each arm plays the line of its own kind; the last has every other kind that is lent nothing.
+-- Each arm plays the line of its own kind; the kinds that are left are those of the plain calls.
 use mathlib.Core.Path.{refl}
 use native.Mathlib.Omega.{arith}
-use Rattle.replay.specs.Called.{plainCall}
-use Rattle.replay.specs.Played.{Plain, creates, pops, asks-focus, plain}
+use Rattle.replay.specs.Played.{unread, creates, pops, asks-focus, plain}
+use Rattle.replay.proofs.laws.Arms.{plain-left}
+use Rattle.replay.proofs.laws.Picked.{picked-so}
 use Rattle.replay.proofs.laws.Made.{makes}
 use borrow.Author.Needs.{needs}
 use Rattle.replay.proofs.calls.call.Statement.{statement}
 use Rattle.replay.proofs.calls.call.Tie as tie
+
+malformed-requires : tie.Need-malformed-requires
+malformed-requires c κs = search needs
 
 start-requires : tie.Need-start-requires
 start-requires c κs = search needs
@@ -20,54 +24,79 @@ pop-requires c κs = search needs
 focus-requires : tie.Need-focus-requires
 focus-requires c κs = search needs
 
+lend-store-requires : tie.Need-lend-store-requires
+lend-store-requires c κs = search needs
+
+lend-screen-requires : tie.Need-lend-screen-requires
+lend-screen-requires c κs = search needs
+
+lend-list-requires : tie.Need-lend-list-requires
+lend-list-requires c κs = search needs
+
 plain-requires : tie.Need-plain-requires
-plain-requires c κs = search needs
+plain-requires c κs =
+    let p = c .before .before .pre in
+    (p .0 .given, p .1, plain-left _ _ (p .1 .kinds) (p .2) (c .before .match .rest))
 
 answered-requires : tie.Need-answered-requires
 answered-requires c κs = search needs
 
-known : (c : tie.After-answered-arg) → Plain (c .before .before .before .before .args .line .kind)
-known c =
-    let o = c .before .before .before .before .pre .2 in
-    record {
-      low = omega (arith, o .low, c .before .before .before .match .rest);
-      high = omega (arith, c .before .before .before .before .pre .3, o .redraw, o .visible, c .before .before .before .match .rest);
-      resize = o .resize;
-      fill = o .fill;
-      blit = o .blit;
-    }
-
 returns : tie.Need-returns
-returns c = λ a. c .start .ensures (c .before .before .before .args .line) a (c .before .before .match .keys1)
+returns c = λ a.
+    unread (omega (arith, c .match .keys1))
+    (record { ready = c .before .pre .0; session = refl; lent = refl; set = refl; screen = refl; list = refl; lines = refl }) refl
 
 returns-2 : tie.Need-returns-2
-returns-2 c = λ a. creates (c .before .before .match .keys2) (c .create .ensures) refl
+returns-2 c = λ a. unread (omega (arith, c .before .before .match .keys2)) (c .malformed .ensures) refl
 
 returns-3 : tie.Need-returns-3
-returns-3 c = λ a. pops (c .before .before .match .keys3) (c .pop .ensures) refl
+returns-3 c = λ a. c .start .ensures (c .before .before .before .args .line) a (c .before .before .match .keys3)
 
 returns-4 : tie.Need-returns-4
-returns-4 c = λ a. asks-focus (c .before .before .match .keys4) (c .focus .ensures) refl
+returns-4 c = λ a. creates (c .before .before .match .keys4) (c .create .ensures) refl
 
 returns-5 : tie.Need-returns-5
-returns-5 c =
-    let args = c .before .before .before .before .before .args in
-    λ a.
-    plain (known (c .before))
-    (makes (plainCall (args .line .kind) (args .ns .now)) (args .p) (c .answered .result) (c .before .before .plain .result) (c .before .before .plain .ensures) (c .answered .ensures)) refl
+returns-5 c = λ a. pops (c .before .before .match .keys5) (c .pop .ensures) refl
+
+returns-6 : tie.Need-returns-6
+returns-6 c = λ a. asks-focus (c .before .before .match .keys6) (c .focus .ensures) refl
+
+returns-7 : tie.Need-returns-7
+returns-7 c = λ a. c .lend-store .ensures (c .before .before .before .args .line) a (c .before .before .match .keys7)
+
+returns-8 : tie.Need-returns-8
+returns-8 c = λ a. c .lend-screen .ensures (c .before .before .before .args .line) a (c .before .before .match .keys8)
+
+returns-9 : tie.Need-returns-9
+returns-9 c = λ a. c .lend-list .ensures (c .before .before .before .args .line) a (c .before .before .match .keys9)
+
+returns-10 : tie.Need-returns-10
+returns-10 c =
+    let p = c .before .before .before .before .before .args .p in
+    let done = c .before .before .plain in
+    λ a. plain (picked-so (λ k m. makes k p (c .answered .result) (done .result) m (c .answered .ensures)) (done .ensures)) refl
 
 pub call-spec : {M : Type 1} → statement M
 call-spec =
     tie.close
     (tie.spec
+    malformed-requires
     start-requires
     create-requires
     pop-requires
     focus-requires
+    lend-store-requires
+    lend-screen-requires
+    lend-list-requires
     plain-requires
     answered-requires
     returns
     returns-2
     returns-3
     returns-4
-    returns-5)
+    returns-5
+    returns-6
+    returns-7
+    returns-8
+    returns-9
+    returns-10)

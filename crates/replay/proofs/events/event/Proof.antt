@@ -1,8 +1,15 @@
--- Each arm's event is the one that the word's number picks; a line that is none of the others' routes a Resize.
+-- Each arm's event is the one that the kind picks; the kind that is left is `resized`.
 use mathlib.Core.Path.{refl}
+use Prim.Native.Nat.{_≤_}
+use mathlib.Core.Path.{_≡_}
+use lib.Dec.{leb}
+use borrow.Author.Tests.{leb-true}
+use Rattle.geom.proofs.basics.Tests.{fst, snd}
+use Rattle.replay.proofs.laws.Arms.{above-run}
 use native.Mathlib.Omega.{arith}
 use borrow.Author.Needs.{needs}
-use Rattle.replay.proofs.laws.Picked.{event-at, event-last}
+use Rattle.script.specs.Kind as Kind
+use Rattle.replay.proofs.laws.Picked.{event-at}
 use Rattle.replay.proofs.events.event.Statement.{statement}
 use Rattle.replay.proofs.events.event.Tie as tie
 
@@ -16,53 +23,59 @@ element-copy-out-t14 : tie.Need-element-copy-out-t14
 element-copy-out-t14 c = search needs
 
 cast-t15 : tie.Need-cast-t15
-cast-t15 c = omega (arith, c .before .before .before .before .pre .down (c .before .match .keys6))
+cast-t15 c = omega (arith, c .before .before .before .before .pre .0 .down (c .before .match .keys6))
 
 element-copy-out-t18 : tie.Need-element-copy-out-t18
 element-copy-out-t18 c = search needs
 
 cast-t19 : tie.Need-cast-t19
-cast-t19 c = omega (arith, c .before .before .before .before .pre .up (c .before .match .keys7))
+cast-t19 c = omega (arith, c .before .before .before .before .pre .0 .up (c .before .match .keys7))
 
 element-copy-out-t22 : tie.Need-element-copy-out-t22
 element-copy-out-t22 c = search needs
 
 cast-t23 : tie.Need-cast-t23
-cast-t23 c = omega (arith, c .before .before .before .before .pre .click (c .before .match .keys8) .0)
+cast-t23 c = omega (arith, c .before .before .before .before .pre .0 .click (c .before .match .keys8) .0)
 
 element-copy-out-t26 : tie.Need-element-copy-out-t26
 element-copy-out-t26 c = search needs
 
 cast-t27 : tie.Need-cast-t27
-cast-t27 c = omega (arith, c .before .before .before .before .before .pre .click (c .before .before .match .keys8) .1)
+cast-t27 c = omega (arith, c .before .before .before .before .before .pre .0 .click (c .before .before .match .keys8) .1)
 
 returns : tie.Need-returns
-returns c = event-at (c .before .before .before .args .line .kind) 12 (c .before .before .before .args .ns .now) _ (c .match .keys1) refl
+returns c = event-at (c .match .keys1) (c .before .before .before .args .ns .now) refl
 
 returns-2 : tie.Need-returns-2
-returns-2 c = event-at (c .before .before .before .args .line .kind) 13 (c .before .before .before .args .ns .now) _ (c .match .keys2) refl
+returns-2 c = event-at (c .match .keys2) (c .before .before .before .args .ns .now) refl
 
 returns-3 : tie.Need-returns-3
-returns-3 c = event-at (c .before .before .before .args .line .kind) 14 (c .before .before .before .args .ns .now) _ (c .match .keys3) refl
+returns-3 c = event-at (c .match .keys3) (c .before .before .before .args .ns .now) refl
 
 returns-4 : tie.Need-returns-4
-returns-4 c = event-at (c .before .before .before .args .line .kind) 15 (c .before .before .before .args .ns .now) _ (c .match .keys4) refl
+returns-4 c = event-at (c .match .keys4) (c .before .before .before .args .ns .now) refl
 
 returns-5 : tie.Need-returns-5
-returns-5 c = event-at (c .before .before .before .args .line .kind) 16 (c .before .before .before .args .ns .now) _ (c .match .keys5) refl
+returns-5 c = event-at (c .match .keys5) (c .before .before .before .args .ns .now) refl
 
 returns-6 : tie.Need-returns-6
-returns-6 c = event-at (c .before .before .before .before .args .line .kind) 17 (c .before .before .before .before .args .ns .now) _ (c .before .match .keys6) refl
+returns-6 c = event-at (c .before .match .keys6) (c .before .before .before .before .args .ns .now) refl
 
 returns-7 : tie.Need-returns-7
-returns-7 c = event-at (c .before .before .before .before .args .line .kind) 18 (c .before .before .before .before .args .ns .now) _ (c .before .match .keys7) refl
+returns-7 c = event-at (c .before .match .keys7) (c .before .before .before .before .args .ns .now) refl
 
 returns-8 : tie.Need-returns-8
-returns-8 c = event-at (c .before .before .before .before .before .args .line .kind) 19 (c .before .before .before .before .before .args .ns .now) _ (c .before .before .match .keys8) refl
+returns-8 c = event-at (c .before .before .match .keys8) (c .before .before .before .before .before .args .ns .now) refl
 
 returns-9 : tie.Need-returns-9
 returns-9 c =
-    event-last (c .before .before .before .args .line .kind) (c .before .before .before .args .ns .now) (c .match .rest .0 .0 .0 .0 .0 .0 .0 .1) (c .match .rest .0 .0 .0 .0 .0 .0 .1) (c .match .rest .0 .0 .0 .0 .0 .1) (c .match .rest .0 .0 .0 .0 .1) (c .match .rest .0 .0 .0 .1) (c .match .rest .0 .0 .1) (c .match .rest .0 .1) (c .match .rest .1)
+    let k = c .before .before .before .args .line .kind in
+    let in-range = c .before .before .before .pre .1 in
+    let low : Kind.keydown ≤ k = leb-true Kind.keydown k (fst (leb Kind.keydown k) (leb k Kind.resized) in-range) in
+    let high : k ≤ Kind.resized = leb-true k Kind.resized (snd (leb Kind.keydown k) (leb k Kind.resized) in-range) in
+    let last : Kind.resized ≤ k = above-run k _ Kind.keydown 8 low (c .match .rest) in
+    let e : k ≡ Kind.resized = omega (arith, last, high) in
+    event-at e (c .before .before .before .args .ns .now) refl
 
 pub event-spec : {M : Type 1} → statement M
 event-spec =

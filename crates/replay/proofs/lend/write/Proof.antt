@@ -1,10 +1,12 @@
--- Each arm makes the call that the word's number picks.
-use mathlib.Core.Path.{_≡_, subst}
+-- Each arm makes the call that the kind picks.
+use mathlib.Core.Path.{_≡_, refl, subst}
+use native.Mathlib.Omega.{arith}
+use Rattle.script.specs.Kind as Kind
 use Rattle.rules.specs.Calls as Call
 use Rattle.rules.specs.Calls.{Call}
 use Rattle.windows.specs.View.{MeetsStore}
 use Rattle.replay.specs.Numbers.{num, idOf, rectAt}
-use Rattle.replay.proofs.laws.Picked.{store-at, store-last}
+use Rattle.replay.proofs.laws.Picked.{store-at}
 use borrow.Author.Needs.{needs}
 use Rattle.replay.proofs.lend.write.Statement.{statement}
 use Rattle.replay.proofs.lend.write.Tie as tie
@@ -42,7 +44,7 @@ returns c =
     let ns = args .ns .now in
     let made : Call.Fill (c .before .before .before .before .before .before .id .result .0) (c .before .before .before .before .before .rect .result) (num ns 5) (args .store .now) ≡ Call.Fill (idOf ns) (rectAt ns 1) (num ns 5) (args .store .now) =
     λ i. Call.Fill (c .before .before .before .before .before .before .id .ensures i) (c .before .before .before .before .before .rect .ensures i) (num ns 5) (args .store .now) in
-    store-at (args .line .kind) ns (args .s) (c .before .before .fill .result) (args .line .count) (args .store .now) (c .before .before .fill .last .1 .1 .1 .1 .0) 10 (c .before .before .before .before .before .before .before .match .keys1)
+    store-at (c .before .before .before .before .before .before .before .match .keys1) (args .line .count) ns (args .store .now) refl
     (subst (λ (k : Call). MeetsStore k (args .s) (c .before .before .fill .result) (c .before .before .fill .last .1 .1 .1 .1 .0)) made (c .before .before .fill .ensures))
 
 same-length-2 : tie.Need-same-length-2
@@ -51,8 +53,7 @@ same-length-2 c = search needs
 returns-2 : tie.Need-returns-2
 returns-2 c =
     let args = c .before .before .before .before .before .before .before .args in
-    store-at (args .line .kind) (args .ns .now) (args .s) (c .before .before .part .result) (args .line .count) (args .store .now) (c .before .before .part .last .1 .1 .1 .1 .0) 11 (c .before .before .before .before .before .match .keys2)
-    (c .before .before .part .ensures)
+    store-at (c .before .before .before .before .before .match .keys2) (args .line .count) (args .ns .now) (args .store .now) refl (c .before .before .part .ensures)
 
 same-length-3 : tie.Need-same-length-3
 same-length-3 c = search needs
@@ -64,7 +65,8 @@ returns-3 c =
     let size = c .before .before .before .before .dims .ensures in
     let made : Call.Resize (c .before .before .before .before .before .id2 .result .0) (c .before .before .before .before .dims .result .w) (c .before .before .before .before .dims .result .h) (args .store .now) ≡ Call.Resize (idOf ns) (num ns 1) (num ns 2) (args .store .now) =
     λ i. Call.Resize (c .before .before .before .before .before .id2 .ensures i) (size .0 i) (size .1 i) (args .store .now) in
-    store-last (args .line .kind) ns (args .s) (c .before .before .resize .result) (args .line .count) (args .store .now) (c .before .before .resize .last .1 .1 .1 .0) (c .before .before .before .before .before .before .match .rest .0 .1) (c .before .before .before .before .before .before .match .rest .1)
+    let left : args .line .kind ≡ Kind.resize = omega (arith, c .before .before .before .before .before .before .before .before .pre .2, c .before .before .before .before .before .before .before .before .pre .3, c .before .before .before .before .before .before .match .rest) in
+    store-at left (args .line .count) ns (args .store .now) refl
     (subst (λ (k : Call). MeetsStore k (args .s) (c .before .before .resize .result) (c .before .before .resize .last .1 .1 .1 .0)) made (c .before .before .resize .ensures))
 
 pub write-spec : {M : Type 1} → statement M

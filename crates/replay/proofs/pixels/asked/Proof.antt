@@ -5,16 +5,16 @@ use Rattle.replay.proofs.pixels.asked.Statement.{statement}
 use Rattle.replay.proofs.pixels.asked.Tie as tie
 
 scanline-requires : tie.Need-scanline-requires
-scanline-requires c κs = (c .before .before .before .before .pre .0 .scan (c .before .before .before .match .keys1), search needs, c .before .before .before .before .pre .2)
+scanline-requires c κs = (c .before .before .before .before .pre .0 .scan (c .before .before .before .match .keys1), search needs, c .before .before .before .before .pre .3)
 
 fill-scanline-requires : tie.Need-fill-scanline-requires
-fill-scanline-requires c κs = (c .before .before .before .pre .0 .fills (c .before .before .match .keys2), search needs, c .before .before .before .pre .2)
+fill-scanline-requires c κs = (c .before .before .before .pre .0 .fills (c .before .before .match .keys2), search needs, c .before .before .before .pre .3)
 
 set-scanline-requires : tie.Need-set-scanline-requires
-set-scanline-requires c κs = (c .before .before .before .pre .0 .sets (c .before .before .match .keys3) .1, c .before .before .before .pre .0 .few, search needs, c .before .before .before .pre .2)
+set-scanline-requires c κs = (c .before .before .before .pre .0 .sets (c .before .before .match .keys3) .1, c .before .before .before .pre .0 .few, search needs, c .before .before .before .pre .3)
 
 region-requires : tie.Need-region-requires
-region-requires c κs = (c .before .before .before .before .pre .0 .rgn (omega (arith, c .before .before .before .before .pre .0 .kinds, c .before .before .before .match .rest)), search needs, c .before .before .before .before .pre .2)
+region-requires c κs = (c .before .before .before .before .pre .0 .rgn (omega (arith, c .before .before .before .before .pre .0 .kinds, c .before .before .before .match .rest)), search needs, c .before .before .before .before .pre .3)
 
 returns : tie.Need-returns
 returns c = search needs

@@ -1,0 +1,83 @@
+-- The last arm of a match: what is known of a kind that no other arm has.
+use Prim.Native.Nat.{ℕ, zero, suc, _+_, _≤_, _<_}
+use mathlib.Core.Path.{_≡_, refl}
+use mathlib.Core.Bool.{Bool, true, false, _&&_, _||_}
+use mathlib.Core.List.{List, [], _∷_}
+use native.Mathlib.Omega.{arith}
+use lib.Dec.{leb, eqb}
+use borrow.Author.Tests.{eqb-true, eqb-false, ne-eqb, leb-true, lt-leb}
+use Rattle.geom.proofs.basics.Tests.{fst, snd, clash}
+use Rattle.script.specs.Kind as Kind
+use Rattle.replay.specs.Called.{windowCalls, kinds, isOne, within, routes, isPlain, isLent}
+
+-- B, and k is none of the numbers: what a match's last arm knows
+abbrev pub NoneOf : ℕ → Type 0 → List ℕ → Type 0
+NoneOf k B [] = B
+NoneOf k B (j ∷ js) = NoneOf k (B × (k ≡ j → ⊥)) js
+
+-- of the first
+before : {k j : ℕ} {B : Type 0} (js : List ℕ) → NoneOf k B (j ∷ js) → B × (k ≡ j → ⊥)
+before [] h = h
+before (i ∷ js) h = before js h .0
+
+pub not-one : (k : ℕ) (B : Type 0) (js : List ℕ) → NoneOf k B js → isOne k js ≡ false
+not-one k B [] h = refl
+not-one k B (j ∷ js) h = rw (ne-eqb k j (before js h .1)) (not-one k (B × (k ≡ j → ⊥)) js h)
+
+-- n numbers from a on
+abbrev pub run : ℕ → ℕ → List ℕ
+run a zero = []
+run a (suc n) = a ∷ run (suc a) n
+
+pub above-run : (k : ℕ) (B : Type 0) (a n : ℕ) → a ≤ k → NoneOf k B (run a n) → a + n ≤ k
+above-run k B a zero l h = omega arith
+above-run k B a (suc n) l h =
+    let d = before (run (suc a) n) h .1 in
+    omega (arith, above-run k (B × (k ≡ a → ⊥)) (suc a) n (omega arith) h)
+
+-- Events ---------------------------------------------------------------------------------------------------------------
+
+-- a plain call that is none of the windows' calls routes one
+pub routes-left : (k : ℕ) (B : Type 0) → NoneOf k B (kinds (windowCalls [])) → isPlain k ≡ true → routes k ≡ true
+routes-left k B n p = rw (not-one k B (kinds (windowCalls [])) n) at p
+
+-- Pixels and lists -----------------------------------------------------------------------------------------------------
+
+outside : (low high k : ℕ) → (low ≤ k → high < k) → within low high k ≡ false
+outside low high k h = go (leb low k) refl
+  where
+    go : (t : Bool) → leb low k ≡ t → t && leb k high ≡ false
+    go true e = lt-leb k high (h (leb-true low k e))
+    go false e = refl
+
+pub not-lent : (k : ℕ) → (k ≡ Kind.redraw → ⊥) → (k ≡ Kind.visible → ⊥) → (Kind.resize ≤ k → Kind.blit < k) → (Kind.screen ≤ k → Kind.region < k)
+    → isLent k ≡ false
+not-lent k r v w s =
+    rw (outside Kind.resize Kind.blit k w, ne-eqb k Kind.redraw r, ne-eqb k Kind.visible v, outside Kind.screen Kind.region k s)
+
+-- Every line is played -------------------------------------------------------------------------------------------------
+
+-- the kinds that a function of their own plays, lent no pixels and no list
+abbrev pub own : List ℕ
+own =
+    Kind.passed ∷ Kind.malformed ∷ Kind.start ∷ Kind.create ∷ Kind.pop ∷ Kind.focus ∷ Kind.lend ∷ Kind.lend-screen ∷ Kind.lend-list ∷ []
+
+-- the test passes below n
+abbrev below : (ℕ → Bool) → ℕ → Bool
+below f zero = true
+below f (suc n) = f n && below f n
+
+below-at : (f : ℕ → Bool) (n : ℕ) → below f n ≡ true → (k : ℕ) → k < n → f k ≡ true
+below-at f zero t k h = absurd (omega arith)
+below-at f (suc n) t k h = go (eqb k n) refl (below-at f n (snd (f n) (below f n) t) k)
+  where
+    go : (s : Bool) → eqb k n ≡ s → (k < n → f k ≡ true) → f k ≡ true
+    go true e less = rw (eqb-true k n e) (fst (f n) (below f n) t)
+    go false e less = less (omega (arith, eqb-false k n e))
+
+pub plain-left : (k : ℕ) (B : Type 0) → k ≤ Kind.last → isLent k ≡ false → NoneOf k B own → isPlain k ≡ true
+plain-left k B h l n = go (isPlain k) refl (below-at (λ j. isPlain j || (isOne j own || isLent j)) (suc Kind.last) refl k (omega arith))
+  where
+    go : (t : Bool) → isPlain k ≡ t → t || (isOne k own || isLent k) ≡ true → isPlain k ≡ true
+    go true e p = e
+    go false e p = clash (rw (not-one k B own n, l) at p) refl
