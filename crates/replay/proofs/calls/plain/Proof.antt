@@ -38,16 +38,16 @@ route-requires : tie.Need-route-requires
 route-requires c κs = search needs
 
 returns : tie.Need-returns
-returns c = by-id (c .before .match .keys1) (c .before .before .before .args .ns .now) Call.Show refl (c .before .before .id .ensures) (c .show .ensures)
+returns c = by-id (c .before .match .keys1) _ Call.Show refl (c .before .before .id .ensures) (c .show .ensures)
 
 returns-2 : tie.Need-returns-2
-returns-2 c = by-id (c .before .match .keys2) (c .before .before .before .args .ns .now) Call.Hide refl (c .before .before .id .ensures) (c .hide .ensures)
+returns-2 c = by-id (c .before .match .keys2) _ Call.Hide refl (c .before .before .id .ensures) (c .hide .ensures)
 
 returns-3 : tie.Need-returns-3
-returns-3 c = by-id (c .before .match .keys3) (c .before .before .before .args .ns .now) Call.Drop refl (c .before .before .id .ensures) (c .drop .ensures)
+returns-3 c = by-id (c .before .match .keys3) _ Call.Drop refl (c .before .before .id .ensures) (c .drop .ensures)
 
 returns-4 : tie.Need-returns-4
-returns-4 c = by-id (c .before .match .keys4) (c .before .before .before .args .ns .now) Call.Mark refl (c .before .before .id .ensures) (c .mark .ensures)
+returns-4 c = by-id (c .before .match .keys4) _ Call.Mark refl (c .before .before .id .ensures) (c .mark .ensures)
 
 returns-5 : tie.Need-returns-5
 returns-5 c =
