@@ -85,8 +85,8 @@ abbrev pub row : String → ℕ → ℕ → Row
 row w k n = record { word = bytes w; kind = k; numbers = n; more = false }
 
 -- PIXELS or DATA may follow
-abbrev pub rowOn : String → ℕ → ℕ → Row
-rowOn w k n = record { word = bytes w; kind = k; numbers = n; more = true }
+abbrev pub rowMore : String → ℕ → ℕ → Row
+rowMore w k n = record { word = bytes w; kind = k; numbers = n; more = true }
 
 unfoldable pub table : List Row
 table =
@@ -99,7 +99,7 @@ table =
     ∷ row "move" Kind.move 3
     ∷ row "resize" Kind.resize 3
     ∷ row "fill" Kind.fill 6
-    ∷ rowOn "blit" Kind.blit 6
+    ∷ rowMore "blit" Kind.blit 6
     ∷ row "keydown" Kind.keydown 1
     ∷ row "keyup" Kind.keyup 1
     ∷ row "keyfire" Kind.keyfire 1
@@ -125,10 +125,10 @@ table =
     ∷ row "contains" Kind.contains 6
     ∷ row "contains-rect" Kind.contains-rect 8
     ∷ row "within" Kind.within 6
-    ∷ rowOn "scanline" Kind.scanline 5
-    ∷ rowOn "fill-scanline" Kind.fill-scanline 6
-    ∷ rowOn "set-scanline" Kind.set-scanline 6
-    ∷ rowOn "region" Kind.region 5
+    ∷ rowMore "scanline" Kind.scanline 5
+    ∷ rowMore "fill-scanline" Kind.fill-scanline 6
+    ∷ rowMore "set-scanline" Kind.set-scanline 6
+    ∷ rowMore "region" Kind.region 5
     ∷ []
 
 abbrev pub sameWord : List ℕ → List ℕ → Bool

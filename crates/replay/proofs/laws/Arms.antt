@@ -1,5 +1,5 @@
 -- The last arm of a match: what is known of a kind that no other arm has.
-use Prim.Native.Nat.{ℕ, zero, suc, _+_, _≤_, _<_}
+use Prim.Native.Nat.{ℕ, zero, suc, _+_, _-_, _≤_, _<_}
 use mathlib.Core.Path.{_≡_, refl}
 use mathlib.Core.Bool.{Bool, true, false, _&&_, _||_}
 use mathlib.Core.List.{List, [], _∷_}
@@ -20,7 +20,7 @@ before : {k j : ℕ} {B : Type 0} (js : List ℕ) → NoneOf k B (j ∷ js) → 
 before [] h = h
 before (i ∷ js) h = before js h .0
 
-pub not-one : (k : ℕ) (B : Type 0) (js : List ℕ) → NoneOf k B js → isOne k js ≡ false
+not-one : (k : ℕ) (B : Type 0) (js : List ℕ) → NoneOf k B js → isOne k js ≡ false
 not-one k B [] h = refl
 not-one k B (j ∷ js) h = rw (ne-eqb k j (before js h .1)) (not-one k (B × (k ≡ j → ⊥)) js h)
 
@@ -29,7 +29,7 @@ abbrev pub run : ℕ → ℕ → List ℕ
 run a zero = []
 run a (suc n) = a ∷ run (suc a) n
 
-pub above-run : (k : ℕ) (B : Type 0) (a n : ℕ) → a ≤ k → NoneOf k B (run a n) → a + n ≤ k
+above-run : (k : ℕ) (B : Type 0) (a n : ℕ) → a ≤ k → NoneOf k B (run a n) → a + n ≤ k
 above-run k B a zero l h = omega arith
 above-run k B a (suc n) l h =
     let d = before (run (suc a) n) h .1 in
@@ -40,6 +40,14 @@ above-run k B a (suc n) l h =
 -- a plain call that is none of the windows' calls routes one
 pub routes-left : (k : ℕ) (B : Type 0) → NoneOf k B (kinds (windowCalls [])) → isPlain k ≡ true → routes k ≡ true
 routes-left k B n p = rw (not-one k B (kinds (windowCalls [])) n) at p
+
+-- an event that is none of the others is `resized`
+pub resized-left : (k : ℕ) (B : Type 0) → routes k ≡ true → NoneOf k B (run Kind.keydown (Kind.resized - Kind.keydown)) → k ≡ Kind.resized
+resized-left k B r n =
+    let low : Kind.keydown ≤ k = leb-true Kind.keydown k (fst (leb Kind.keydown k) (leb k Kind.resized) r) in
+    let high : k ≤ Kind.resized = leb-true k Kind.resized (snd (leb Kind.keydown k) (leb k Kind.resized) r) in
+    let last : Kind.resized ≤ k = above-run k B Kind.keydown (Kind.resized - Kind.keydown) low n in
+    omega arith
 
 -- Pixels and lists -----------------------------------------------------------------------------------------------------
 

@@ -1,14 +1,8 @@
 -- Each arm's event is the one that the kind picks; the kind that is left is `resized`.
 use mathlib.Core.Path.{refl}
-use Prim.Native.Nat.{_≤_}
-use mathlib.Core.Path.{_≡_}
-use lib.Dec.{leb}
-use borrow.Author.Tests.{leb-true}
-use Rattle.geom.proofs.basics.Tests.{fst, snd}
-use Rattle.replay.proofs.laws.Arms.{above-run}
 use native.Mathlib.Omega.{arith}
 use borrow.Author.Needs.{needs}
-use Rattle.script.specs.Kind as Kind
+use Rattle.replay.proofs.laws.Arms.{resized-left}
 use Rattle.replay.proofs.laws.Picked.{event-at}
 use Rattle.replay.proofs.events.event.Statement.{statement}
 use Rattle.replay.proofs.events.event.Tie as tie
@@ -69,13 +63,8 @@ returns-8 c = event-at (c .before .before .match .keys8) (c .before .before .bef
 
 returns-9 : tie.Need-returns-9
 returns-9 c =
-    let k = c .before .before .before .args .line .kind in
-    let in-range = c .before .before .before .pre .1 in
-    let low : Kind.keydown ≤ k = leb-true Kind.keydown k (fst (leb Kind.keydown k) (leb k Kind.resized) in-range) in
-    let high : k ≤ Kind.resized = leb-true k Kind.resized (snd (leb Kind.keydown k) (leb k Kind.resized) in-range) in
-    let last : Kind.resized ≤ k = above-run k _ Kind.keydown 8 low (c .match .rest) in
-    let e : k ≡ Kind.resized = omega (arith, last, high) in
-    event-at e (c .before .before .before .args .ns .now) refl
+    let start = c .before .before .before in
+    event-at (resized-left (start .args .line .kind) _ (start .pre .1) (c .match .rest)) (start .args .ns .now) refl
 
 pub event-spec : {M : Type 1} → statement M
 event-spec =
