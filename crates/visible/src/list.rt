@@ -3,9 +3,11 @@ ghost use mathlib.Core.Path.{_≡_};
 ghost use mathlib.Core.List.{[], _∷_, _++_, map};
 ghost use Prim.Native.Nat.{_+_, _*_, _≤_};
 ghost use lib.ListN.{length, drop};
+ghost use lib.Dec.{leb};
 ghost use lib.Seq.{sets};
 ghost use Rattle.geom.specs.Inner.{Fits, Within};
 ghost use Rattle.geom.specs.Lists.{outsideAll, relative, numbers};
+ghost use Rattle.geom.specs.Lists as rule;
 ghost use Rattle.rules.specs.Visible.{rectsOf};
 ghost use Rattle.visible.specs.Lent.{Lent};
 ghost use Rattle.visible.specs.Seen.{seen};
@@ -33,6 +35,26 @@ pub fn count(at: Rect, above: &[u32], n: usize) -> usize
         i += 1;
     }
     sum
+}
+
+// The most parts that n rectangles can leave.
+fn most(n: usize) -> usize
+    requires { ⌜ n ≤ 16 ⌝ }
+    ensures { λ r. ⌜ r ≡ rule.most n ⌝ }
+{
+    (n + 1) * (2 * n + 1)
+}
+
+// Do `len` numbers hold the visible list? It is counted only where they do not hold the most parts that there can be.
+pub fn has_room(at: Rect, above: &[u32], n: usize, len: usize) -> bool
+    requires { ⌜ Fits at × Lent n (now above) × (n ≤ 16) ⌝ }
+    ensures { λ t. ⌜ t ≡ leb (4 * length (outsideAll (at ∷ []) (rectsOf n (now (above .entry))))) len ⌝ }
+{
+    let places = len / 4;
+    if most(n) <= places {
+        return true;
+    }
+    count(at, above, n) <= places
 }
 
 // Writes the four numbers of a rectangle.

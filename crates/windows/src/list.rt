@@ -24,9 +24,8 @@ impl Session {
         let above = rects::from(self, p.next());
         let numbers = above.numbers;
         let n = above.len;
-        let count = visible::list::count(r, &numbers, n);
-        if count <= list.len() / 4 {
-            visible::list::list(r, &numbers, n, list);
+        if visible::list::has_room(r, &numbers, n, list.len()) {
+            let count = visible::list::list(r, &numbers, n, list);
             return Listing { answer: 0, count };
         }
         Listing {

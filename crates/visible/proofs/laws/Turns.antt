@@ -1,13 +1,16 @@
 -- One turn of each loop over the parts: what it did, and what is left gives the same as before.
-use Prim.Native.Nat.{ℕ, suc, _+_, _*_, _≤_, _<_}
+use Prim.Native.Nat.{ℕ, suc, _+_, _*_, _/_, _≤_, _<_}
 use mathlib.Core.Path.{_≡_, refl, sym, ap, _∙_}
+use mathlib.Core.Bool.{true}
 use mathlib.Core.List.{List, [], _∷_, _++_}
 use native.Mathlib.Omega.{arith}
 use native.Mathlib.Nat.{mul-le-mul-left, le-trans, add-zero, add-suc, suc-add}
+use lib.Dec.{leb}
 use lib.ListN.{length, getD, set, length-append}
 use lib.Seq.{sets}
 use Rattle.geom.specs.declared.Rect.{Rect}
 use Rattle.geom.specs.Lists.{outsideAll, numbers, most}
+use Rattle.geom.proofs.basics.Tests.{says-le, passes, same}
 use Rattle.geom.proofs.geometry.Bound.{outsideAll-few}
 use Rattle.rules.specs.Visible.{rectsOf}
 use Rattle.visible.specs.declared.region.View.{View}
@@ -18,13 +21,24 @@ use Rattle.visible.proofs.laws.Parts.{nowhere, rest, rest-next, rest-no
 use Rattle.visible.proofs.laws.Regions.{seen-next, seen-none, regions-next, regions-none, drawn-append, drawn-none}
 
 -- at most 561 parts are seen under 16 rectangles
-most-small : (n : ℕ) → n ≤ 16 → most n ≤ 561
+pub most-small : (n : ℕ) → n ≤ 16 → most n ≤ 561
 most-small n h =
     let k : 2 * n + 1 ≤ 33 = omega arith in
     omega (arith, mul-le-mul-left (n + 1) k)
 
+pub at-most : (a : Rect) (n : ℕ) (l : List ℕ) → length (outsideAll (a ∷ []) (rectsOf n l)) ≤ most n
+at-most a n l = rw (length-rects n l) at (outsideAll-few a (rectsOf n l))
+
 pub few-parts : (a : Rect) (n : ℕ) (l : List ℕ) → n ≤ 16 → length (outsideAll (a ∷ []) (rectsOf n l)) ≤ 561
-few-parts a n l h = le-trans (outsideAll-few a (rectsOf n l)) (rw (length-rects n l) (most-small n h))
+few-parts a n l h = le-trans (at-most a n l) (most-small n h)
+
+-- a list of `len` numbers has places for n rectangles, four numbers each
+pub places : (n len : ℕ) → leb n (len / 4) ≡ leb (4 * n) len
+places n len = same (says-le n (len / 4)) (says-le (4 * n) len) (λ h. omega arith) (λ h. omega arith)
+
+pub places-most : (a : Rect) (n : ℕ) (l : List ℕ) (m len : ℕ) → m ≡ most n → m ≤ len / 4
+    → true ≡ leb (4 * length (outsideAll (a ∷ []) (rectsOf n l))) len
+places-most a n l m len e h = passes (says-le (4 * length (outsideAll (a ∷ []) (rectsOf n l))) len) (omega (arith, at-most a n l))
 
 -- Numbers ------------------------------------------------------------------------------------------------------------
 

@@ -1,13 +1,13 @@
 -- The visible list of a window: the rule's list is what is left of its rectangle outside those that are lent.
 use Prim.Native.Nat.{ℕ, suc, _+_, _*_, _≤_, _<_}
 use mathlib.Core.Path.{_≡_, sym, ap, ap₂, subst, _∙_}
-use mathlib.Core.Bool.{true, false}
+use mathlib.Core.Bool.{Bool, true, false}
 use mathlib.Core.List.{List, [], _∷_, _++_, map}
 use mathlib.Core.Option.{none, some}
 use native.Mathlib.Omega.{arith}
 use lib.Dec.{leb}
 use lib.ListN.{length, drop, length-map}
-use borrow.Author.Tests.{le-leb, lt-leb}
+use borrow.Author.Tests.{le-leb}
 use Rattle.geom.specs.declared.Rect.{Rect}
 use Rattle.geom.specs.Inner.{Fits}
 use Rattle.geom.specs.Lists.{outsideAll, relative, numbers}
@@ -56,30 +56,33 @@ module _ (s : Session) (h : Given s) (id p : ℕ) (at : some p ≡ renderIdx id 
       small-fits : {q : Rect} → Small q → Fits q
       small-fits k = omega arith
 
-  module _ (r : Rect) (frame : r ≡ rectOf (windowAt s id .at)) (bs : List Rect) (same : bs ≡ higher s (suc p))
-      (n : ℕ) (count : n ≡ length (outsideAll (r ∷ []) bs)) (before : List ℕ) where
+  module _ (r : Rect) (frame : r ≡ rectOf (windowAt s id .at)) (bs : List Rect) (same : bs ≡ higher s (suc p)) (before : List ℕ) where
     list : visible (group s) id ≡ map (relative r) (outsideAll (r ∷ []) bs)
     list = visible-is s id p r (is-shown s h id p at) (sym (used-at s id) ∙ in-use) behind frame ∙ ap (λ (l : List Rect). map (relative r) (outsideAll (r ∷ []) l)) (sym same)
 
-    long : length (visible (group s) id) ≡ n
-    long = ap length list ∙ length-map (outsideAll (r ∷ []) bs) (relative r) ∙ sym count
+    long : length (visible (group s) id) ≡ length (outsideAll (r ∷ []) bs)
+    long = ap length list ∙ length-map (outsideAll (r ∷ []) bs) (relative r)
 
-    pub listed : (m : ℕ) (after : List ℕ) → 4 * n ≤ length before → m ≡ length (outsideAll (r ∷ []) bs)
-        → after ≡ numbers (map (relative r) (outsideAll (r ∷ []) bs)) ++ drop (4 * m) before → Lists (group s) id before (listing 0 n) after
+    -- question 9
+    room : (t : Bool) → t ≡ leb (4 * length (outsideAll (r ∷ []) bs)) (length before) → leb (4 * length (visible (group s) id)) (length before) ≡ t
+    room t e = rw long (sym e)
+
+    pub listed : (n : ℕ) (after : List ℕ) → true ≡ leb (4 * length (outsideAll (r ∷ []) bs)) (length before) → n ≡ length (outsideAll (r ∷ []) bs)
+        → after ≡ numbers (map (relative r) (outsideAll (r ∷ []) bs)) ++ drop (4 * n) before → Lists (group s) id before (listing 0 n) after
     unfolding visibleList
-    listed m after room k e =
-        let f : leb (4 * length (visible (group s) id)) (length before) ≡ true = rw long (le-leb (4 * n) (length before) room) in
-        let q : m ≡ n = k ∙ sym count in
+    listed n after t k e =
+        let f = room true t in
+        let q : n ≡ length (visible (group s) id) = k ∙ sym long in
         record {
           answer = rw (in-use, f);
-          count = rw (in-use, f) (sym long);
-          list = rw (in-use, f, long) (e ∙ ap₂ (λ (rs : List Rect) (o : ℕ). numbers rs ++ drop (4 * o) before) (sym list) q);
+          count = rw (in-use, f) q;
+          list = rw (in-use, f) (e ∙ ap₂ (λ (rs : List Rect) (o : ℕ). numbers rs ++ drop (4 * o) before) (sym list) q);
         }
 
-    pub no-room : length before < 4 * n → Lists (group s) id before (listing 9 0) before
+    pub no-room : false ≡ leb (4 * length (outsideAll (r ∷ []) bs)) (length before) → Lists (group s) id before (listing 9 0) before
     unfolding visibleList
-    no-room room =
-        let f : leb (4 * length (visible (group s) id)) (length before) ≡ false = rw long (lt-leb (4 * n) (length before) room) in
+    no-room t =
+        let f = room false t in
         record { answer = rw (in-use, f); count = rw (in-use, f); list = rw (in-use, f) }
 
 -- Any other window -----------------------------------------------------------------------------------------------------

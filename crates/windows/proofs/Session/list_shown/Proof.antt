@@ -1,7 +1,8 @@
--- The list is counted, and written if there is room for it.
+-- The list is written if there is room for it.
 use Prim.Native.Nat.{suc}
-use mathlib.Core.Path.{_≡_, ap, _∙_}
+use mathlib.Core.Path.{_≡_, sym, ap, _∙_}
 use native.Mathlib.Omega.{arith}
+use borrow.Author.Tests.{leb-true}
 use Rattle.windows.proofs.laws.Rects.{lends}
 use Rattle.windows.proofs.laws.Places.{in-order}
 use Rattle.windows.proofs.laws.Above.{higher, higher-next}
@@ -35,11 +36,11 @@ next-requires c κs = omega (arith, in-order _ (c .before .before .before .befor
 from-requires : tie.Need-from-requires
 from-requires c κs = (c .before .before .before .before .before .before .pre .0, omega (arith, c .next .ensures, in-order _ (c .before .before .before .before .before .before .pre .0) _ _ (c .before .before .before .before .before .before .pre .1)))
 
-slice-aggregate-count : tie.Need-slice-aggregate-count
-slice-aggregate-count c = search needs
+slice-aggregate-has-room : tie.Need-slice-aggregate-has-room
+slice-aggregate-has-room c = search needs
 
-count-requires : tie.Need-count-requires
-count-requires c κs =
+has-room-requires : tie.Need-has-room-requires
+has-room-requires c κs =
     let s = c .before .before .before .before .before .before .before .before .before in
     let f = c .before .before .from .ensures in
     (frame-fits _ (s .pre .0) _ _ (s .pre .1) _ (c .before .before .before .before .rect .ensures), lends _ _ f, omega (arith, f .few, f .count))
@@ -50,7 +51,7 @@ slice-aggregate-list c = search needs
 list-requires : tie.Need-list-requires
 list-requires c κs =
     let s = c .before .before .before .before .before .before .before .before .before .before .before .before .before in
-    ((frame-fits _ (s .pre .0) _ _ (s .pre .1) _ (c .before .before .before .before .before .before .before .before .rect .ensures), lends _ _ (c .before .before .before .before .before .before .from .ensures)), omega (arith, c .before .before .before .count .ensures, c .before .before .if1 .taken))
+    ((frame-fits _ (s .pre .0) _ _ (s .pre .1) _ (c .before .before .before .before .before .before .before .before .rect .ensures), lends _ _ (c .before .before .before .before .before .before .from .ensures)), leb-true _ _ (sym (c .before .before .before .has-room .ensures) ∙ c .before .before .if1 .taken))
 
 same-length : tie.Need-same-length
 same-length c = search needs
@@ -59,12 +60,12 @@ returns : tie.Need-returns
 returns c =
     let s = c .before .before .before .before .before .before .before .before .before .before .before .before .before .before .before .before in
     let l = c .before .before .list .ensures in
-    listed _ (s .pre .0) _ _ (s .pre .1) _ (c .before .before .before .before .before .before .before .before .before .before .before .rect .ensures) _ (lent (c .before .before .before .before .before .before .before .before .before)) _ (c .before .before .before .before .before .before .count .ensures) _ _ _ (omega (arith, c .before .before .before .before .before .if1 .taken)) (l .0) (l .1)
+    listed _ (s .pre .0) _ _ (s .pre .1) _ (c .before .before .before .before .before .before .before .before .before .before .before .rect .ensures) _ (lent (c .before .before .before .before .before .before .before .before .before)) _ _ _ (sym (c .before .before .before .before .before .if1 .taken) ∙ c .before .before .before .before .before .before .has-room .ensures) (l .0) (l .1)
 
 returns-2 : tie.Need-returns-2
 returns-2 c =
     let s = c .before .before .before .before .before .before .before .before .before .before .before in
-    no-room _ (s .pre .0) _ _ (s .pre .1) _ (c .before .before .before .before .before .before .rect .ensures) _ (lent (c .before .before .before .before)) _ (c .before .count .ensures) _ (omega (arith, c .if1 .left))
+    no-room _ (s .pre .0) _ _ (s .pre .1) _ (c .before .before .before .before .before .before .rect .ensures) _ (lent (c .before .before .before .before)) _ (sym (c .if1 .left) ∙ c .before .has-room .ensures)
 
 pub list-shown-spec : {M : Type 1} → statement M
 list-shown-spec =
@@ -76,8 +77,8 @@ list-shown-spec =
     rect-requires
     next-requires
     from-requires
-    slice-aggregate-count
-    count-requires
+    slice-aggregate-has-room
+    has-room-requires
     slice-aggregate-list
     list-requires
     same-length
