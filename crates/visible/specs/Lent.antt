@@ -23,7 +23,8 @@ pub record Lent (n : ℕ) (l : List ℕ) : Type 0 where
   pub room : 4 * n ≤ length l
   pub fit : AllFit (rectsOf n l)
 
--- the first k of them leave r whole
-pub record Missed (r : Rect) (n : ℕ) (l : List ℕ) (k : ℕ) : Type 0 where
+-- those from the i-th on and before the k-th leave r whole
+pub record Missed (r : Rect) (n : ℕ) (l : List ℕ) (i k : ℕ) : Type 0 where
+  pub from : i ≤ k
   pub few : k ≤ n
-  pub same : outsideAll (r ∷ []) (drop k (rectsOf n l)) ≡ outsideAll (r ∷ []) (rectsOf n l)
+  pub same : outsideAll (r ∷ []) (drop k (rectsOf n l)) ≡ outsideAll (r ∷ []) (drop i (rectsOf n l))

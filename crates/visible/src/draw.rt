@@ -2,8 +2,8 @@
 ghost use mathlib.Core.Path.{_≡_};
 ghost use mathlib.Core.List.{[], _∷_, map};
 ghost use Prim.Native.Nat.{_+_, _*_, _≤_};
-ghost use lib.ListN.{length};
-ghost use Rattle.geom.specs.Geom.{width, height};
+ghost use lib.ListN.{length, drop};
+ghost use Rattle.geom.specs.Geom.{width, height, ifAny};
 ghost use Rattle.geom.specs.Inner.{Fits, Within};
 ghost use Rattle.geom.specs.Lists.{outsideAll, relative, meetsOf, listIntersect};
 ghost use Rattle.window.specs.Held.{Small};
@@ -11,12 +11,13 @@ ghost use Rattle.rules.specs.Visible.{rectsOf};
 ghost use Rattle.rules.specs.Redraw.{drawRegions};
 ghost use Rattle.visible.specs.Lent.{Lent};
 ghost use Rattle.visible.specs.Seen.{Drawable, own, drawn, regions};
+use crate::around;
 use crate::rects;
 use crate::region::View;
 use crate::region::draw_region;
 use geom::Intersection;
 use geom::Rect;
-use geom::inner::pieces;
+use geom::inner;
 
 // Draws what a region has in common with a dirty entry.
 fn draw_common(view: View, r: Rect, entry: Rect, store: &[u32], screen: &mut [u32])
@@ -49,43 +50,93 @@ fn draw_part(view: View, part: Rect, dirty: &[u32], m: usize, store: &[u32], scr
     draw_dirty(view, r, dirty, m, store, screen);
 }
 
-// Draws what is seen of `part`, a part of the window.
+// Draws what the rectangles from the i-th of the n on leave of `part`, a part of the window.
 fn draw_seen(
     view: View,
     part: Rect,
     above: &[u32],
+    i: usize,
     n: usize,
     dirty: &[u32],
     m: usize,
     store: &[u32],
     screen: &mut [u32],
 )
-    requires { ⌜ Drawable view (now store) (now screen) × Within (view .at) part × Lent n (now above) × Lent m (now dirty) ⌝ }
-    ensures { λ _. ⌜ now (screen .exit) ≡ drawn view (now (store .entry)) (regions (view .at) (part ∷ []) (rectsOf n (now (above .entry))) (rectsOf m (now (dirty .entry)))) (now (screen .entry)) ⌝ }
+    requires { ⌜ Drawable view (now store) (now screen) × Within (view .at) part × (Lent n (now above) × (i ≤ n)) × Lent m (now dirty) ⌝ }
+    ensures { λ _. ⌜ now (screen .exit) ≡ drawn view (now (store .entry)) (regions (view .at) (part ∷ []) (drop i (rectsOf n (now (above .entry)))) (rectsOf m (now (dirty .entry)))) (now (screen .entry)) ⌝ }
 {
-    let k = rects::misses(part, above, n);
+    let k = rects::first_met(part, above, i, n);
     if k == n {
         draw_part(view, part, dirty, m, store, screen);
         return;
     }
-    let p = pieces::outside(part, rects::rect_at(above, k));
-    let parts = p.rects;
-    let len = p.count;
-    let next = 4 * (k + 1);
-    let mut i: usize = 0;
-    while i < len {
-        draw_seen(
-            view,
-            parts[i],
-            &above[next..],
-            n - k - 1,
-            dirty,
-            m,
-            store,
-            screen,
-        );
-        i += 1;
+    let both = inner::common(part, rects::rect_at(above, k));
+    let next = k + 1;
+    draw_piece(
+        view,
+        around::above(part, both),
+        above,
+        next,
+        n,
+        dirty,
+        m,
+        store,
+        screen,
+    );
+    draw_piece(
+        view,
+        around::left(part, both),
+        above,
+        next,
+        n,
+        dirty,
+        m,
+        store,
+        screen,
+    );
+    draw_piece(
+        view,
+        around::right(part, both),
+        above,
+        next,
+        n,
+        dirty,
+        m,
+        store,
+        screen,
+    );
+    draw_piece(
+        view,
+        around::below(part, both),
+        above,
+        next,
+        n,
+        dirty,
+        m,
+        store,
+        screen,
+    );
+}
+
+// The same of a piece, which may have no pixel.
+fn draw_piece(
+    view: View,
+    piece: Rect,
+    above: &[u32],
+    i: usize,
+    n: usize,
+    dirty: &[u32],
+    m: usize,
+    store: &[u32],
+    screen: &mut [u32],
+)
+    requires { ⌜ Drawable view (now store) (now screen) × Within (view .at) piece × (Lent n (now above) × (i ≤ n)) × Lent m (now dirty) ⌝ }
+    ensures { λ _. ⌜ now (screen .exit) ≡ drawn view (now (store .entry)) (regions (view .at) (ifAny piece) (drop i (rectsOf n (now (above .entry)))) (rectsOf m (now (dirty .entry)))) (now (screen .entry)) ⌝ }
+{
+    if inner::is_empty(piece) {
+        return;
     }
+    draw_seen(view, piece, above, i, n, dirty, m, store, screen)
 }
 
 // Draws what is seen of a window at `at`, under n rectangles, where it is dirty. Its pixels begin at `base` of the store.
@@ -107,5 +158,5 @@ pub fn draw(
     ensures { λ _. ⌜ now (screen .exit) ≡ drawRegions at base (now (store .entry)) sw sh (listIntersect (map (relative at) (outsideAll (at ∷ []) (rectsOf n (now (above .entry))))) (rectsOf m (now (dirty .entry)))) (now (screen .entry)) ⌝ }
 {
     let view = View { at, base, sw, sh };
-    draw_seen(view, at, above, n, dirty, m, store, screen)
+    draw_seen(view, at, above, 0, n, dirty, m, store, screen)
 }

@@ -2,7 +2,8 @@
 //
 // The rectangles of the higher windows are lent as numbers, four for each: x, y, w, h. No list of parts is stored: each part of
 // the window goes through the higher windows by itself, depth first, which gives the same list in the same order. Rectangles that
-// do not meet the part are passed over in a loop; the first that meets it splits it.
+// do not meet the part are passed over in a loop; the first that meets it splits it, and each piece that has a pixel goes on by itself.
+pub mod around;
 pub mod draw;
 pub mod list;
 pub mod rects;

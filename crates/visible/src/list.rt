@@ -5,36 +5,53 @@ ghost use Prim.Native.Nat.{_+_, _*_, _≤_};
 ghost use lib.ListN.{length, drop};
 ghost use lib.Dec.{leb};
 ghost use lib.Seq.{sets};
+ghost use Rattle.geom.specs.Geom.{ifAny};
 ghost use Rattle.geom.specs.Inner.{Fits, Within};
 ghost use Rattle.geom.specs.Lists.{outsideAll, relative, numbers};
 ghost use Rattle.geom.specs.Lists as rule;
 ghost use Rattle.rules.specs.Visible.{rectsOf};
 ghost use Rattle.visible.specs.Lent.{Lent};
 ghost use Rattle.visible.specs.Seen.{seen};
+use crate::around;
 use crate::rects;
 use geom::Rect;
-use geom::inner::pieces;
+use geom::inner;
+
+// How many parts of `part` lie outside the rectangles from the i-th of the n on.
+fn count_seen(part: Rect, above: &[u32], i: usize, n: usize) -> usize
+    requires { ⌜ Fits part × Lent n (now above) × (i ≤ n) × (n ≤ 16) ⌝ }
+    ensures { λ r. ⌜ r ≡ length (outsideAll (part ∷ []) (drop i (rectsOf n (now (above .entry))))) ⌝ }
+{
+    let k = rects::first_met(part, above, i, n);
+    if k == n {
+        return 1;
+    }
+    let both = inner::common(part, rects::rect_at(above, k));
+    let next = k + 1;
+    let a = count_piece(around::above(part, both), above, next, n);
+    let l = count_piece(around::left(part, both), above, next, n);
+    let r = count_piece(around::right(part, both), above, next, n);
+    let b = count_piece(around::below(part, both), above, next, n);
+    a + l + r + b
+}
+
+// The same of a piece, which may have no pixel.
+fn count_piece(piece: Rect, above: &[u32], i: usize, n: usize) -> usize
+    requires { ⌜ Fits piece × Lent n (now above) × (i ≤ n) × (n ≤ 16) ⌝ }
+    ensures { λ r. ⌜ r ≡ length (outsideAll (ifAny piece) (drop i (rectsOf n (now (above .entry))))) ⌝ }
+{
+    if inner::is_empty(piece) {
+        return 0;
+    }
+    count_seen(piece, above, i, n)
+}
 
 // How many parts of `at` lie outside the n rectangles above it.
 pub fn count(at: Rect, above: &[u32], n: usize) -> usize
     requires { ⌜ Fits at × Lent n (now above) × (n ≤ 16) ⌝ }
     ensures { λ r. ⌜ r ≡ length (outsideAll (at ∷ []) (rectsOf n (now (above .entry)))) ⌝ }
 {
-    let k = rects::misses(at, above, n);
-    if k == n {
-        return 1;
-    }
-    let p = pieces::outside(at, rects::rect_at(above, k));
-    let parts = p.rects;
-    let len = p.count;
-    let next = 4 * (k + 1);
-    let mut sum: usize = 0;
-    let mut i: usize = 0;
-    while i < len {
-        sum += count(parts[i], &above[next..], n - k - 1);
-        i += 1;
-    }
-    sum
+    count_seen(at, above, 0, n)
 }
 
 // The most parts that n rectangles can leave.
@@ -69,30 +86,54 @@ fn put(out: &mut [u32], place: usize, r: Rect)
     out[at + 3] = r.dims.h;
 }
 
-// Writes what is seen of `part`, a part of the window at `at`, from the given place of the list on; returns the place after it.
-// A place holds four numbers.
-fn write(part: Rect, at: Rect, above: &[u32], n: usize, out: &mut [u32], place: usize) -> usize
-    requires { ⌜ Fits at × Within at part × Lent n (now above) ⌝ }
-    requires { ⌜ 4 * (place + length (seen at (part ∷ []) (rectsOf n (now above)))) ≤ length (now out) ⌝ }
-    ensures { λ r. ⌜ r ≡ place + length (seen at (part ∷ []) (rectsOf n (now (above .entry)))) ⌝ }
-    ensures { λ _. ⌜ now (out .exit) ≡ sets (now (out .entry)) (4 * place) (numbers (seen at (part ∷ []) (rectsOf n (now (above .entry))))) ⌝ }
+// Writes what the rectangles from the i-th of the n on leave of `part`, a part of the window at `at`, from the given place of the
+// list on; returns the place after it. A place holds four numbers.
+fn write(
+    part: Rect,
+    at: Rect,
+    above: &[u32],
+    i: usize,
+    n: usize,
+    out: &mut [u32],
+    place: usize,
+) -> usize
+    requires { ⌜ Fits at × Within at part × Lent n (now above) × (i ≤ n) ⌝ }
+    requires { ⌜ 4 * (place + length (seen at (part ∷ []) (drop i (rectsOf n (now above))))) ≤ length (now out) ⌝ }
+    ensures { λ r. ⌜ r ≡ place + length (seen at (part ∷ []) (drop i (rectsOf n (now (above .entry))))) ⌝ }
+    ensures { λ _. ⌜ now (out .exit) ≡ sets (now (out .entry)) (4 * place) (numbers (seen at (part ∷ []) (drop i (rectsOf n (now (above .entry)))))) ⌝ }
 {
-    let k = rects::misses(part, above, n);
+    let k = rects::first_met(part, above, i, n);
     if k == n {
         put(out, place, rects::relative(at, part));
         return place + 1;
     }
-    let p = pieces::outside(part, rects::rect_at(above, k));
-    let parts = p.rects;
-    let len = p.count;
-    let next = 4 * (k + 1);
-    let mut to = place;
-    let mut i: usize = 0;
-    while i < len {
-        to = write(parts[i], at, &above[next..], n - k - 1, out, to);
-        i += 1;
+    let both = inner::common(part, rects::rect_at(above, k));
+    let next = k + 1;
+    let mut to = write_piece(around::above(part, both), at, above, next, n, out, place);
+    to = write_piece(around::left(part, both), at, above, next, n, out, to);
+    to = write_piece(around::right(part, both), at, above, next, n, out, to);
+    write_piece(around::below(part, both), at, above, next, n, out, to)
+}
+
+// The same of a piece, which may have no pixel.
+fn write_piece(
+    piece: Rect,
+    at: Rect,
+    above: &[u32],
+    i: usize,
+    n: usize,
+    out: &mut [u32],
+    place: usize,
+) -> usize
+    requires { ⌜ Fits at × Within at piece × Lent n (now above) × (i ≤ n) ⌝ }
+    requires { ⌜ 4 * (place + length (seen at (ifAny piece) (drop i (rectsOf n (now above))))) ≤ length (now out) ⌝ }
+    ensures { λ r. ⌜ r ≡ place + length (seen at (ifAny piece) (drop i (rectsOf n (now (above .entry))))) ⌝ }
+    ensures { λ _. ⌜ now (out .exit) ≡ sets (now (out .entry)) (4 * place) (numbers (seen at (ifAny piece) (drop i (rectsOf n (now (above .entry)))))) ⌝ }
+{
+    if inner::is_empty(piece) {
+        return place;
     }
-    to
+    write(piece, at, above, i, n, out, place)
 }
 
 // Writes the visible list of a window at `at` under n rectangles, relative to the window; returns how many rectangles it has.
@@ -102,5 +143,5 @@ pub fn list(at: Rect, above: &[u32], n: usize, out: &mut [u32]) -> usize
     ensures { λ r. ⌜ r ≡ length (outsideAll (at ∷ []) (rectsOf n (now (above .entry)))) ⌝ }
     ensures { λ r. ⌜ now (out .exit) ≡ numbers (map (relative at) (outsideAll (at ∷ []) (rectsOf n (now (above .entry))))) ++ drop (4 * r) (now (out .entry)) ⌝ }
 {
-    write(at, at, above, n, out, 0)
+    write(at, at, above, 0, n, out, 0)
 }

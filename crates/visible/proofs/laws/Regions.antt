@@ -8,14 +8,14 @@ use Rattle.geom.specs.Lists.{outsideAll, relative, meetsOf, listIntersect}
 use Rattle.rules.specs.Redraw.{drawRegion}
 use Rattle.visible.specs.declared.region.View.{View}
 use Rattle.visible.specs.Seen.{seen, regions, drawn}
-use Rattle.visible.proofs.laws.Depth.{outsideAll-next, outsideAll-none, outsideAll-end}
+use Rattle.visible.proofs.laws.Depth.{outsideAll-append, outsideAll-none, outsideAll-end}
 
 -- The visible list ---------------------------------------------------------------------------------------------------
 
 module _ (at : Rect) where
-  pub seen-next : (p : Rect) (ps bs : List Rect) → seen at (p ∷ ps) bs ≡ seen at (p ∷ []) bs ++ seen at ps bs
+  pub seen-append : (bs xs ys : List Rect) → seen at (xs ++ ys) bs ≡ seen at xs bs ++ seen at ys bs
   unfolding seen
-  seen-next p ps bs = ap (map (relative at)) (outsideAll-next p ps bs) ∙ map-append (relative at) (outsideAll (p ∷ []) bs) (outsideAll ps bs)
+  seen-append bs xs ys = ap (map (relative at)) (outsideAll-append xs ys bs) ∙ map-append (relative at) (outsideAll xs bs) (outsideAll ys bs)
 
   pub seen-none : (bs : List Rect) → seen at [] bs ≡ []
   unfolding seen
@@ -37,10 +37,10 @@ intersect-append [] ys ds = refl
 intersect-append (x ∷ xs) ys ds = rw (intersect-append xs ys ds, append-assoc)
 
 module _ (at : Rect) where
-  pub regions-next : (p : Rect) (ps bs ds : List Rect) → regions at (p ∷ ps) bs ds ≡ regions at (p ∷ []) bs ds ++ regions at ps bs ds
+  pub regions-append : (bs ds xs ys : List Rect) → regions at (xs ++ ys) bs ds ≡ regions at xs bs ds ++ regions at ys bs ds
   unfolding regions
-  regions-next p ps bs ds =
-      ap (λ (rs : List Rect). listIntersect rs ds) (seen-next at p ps bs) ∙ intersect-append (seen at (p ∷ []) bs) (seen at ps bs) ds
+  regions-append bs ds xs ys =
+      ap (λ (rs : List Rect). listIntersect rs ds) (seen-append at bs xs ys) ∙ intersect-append (seen at xs bs) (seen at ys bs) ds
 
   pub regions-none : (bs ds : List Rect) → regions at [] bs ds ≡ []
   unfolding regions listIntersect

@@ -1,35 +1,36 @@
 -- A part under the rectangles: those that it does not meet leave it whole, and the first that it meets splits it into pieces.
-use Prim.Native.Nat.{ℕ, _+_, _-_, _*_, _≤_, _<_, zero-le}
+use Prim.Native.Nat.{ℕ, _+_, _-_, _*_, _≤_, _<_}
 use mathlib.Core.Path.{_≡_, refl, sym, ap, subst, _∙_}
-use mathlib.Core.Bool.{false}
+use mathlib.Core.Bool.{true, false}
 use mathlib.Core.List.{List, [], _∷_, _++_, map}
 use native.Mathlib.Nat.{zero-add}
 use native.Mathlib.Omega.{arith}
-use lib.ListN.{length, drop, getD, drop-of-length-le}
+use lib.ListN.{length, drop, drop-of-length-le}
 use lib.Seq.{sets, sets-eq}
 use Rattle.geom.specs.declared.Rect.{Rect}
-use Rattle.geom.specs.declared.Pieces.{Pieces}
-use Rattle.geom.specs.Geom.{meets, pieces}
+use Rattle.geom.specs.Geom.{isEmpty, meets, common, ifAny, pieceAbove, pieceLeft, pieceRight, pieceBelow, around}
 use Rattle.geom.specs.Inner.{Within}
-use Rattle.geom.specs.Bare.{Holds}
 use Rattle.geom.specs.Lists.{outsideAll, relative, numbers}
+use Rattle.geom.proofs.geometry.Facts.{says-meet, common-within}
 use Rattle.rules.specs.Visible.{rectsOf}
 use Rattle.visible.specs.Lent.{rectAt, Missed}
-use Rattle.visible.specs.Seen.{seen, regions}
-use Rattle.visible.proofs.laws.Numbers.{length-rects, rects-next, behind, rects-split}
-use Rattle.visible.proofs.laws.Depth.{outsideAll-end, outsideAll-first, outsideAll-miss}
-use Rattle.visible.proofs.laws.Parts.{nowhere, rest, rest-all, enough, piece-within}
-use Rattle.visible.proofs.laws.Regions.{seen-end, length-seen, regions-same}
-use Rattle.visible.proofs.laws.Turns.{length-numbers}
+use Rattle.visible.specs.declared.region.View.{View}
+use Rattle.visible.specs.Seen.{seen, regions, drawn}
+use Rattle.visible.proofs.laws.Numbers.{length-rects, rects-next}
+use Rattle.visible.proofs.laws.Depth.{outsideAll-append, outsideAll-end, outsideAll-miss, outsideAll-met, four}
+use Rattle.visible.proofs.laws.Parts.{above-within, left-within, right-within, below-within}
+use Rattle.visible.proofs.laws.Regions.{seen-append, seen-end, length-seen, regions-same, regions-append}
+use Rattle.visible.proofs.laws.Turns.{length-numbers, length-four, Written, written-both, drawn-both}
 
 -- Rectangles that are missed -------------------------------------------------------------------------------------------
 
-module _ (a : Rect) (n : ℕ) (l : List ℕ) where
-  pub missed-none : Missed a n l 0
-  missed-none = record { few = zero-le; same = refl }
+module _ (a : Rect) (n : ℕ) (l : List ℕ) (i : ℕ) where
+  pub missed-none : i ≤ n → Missed a n l i i
+  missed-none h = record { from = omega arith; few = h; same = refl }
 
-  pub missed-next : (b : Rect) (k : ℕ) → k < n → b ≡ rectAt l k → meets a b ≡ false → Missed a n l k → Missed a n l (k + 1)
+  pub missed-next : (b : Rect) (k : ℕ) → k < n → b ≡ rectAt l k → meets a b ≡ false → Missed a n l i k → Missed a n l i (k + 1)
   missed-next b k h e m s = record {
+    from = omega (arith, s .from);
     few = omega arith;
     same =
         sym (outsideAll-miss a (rectAt l k) (drop (k + 1) (rectsOf n l)) (ap (meets a) (sym e) ∙ m))
@@ -37,69 +38,164 @@ module _ (a : Rect) (n : ℕ) (l : List ℕ) where
         ∙ s .same;
   }
 
-  pub missed-more : (k : ℕ) → Missed a n l k → (k ≡ n → ⊥) → k < n
+  pub missed-more : (k : ℕ) → Missed a n l i k → (k ≡ n → ⊥) → k < n
   missed-more k s ne = omega (arith, s .few)
 
   -- the part is left whole
-  module _ (k : ℕ) (s : Missed a n l k) (e : k ≡ n) where
-    missed-all : outsideAll (a ∷ []) (rectsOf n l) ≡ a ∷ []
+  module _ (k : ℕ) (s : Missed a n l i k) (e : k ≡ n) where
+    missed-all : outsideAll (a ∷ []) (drop i (rectsOf n l)) ≡ a ∷ []
     missed-all =
         sym (s .same)
         ∙ ap (outsideAll (a ∷ [])) (drop-of-length-le (rectsOf n l) {i = k} (omega (arith, length-rects n l)))
         ∙ outsideAll-end (a ∷ [])
 
-    pub count-leaf : 1 ≡ length (outsideAll (a ∷ []) (rectsOf n l))
+    pub count-leaf : 1 ≡ length (outsideAll (a ∷ []) (drop i (rectsOf n l)))
     count-leaf = sym (ap length missed-all)
 
-    pub seen-leaf : (at : Rect) → seen at (a ∷ []) (rectsOf n l) ≡ relative at a ∷ []
+    pub seen-leaf : (at : Rect) → seen at (a ∷ []) (drop i (rectsOf n l)) ≡ relative at a ∷ []
     unfolding seen
     seen-leaf at = ap (map (relative at)) missed-all
 
-    pub written-leaf : (at r : Rect) (out out′ : List ℕ) (i : ℕ) → r ≡ relative at a → out′ ≡ sets out (4 * i) (numbers (r ∷ []))
-        → (i + 1 ≡ i + length (seen at (a ∷ []) (rectsOf n l))) × (out′ ≡ sets out (4 * i) (numbers (seen at (a ∷ []) (rectsOf n l))))
-    written-leaf at r out out′ i er eo = (
-      ap (λ (rs : List Rect). i + length rs) (sym (seen-leaf at)),
+    pub written-leaf : (at r : Rect) (out out′ : List ℕ) (p : ℕ) → r ≡ relative at a → out′ ≡ sets out (4 * p) (numbers (r ∷ []))
+        → Written out p (seen at (a ∷ []) (drop i (rectsOf n l))) (p + 1) out′
+    written-leaf at r out out′ p er eo = (
+      ap (λ (rs : List Rect). p + length rs) (sym (seen-leaf at)),
       eo
-          ∙ ap (λ (q : Rect). sets out (4 * i) (numbers (q ∷ []))) er
-          ∙ ap (λ (rs : List Rect). sets out (4 * i) (numbers rs)) (sym (seen-leaf at)),
+          ∙ ap (λ (q : Rect). sets out (4 * p) (numbers (q ∷ []))) er
+          ∙ ap (λ (rs : List Rect). sets out (4 * p) (numbers rs)) (sym (seen-leaf at)),
     )
 
-    pub regions-leaf : (at : Rect) (ds : List Rect) → regions at (a ∷ []) [] ds ≡ regions at (a ∷ []) (rectsOf n l) ds
-    regions-leaf at ds = regions-same at (a ∷ []) (a ∷ []) [] (rectsOf n l) ds (seen-end at a ∙ sym (seen-leaf at))
+    pub regions-leaf : (at : Rect) (ds : List Rect) → regions at (a ∷ []) [] ds ≡ regions at (a ∷ []) (drop i (rectsOf n l)) ds
+    regions-leaf at ds = regions-same at (a ∷ []) (a ∷ []) [] (drop i (rectsOf n l)) ds (seen-end at a ∙ sym (seen-leaf at))
 
 -- A rectangle that splits the part -------------------------------------------------------------------------------------
 
--- the k-th rectangle is the first that may meet the part a, and p holds the pieces of a outside it
-pub record Splits (a : Rect) (n : ℕ) (l : List ℕ) (k : ℕ) (p : Pieces) : Type 0 where
+-- the k-th rectangle is the first that meets the part a, and c is what they have in common
+pub record Splits (a : Rect) (n : ℕ) (l : List ℕ) (i k : ℕ) (c : Rect) : Type 0 where
   pub more : k < n
-  pub missed : Missed a n l k
-  pub held : Holds p (pieces a (rectAt l k))
+  pub missed : Missed a n l i k
+  pub met : meets a (rectAt l k) ≡ true
+  pub both : c ≡ common a (rectAt l k)
 
-pub splits : (a b : Rect) (n : ℕ) (l : List ℕ) (k : ℕ) (p : Pieces) → (k ≡ n → ⊥) → Missed a n l k → b ≡ rectAt l k → Holds p (pieces a b) → Splits a n l k p
-splits a b n l k p ne m e h = record { more = missed-more a n l k m ne; missed = m; held = subst (λ (r : Rect). Holds p (pieces a r)) e h }
+module _ {a : Rect} {n : ℕ} {l : List ℕ} {i k : ℕ} {c : Rect} (s : Splits a n l i k c) where
+  pub split-within : Within a c
+  split-within = subst (Within a) (sym (s .both)) (common-within a (rectAt l k) (says-meet a (rectAt l k) .fact (s .met)) .0)
 
-module _ {a : Rect} {n : ℕ} {l : List ℕ} {k : ℕ} {p : Pieces} (s : Splits a n l k p) where
-  pub split-enough : p .count ≤ length (p .rects)
-  split-enough = enough p (pieces a (rectAt l k)) (s .held)
+  -- the four pieces lie within a
+  module _ {p : Rect} where
+    pub above-in : p ≡ pieceAbove a c → Within a p
+    above-in e = subst (Within a) (sym e) (above-within a c split-within)
 
-  pub split-within : (i : ℕ) → i < p .count → Within a (getD (p .rects) i nowhere)
-  split-within i h = piece-within a (rectAt l k) p i (s .held) h
+    pub left-in : p ≡ pieceLeft a c → Within a p
+    left-in e = subst (Within a) (sym e) (left-within a c split-within)
 
-  pub outside-split : outsideAll (rest (p .rects) (p .count) 0) (rectsOf (n - k - 1) (behind k l)) ≡ outsideAll (a ∷ []) (rectsOf n l)
+    pub right-in : p ≡ pieceRight a c → Within a p
+    right-in e = subst (Within a) (sym e) (right-within a c split-within)
+
+    pub below-in : p ≡ pieceBelow a c → Within a p
+    below-in e = subst (Within a) (sym e) (below-within a c split-within)
+
+  -- twice the rectangles that are left grow less
+  pub fewer : 2 * (n - (k + 1)) + 1 < 2 * (n - i)
+  fewer = omega (arith, s .more, s .missed .from)
+
+  outside-split : outsideAll (a ∷ []) (drop i (rectsOf n l)) ≡ outsideAll (around a c) (drop (k + 1) (rectsOf n l))
   outside-split =
-      let bs = rectsOf (n - k - 1) (behind k l) in
-      ap (λ (rs : List Rect). outsideAll rs bs) (rest-all p (pieces a (rectAt l k)) (s .held))
-      ∙ sym (outsideAll-first a (rectAt l k) bs)
-      ∙ ap (outsideAll (a ∷ [])) (sym (rects-split n l k (s .more)))
-      ∙ s .missed .same
+      let bs = drop (k + 1) (rectsOf n l) in
+      sym (s .missed .same)
+      ∙ ap (outsideAll (a ∷ [])) (rects-next n l k (s .more))
+      ∙ outsideAll-met a (rectAt l k) bs (s .met)
+      ∙ ap (λ (r : Rect). outsideAll (around a r) bs) (sym (s .both))
 
-  pub seen-split : (at : Rect) → seen at (rest (p .rects) (p .count) 0) (rectsOf (n - k - 1) (behind k l)) ≡ seen at (a ∷ []) (rectsOf n l)
-  unfolding seen
-  seen-split at = ap (map (relative at)) outside-split
+  module _ (at : Rect) where
+    seen-split : seen at (a ∷ []) (drop i (rectsOf n l)) ≡ seen at (around a c) (drop (k + 1) (rectsOf n l))
+    unfolding seen
+    seen-split = ap (map (relative at)) outside-split
 
-  pub regions-split : (at : Rect) (ds : List Rect)
-      → regions at (rest (p .rects) (p .count) 0) (rectsOf (n - k - 1) (behind k l)) ds ≡ regions at (a ∷ []) (rectsOf n l) ds
-  regions-split at ds = regions-same at (rest (p .rects) (p .count) 0) (a ∷ []) (rectsOf (n - k - 1) (behind k l)) (rectsOf n l) ds (seen-split at)
+    regions-split : (ds : List Rect) → regions at (a ∷ []) (drop i (rectsOf n l)) ds ≡ regions at (around a c) (drop (k + 1) (rectsOf n l)) ds
+    regions-split ds = regions-same at (a ∷ []) (around a c) (drop i (rectsOf n l)) (drop (k + 1) (rectsOf n l)) ds seen-split
+
+  -- the pieces p, q, r, u, one after the other
+  module _ {p q r u : Rect} (ep : p ≡ pieceAbove a c) (eq : q ≡ pieceLeft a c) (er : r ≡ pieceRight a c) (eu : u ≡ pieceBelow a c) where
+    named : (f : List Rect → List Rect) → ((xs ys : List Rect) → f (xs ++ ys) ≡ f xs ++ f ys)
+        → f (around a c) ≡ f (ifAny p) ++ (f (ifAny q) ++ (f (ifAny r) ++ f (ifAny u)))
+    named f add = rw (ep, eq, er, eu) (four f add a c)
+
+    pub counted-four : {x y z w : ℕ} → let bs = drop (k + 1) (rectsOf n l) in x ≡ length (outsideAll (ifAny p) bs) → y ≡ length (outsideAll (ifAny q) bs)
+        → z ≡ length (outsideAll (ifAny r) bs) → w ≡ length (outsideAll (ifAny u) bs) → x + y + z + w ≡ length (outsideAll (a ∷ []) (drop i (rectsOf n l)))
+    counted-four ex ey ez ew =
+        let bs = drop (k + 1) (rectsOf n l) in
+        let e = outside-split ∙ named (λ (rs : List Rect). outsideAll rs bs) (λ xs ys. outsideAll-append xs ys bs) in
+        omega (arith, ap length e ∙ length-four (outsideAll (ifAny p) bs) (outsideAll (ifAny q) bs) (outsideAll (ifAny r) bs) (outsideAll (ifAny u) bs))
+
+    module _ (at : Rect) where
+      seen-four : let bs = drop (k + 1) (rectsOf n l) in
+          seen at (a ∷ []) (drop i (rectsOf n l)) ≡ seen at (ifAny p) bs ++ (seen at (ifAny q) bs ++ (seen at (ifAny r) bs ++ seen at (ifAny u) bs))
+      seen-four =
+          let bs = drop (k + 1) (rectsOf n l) in
+          seen-split at ∙ named (λ (rs : List Rect). seen at rs bs) (seen-append at bs)
+
+      -- room for the part is room for each piece in turn, at the place after the one before
+      module _ (place room : ℕ) (enough : 4 * (place + length (seen at (a ∷ []) (drop i (rectsOf n l)))) ≤ room) where
+        long : let bs = drop (k + 1) (rectsOf n l) in length (seen at (a ∷ []) (drop i (rectsOf n l)))
+            ≡ length (seen at (ifAny p) bs) + length (seen at (ifAny q) bs) + length (seen at (ifAny r) bs) + length (seen at (ifAny u) bs)
+        long =
+            let bs = drop (k + 1) (rectsOf n l) in
+            ap length seen-four ∙ length-four (seen at (ifAny p) bs) (seen at (ifAny q) bs) (seen at (ifAny r) bs) (seen at (ifAny u) bs)
+
+        pub room-above : 4 * (place + length (seen at (ifAny p) (drop (k + 1) (rectsOf n l)))) ≤ room
+        room-above = omega (arith, long)
+
+        module _ {x room₁ : ℕ} (ex : x ≡ place + length (seen at (ifAny p) (drop (k + 1) (rectsOf n l)))) (e₁ : room₁ ≡ room) where
+          pub room-left : 4 * (x + length (seen at (ifAny q) (drop (k + 1) (rectsOf n l)))) ≤ room₁
+          room-left = omega (arith, long)
+
+          module _ {y room₂ : ℕ} (ey : y ≡ x + length (seen at (ifAny q) (drop (k + 1) (rectsOf n l)))) (e₂ : room₂ ≡ room₁) where
+            pub room-right : 4 * (y + length (seen at (ifAny r) (drop (k + 1) (rectsOf n l)))) ≤ room₂
+            room-right = omega (arith, long)
+
+            pub room-below : {z room₃ : ℕ} → z ≡ y + length (seen at (ifAny r) (drop (k + 1) (rectsOf n l))) → room₃ ≡ room₂
+                → 4 * (z + length (seen at (ifAny u) (drop (k + 1) (rectsOf n l)))) ≤ room₃
+            room-below ez e₃ = omega (arith, long)
+
+      pub written-four : (out : List ℕ) (place : ℕ) {out₁ out₂ out₃ out₄ : List ℕ} {x y z w : ℕ} → let bs = drop (k + 1) (rectsOf n l) in
+          Written out place (seen at (ifAny p) bs) x out₁ → Written out₁ x (seen at (ifAny q) bs) y out₂
+          → Written out₂ y (seen at (ifAny r) bs) z out₃ → Written out₃ z (seen at (ifAny u) bs) w out₄
+          → Written out place (seen at (a ∷ []) (drop i (rectsOf n l))) w out₄
+      written-four out place {out₁} {out₂} {out₃} {out₄} {x} {y} {z} {w} ex ey ez ew =
+          let bs = drop (k + 1) (rectsOf n l) in
+          let P = seen at (ifAny p) bs in
+          let Q = seen at (ifAny q) bs in
+          let R = seen at (ifAny r) bs in
+          let U = seen at (ifAny u) bs in
+          subst (λ (rs : List Rect). Written out place rs w out₄) (sym seen-four)
+          (written-both P (Q ++ (R ++ U)) out out₁ out₄ place x w ex
+          (written-both Q (R ++ U) out₁ out₂ out₄ x y w ey (written-both R U out₂ out₃ out₄ y z w ez ew)))
+
+    pub drawn-four : (v : View) (store : List ℕ) (ds : List Rect) (screen : List ℕ) {screen₁ screen₂ screen₃ screen₄ : List ℕ} → let bs = drop (k + 1) (rectsOf n l) in
+        screen₁ ≡ drawn v store (regions (v .at) (ifAny p) bs ds) screen → screen₂ ≡ drawn v store (regions (v .at) (ifAny q) bs ds) screen₁
+        → screen₃ ≡ drawn v store (regions (v .at) (ifAny r) bs ds) screen₂ → screen₄ ≡ drawn v store (regions (v .at) (ifAny u) bs ds) screen₃
+        → screen₄ ≡ drawn v store (regions (v .at) (a ∷ []) (drop i (rectsOf n l)) ds) screen
+    drawn-four v store ds screen {screen₁} {screen₂} {screen₃} {screen₄} ex ey ez ew =
+        let bs = drop (k + 1) (rectsOf n l) in
+        let P = regions (v .at) (ifAny p) bs ds in
+        let Q = regions (v .at) (ifAny q) bs ds in
+        let R = regions (v .at) (ifAny r) bs ds in
+        let U = regions (v .at) (ifAny u) bs ds in
+        drawn-both v store P (Q ++ (R ++ U)) screen screen₁ screen₄ ex
+        (drawn-both v store Q (R ++ U) screen₁ screen₂ screen₄ ey (drawn-both v store R U screen₂ screen₃ screen₄ ez ew))
+        ∙ ap (λ (rs : List Rect). drawn v store rs screen)
+        (sym (regions-split (v .at) ds ∙ named (λ (rs : List Rect). regions (v .at) rs bs ds) (regions-append (v .at) bs ds)))
+
+-- A piece -------------------------------------------------------------------------------------------------------------
+
+pub piece-none : (r : Rect) → isEmpty r ≡ true → ifAny r ≡ []
+unfolding ifAny
+piece-none r e = rw e
+
+pub piece-one : (r : Rect) → isEmpty r ≡ false → ifAny r ≡ r ∷ []
+unfolding ifAny
+piece-one r e = rw e
 
 -- The whole window ---------------------------------------------------------------------------------------------------
 

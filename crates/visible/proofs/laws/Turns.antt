@@ -1,12 +1,12 @@
--- One turn of each loop over the parts: what it did, and what is left gives the same as before.
-use Prim.Native.Nat.{ℕ, suc, _+_, _*_, _/_, _≤_, _<_}
+-- One piece after the other: counted, written and drawn they give the same as the pieces together.
+use Prim.Native.Nat.{ℕ, suc, _+_, _-_, _*_, _/_, _≤_, _<_}
 use mathlib.Core.Path.{_≡_, refl, sym, ap, _∙_}
 use mathlib.Core.Bool.{true}
 use mathlib.Core.List.{List, [], _∷_, _++_}
 use native.Mathlib.Omega.{arith}
 use native.Mathlib.Nat.{mul-le-mul-left, le-trans, add-zero, add-suc, suc-add}
 use lib.Dec.{leb}
-use lib.ListN.{length, getD, set, length-append}
+use lib.ListN.{length, drop, set, length-append, length-drop}
 use lib.Seq.{sets}
 use Rattle.geom.specs.declared.Rect.{Rect}
 use Rattle.geom.specs.Lists.{outsideAll, numbers, most}
@@ -14,11 +14,9 @@ use Rattle.geom.proofs.basics.Tests.{says-le, passes, same}
 use Rattle.geom.proofs.geometry.Bound.{outsideAll-few}
 use Rattle.rules.specs.Visible.{rectsOf}
 use Rattle.visible.specs.declared.region.View.{View}
-use Rattle.visible.specs.Seen.{seen, regions, drawn}
+use Rattle.visible.specs.Seen.{drawn}
 use Rattle.visible.proofs.laws.Numbers.{length-rects}
-use Rattle.visible.proofs.laws.Depth.{outsideAll-next, outsideAll-none}
-use Rattle.visible.proofs.laws.Parts.{nowhere, rest, rest-next, rest-none}
-use Rattle.visible.proofs.laws.Regions.{seen-next, seen-none, regions-next, regions-none, drawn-append, drawn-none}
+use Rattle.visible.proofs.laws.Regions.{drawn-append}
 
 -- at most 561 parts are seen under 16 rectangles
 pub most-small : (n : ℕ) → n ≤ 16 → most n ≤ 561
@@ -29,8 +27,11 @@ most-small n h =
 pub at-most : (a : Rect) (n : ℕ) (l : List ℕ) → length (outsideAll (a ∷ []) (rectsOf n l)) ≤ most n
 at-most a n l = rw (length-rects n l) at (outsideAll-few a (rectsOf n l))
 
-pub few-parts : (a : Rect) (n : ℕ) (l : List ℕ) → n ≤ 16 → length (outsideAll (a ∷ []) (rectsOf n l)) ≤ 561
-few-parts a n l h = le-trans (at-most a n l) (most-small n h)
+-- of those from the i-th on too
+pub few-left : (a : Rect) (n : ℕ) (l : List ℕ) (i : ℕ) → n ≤ 16 → length (outsideAll (a ∷ []) (drop i (rectsOf n l))) ≤ 561
+few-left a n l i h =
+    let e : length (drop i (rectsOf n l)) ≡ n - i = length-drop i (rectsOf n l) ∙ ap (λ (m : ℕ). m - i) (length-rects n l) in
+    le-trans (outsideAll-few a (drop i (rectsOf n l))) (rw e (most-small (n - i) (omega arith)))
 
 -- a list of `len` numbers has places for n rectangles, four numbers each
 pub places : (n len : ℕ) → leb n (len / 4) ≡ leb (4 * n) len
@@ -72,91 +73,32 @@ written-append xs ys l k =
     ∙ sets-append (numbers xs) (numbers ys) l (4 * k)
     ∙ ap (λ (j : ℕ). sets (sets l (4 * k) (numbers xs)) j (numbers ys)) e
 
--- The lent list's room ----------------------------------------------------------------------------------------------------
+-- room for one rectangle
+pub room-one : (i n room : ℕ) → n ≡ 1 → 4 * (i + n) ≤ room → 4 * (i + 1) ≤ room
+room-one i n room e h = omega arith
 
--- for one rectangle more
-pub room-one : (k n room : ℕ) → n ≡ 1 → 4 * (k + n) ≤ room → 4 * (k + 1) ≤ room
-room-one k n room e h = omega arith
+-- Two lists of rectangles, one after the other ----------------------------------------------------------------------------
 
--- for the next part: of `all` rectangles, `left` are still to be written, of which the next part has `now`
-pub room-left : (k next left now later all whole room room′ : ℕ) → next + left ≡ k + all → left ≡ now + later → all ≡ whole → 4 * (k + whole) ≤ room
-    → room′ ≡ room → 4 * (next + now) ≤ room′
-room-left k next left now later all whole room room′ e s w h r = omega arith
+pub length-four : (xs ys zs us : List Rect) → length (xs ++ (ys ++ (zs ++ us))) ≡ length xs + length ys + length zs + length us
+length-four xs ys zs us = omega (arith, length-append xs (ys ++ (zs ++ us)), length-append ys (zs ++ us), length-append zs us)
 
--- the place after a part
-pub next-turn : (next left now later total next′ : ℕ) → next + left ≡ total → left ≡ now + later → next′ ≡ next + now → next′ + later ≡ total
-next-turn next left now later total next′ e s n = omega arith
+-- rectangles written from place i on give the list `out′`, and j is the place after them
+abbrev pub Written : List ℕ → ℕ → List Rect → ℕ → List ℕ → Type 0
+Written out i rs j out′ = (j ≡ i + length rs) × (out′ ≡ sets out (4 * i) (numbers rs))
 
--- The loops: one turn ---------------------------------------------------------------------------------------------------
+pub written-none : {rs : List Rect} (out : List ℕ) (i : ℕ) → rs ≡ [] → Written out i rs i out
+written-none out i e = (omega (arith, ap length e), sym (ap (λ (rs : List Rect). sets out (4 * i) (numbers rs)) e))
 
-module _ (parts : List Rect) (len i : ℕ) (le : len ≤ length parts) (h : i < len) where
-  pub counted : (bs : List Rect) (sum c total : ℕ) → sum + length (outsideAll (rest parts len i) bs) ≡ total
-      → c ≡ length (outsideAll (getD parts i nowhere ∷ []) bs) → sum + c + length (outsideAll (rest parts len (i + 1)) bs) ≡ total
-  counted bs sum c total e ec =
-      let s = ap (λ (rs : List Rect). length (outsideAll rs bs)) (rest-next parts len i le h)
-      ∙ ap length (outsideAll-next (getD parts i nowhere) (rest parts len (i + 1)) bs)
-      ∙ length-append (outsideAll (getD parts i nowhere ∷ []) bs) (outsideAll (rest parts len (i + 1)) bs) in
-      omega arith
+pub written-both : (xs ys : List Rect) (out out′ out″ : List ℕ) (i j k : ℕ) → Written out i xs j out′ → Written out′ j ys k out″
+    → Written out i (xs ++ ys) k out″
+written-both xs ys out out′ out″ i j k p q = (
+  omega (arith, p .0, q .0, length-append xs ys),
+  q .1
+      ∙ ap (λ (l : List ℕ). sets l (4 * j) (numbers ys)) (p .1)
+      ∙ ap (λ (n : ℕ). sets (sets out (4 * i) (numbers xs)) (4 * n) (numbers ys)) (p .0)
+      ∙ sym (written-append xs ys out i),
+)
 
-  module _ (at : Rect) (bs : List Rect) where
-    seen-turn : seen at (rest parts len i) bs ≡ seen at (getD parts i nowhere ∷ []) bs ++ seen at (rest parts len (i + 1)) bs
-    seen-turn = ap (λ (rs : List Rect). seen at rs bs) (rest-next parts len i le h) ∙ seen-next at (getD parts i nowhere) (rest parts len (i + 1)) bs
-
-    pub length-turn : length (seen at (rest parts len i) bs)
-        ≡ length (seen at (getD parts i nowhere ∷ []) bs) + length (seen at (rest parts len (i + 1)) bs)
-    length-turn = ap length seen-turn ∙ length-append (seen at (getD parts i nowhere ∷ []) bs) (seen at (rest parts len (i + 1)) bs)
-
-    pub written-turn : (out out′ all : List ℕ) (k k′ : ℕ) → sets out (4 * k) (numbers (seen at (rest parts len i) bs)) ≡ all
-        → k′ ≡ k + length (seen at (getD parts i nowhere ∷ []) bs)
-        → out′ ≡ sets out (4 * k) (numbers (seen at (getD parts i nowhere ∷ []) bs))
-        → sets out′ (4 * k′) (numbers (seen at (rest parts len (i + 1)) bs)) ≡ all
-    written-turn out out′ all k k′ e ek eo =
-        let a = seen at (getD parts i nowhere ∷ []) bs in
-        let b = seen at (rest parts len (i + 1)) bs in
-        ap (λ (l : List ℕ). sets l (4 * k′) (numbers b)) eo
-        ∙ ap (λ (j : ℕ). sets (sets out (4 * k) (numbers a)) (4 * j) (numbers b)) ek
-        ∙ sym (written-append a b out k)
-        ∙ ap (λ (rs : List Rect). sets out (4 * k) (numbers rs)) (sym seen-turn)
-        ∙ e
-
-  pub drawn-turn : (v : View) (store : List ℕ) (bs ds : List Rect) (screen screen′ all : List ℕ)
-      → drawn v store (regions (v .at) (rest parts len i) bs ds) screen ≡ all
-      → screen′ ≡ drawn v store (regions (v .at) (getD parts i nowhere ∷ []) bs ds) screen
-      → drawn v store (regions (v .at) (rest parts len (i + 1)) bs ds) screen′ ≡ all
-  drawn-turn v store bs ds screen screen′ all e es =
-      let a = regions (v .at) (getD parts i nowhere ∷ []) bs ds in
-      let b = regions (v .at) (rest parts len (i + 1)) bs ds in
-      ap (drawn v store b) es
-      ∙ sym (drawn-append v store a b screen)
-      ∙ ap (λ (rs : List Rect). drawn v store rs screen)
-      (sym (ap (λ (rs : List Rect). regions (v .at) rs bs ds) (rest-next parts len i le h)
-      ∙ regions-next (v .at) (getD parts i nowhere) (rest parts len (i + 1)) bs ds))
-      ∙ e
-
--- The loops: no part is left ---------------------------------------------------------------------------------------------
-
-module _ (parts : List Rect) (len i : ℕ) (h : len ≤ i) where
-  pub counted-all : (bs : List Rect) (sum total : ℕ) → sum + length (outsideAll (rest parts len i) bs) ≡ total → sum ≡ total
-  counted-all bs sum total e =
-      let z = ap (λ (rs : List Rect). length (outsideAll rs bs)) (rest-none parts len i h) ∙ ap length (outsideAll-none bs) in
-      omega arith
-
-  module _ (at : Rect) (bs : List Rect) where
-    seen-over : seen at (rest parts len i) bs ≡ []
-    seen-over = ap (λ (rs : List Rect). seen at rs bs) (rest-none parts len i h) ∙ seen-none at bs
-
-    pub next-all : (next total : ℕ) → next + length (seen at (rest parts len i) bs) ≡ total → next ≡ total
-    next-all next total e =
-        let z = ap length seen-over in
-        omega arith
-
-    pub written-all : (out all : List ℕ) (k : ℕ) → sets out (4 * k) (numbers (seen at (rest parts len i) bs)) ≡ all → out ≡ all
-    written-all out all k e = ap (λ (rs : List Rect). sets out (4 * k) (numbers rs)) (sym seen-over) ∙ e
-
-  pub drawn-all : (v : View) (store : List ℕ) (bs ds : List Rect) (screen all : List ℕ)
-      → drawn v store (regions (v .at) (rest parts len i) bs ds) screen ≡ all → screen ≡ all
-  drawn-all v store bs ds screen all e =
-      sym (drawn-none v store screen)
-      ∙ ap (λ (rs : List Rect). drawn v store rs screen)
-      (sym (ap (λ (rs : List Rect). regions (v .at) rs bs ds) (rest-none parts len i h) ∙ regions-none (v .at) bs ds))
-      ∙ e
+pub drawn-both : (v : View) (store : List ℕ) (xs ys : List Rect) (screen screen′ screen″ : List ℕ)
+    → screen′ ≡ drawn v store xs screen → screen″ ≡ drawn v store ys screen′ → screen″ ≡ drawn v store (xs ++ ys) screen
+drawn-both v store xs ys screen screen′ screen″ p q = q ∙ ap (drawn v store ys) p ∙ sym (drawn-append v store xs ys screen)
