@@ -10,12 +10,11 @@ ghost use Rattle.window.specs.Held.{Small};
 ghost use Rattle.rules.specs.Visible.{rectsOf};
 ghost use Rattle.rules.specs.Redraw.{drawRegions};
 ghost use Rattle.visible.specs.Lent.{Lent};
-ghost use Rattle.visible.specs.Seen.{Drawable, own, drawn, regions};
+ghost use Rattle.visible.specs.Seen.{Drawable, viewOf, own, drawn, regions};
 use crate::around;
 use crate::rects;
 use crate::region::View;
 use crate::region::draw_region;
-use geom::Intersection;
 use geom::Rect;
 use geom::inner;
 
@@ -24,8 +23,8 @@ fn draw_common(view: View, r: Rect, entry: Rect, store: &[u32], screen: &mut [u3
     requires { ⌜ Drawable view (now store) (now screen) × Within (own view) r × Fits entry ⌝ }
     ensures { λ _. ⌜ now (screen .exit) ≡ drawn view (now (store .entry)) (meetsOf r (entry ∷ [])) (now (screen .entry)) ⌝ }
 {
-    if let Intersection::Common(both) = r.intersect(entry) {
-        draw_region(view, both, store, screen);
+    if inner::meets(r, entry) {
+        draw_region(view, inner::common(r, entry), store, screen);
     }
 }
 
@@ -52,7 +51,7 @@ fn draw_part(view: View, part: Rect, dirty: &[u32], m: usize, store: &[u32], scr
 
 // Draws what the rectangles from the i-th of the n on leave of `part`, a part of the window.
 fn draw_seen(
-    view: View,
+    view: &[usize; 7],
     part: Rect,
     above: &[u32],
     i: usize,
@@ -62,12 +61,12 @@ fn draw_seen(
     store: &[u32],
     screen: &mut [u32],
 )
-    requires { ⌜ Drawable view (now store) (now screen) × Within (view .at) part × (Lent n (now above) × (i ≤ n)) × Lent m (now dirty) ⌝ }
-    ensures { λ _. ⌜ now (screen .exit) ≡ drawn view (now (store .entry)) (regions (view .at) (part ∷ []) (drop i (rectsOf n (now (above .entry)))) (rectsOf m (now (dirty .entry)))) (now (screen .entry)) ⌝ }
+    requires { ⌜ Drawable (viewOf (now view)) (now store) (now screen) × Within (viewOf (now view) .at) part × (Lent n (now above) × (i ≤ n)) × Lent m (now dirty) ⌝ }
+    ensures { λ _. ⌜ now (screen .exit) ≡ drawn (viewOf (now (view .entry))) (now (store .entry)) (regions (viewOf (now (view .entry)) .at) (part ∷ []) (drop i (rectsOf n (now (above .entry)))) (rectsOf m (now (dirty .entry)))) (now (screen .entry)) ⌝ }
 {
     let k = rects::first_met(part, above, i, n);
     if k == n {
-        draw_part(view, part, dirty, m, store, screen);
+        draw_part(View::of(view), part, dirty, m, store, screen);
         return;
     }
     let both = inner::common(part, rects::rect_at(above, k));
@@ -120,7 +119,7 @@ fn draw_seen(
 
 // The same of a piece, which may have no pixel.
 fn draw_piece(
-    view: View,
+    view: &[usize; 7],
     piece: Rect,
     above: &[u32],
     i: usize,
@@ -130,8 +129,8 @@ fn draw_piece(
     store: &[u32],
     screen: &mut [u32],
 )
-    requires { ⌜ Drawable view (now store) (now screen) × Within (view .at) piece × (Lent n (now above) × (i ≤ n)) × Lent m (now dirty) ⌝ }
-    ensures { λ _. ⌜ now (screen .exit) ≡ drawn view (now (store .entry)) (regions (view .at) (ifAny piece) (drop i (rectsOf n (now (above .entry)))) (rectsOf m (now (dirty .entry)))) (now (screen .entry)) ⌝ }
+    requires { ⌜ Drawable (viewOf (now view)) (now store) (now screen) × Within (viewOf (now view) .at) piece × (Lent n (now above) × (i ≤ n)) × Lent m (now dirty) ⌝ }
+    ensures { λ _. ⌜ now (screen .exit) ≡ drawn (viewOf (now (view .entry))) (now (store .entry)) (regions (viewOf (now (view .entry)) .at) (ifAny piece) (drop i (rectsOf n (now (above .entry)))) (rectsOf m (now (dirty .entry)))) (now (screen .entry)) ⌝ }
 {
     if inner::is_empty(piece) {
         return;
@@ -158,5 +157,6 @@ pub fn draw(
     ensures { λ _. ⌜ now (screen .exit) ≡ drawRegions at base (now (store .entry)) sw sh (listIntersect (map (relative at) (outsideAll (at ∷ []) (rectsOf n (now (above .entry))))) (rectsOf m (now (dirty .entry)))) (now (screen .entry)) ⌝ }
 {
     let view = View { at, base, sw, sh };
-    draw_seen(view, at, above, 0, n, dirty, m, store, screen)
+    let numbers = view.numbers();
+    draw_seen(&numbers, at, above, 0, n, dirty, m, store, screen)
 }

@@ -1,12 +1,12 @@
 // One region of a window, copied from the store to the screen.
 ghost use mathlib.Core.Path.{_≡_};
+ghost use Prim.Native.Nat.{_≤_};
 ghost use Rattle.geom.specs.Inner.{Within};
+ghost use Rattle.window.specs.Held.{Small};
 ghost use Rattle.rules.specs.Redraw.{drawRegion};
-ghost use Rattle.visible.specs.Seen.{Drawable, own};
-use geom::Dims;
-use geom::Intersection;
-use geom::Pos;
+ghost use Rattle.visible.specs.Seen.{Drawable, viewOf, own};
 use geom::Rect;
+use geom::inner;
 use winbuf::inner::area::draw_area;
 
 // What stays the same while a window is drawn: its place, where its pixels begin in the store, and the size of the screen.
@@ -17,15 +17,48 @@ pub struct View {
     pub sh: u32,
 }
 
+impl View {
+    // The seven numbers of a view: lent, they are handed on without a copy.
+    pub fn numbers(self) -> [usize; 7]
+        ensures { λ l. ⌜ viewOf l ≡ self ⌝ }
+    {
+        let at = self.at;
+        [
+            at.pos.x as usize,
+            at.pos.y as usize,
+            at.dims.w as usize,
+            at.dims.h as usize,
+            self.base,
+            self.sw as usize,
+            self.sh as usize,
+        ]
+    }
+
+    // The view of seven numbers.
+    pub fn of(l: &[usize; 7]) -> View
+        requires { ⌜ Small (viewOf (now l) .at) × (viewOf (now l) .sw ≤ 32767) × (viewOf (now l) .sh ≤ 32767) ⌝ }
+        ensures { λ v. ⌜ v ≡ viewOf (now (l .entry)) ⌝ }
+    {
+        let at = Rect::new(l[0] as u32, l[1] as u32, l[2] as u32, l[3] as u32);
+        View {
+            at,
+            base: l[4],
+            sw: l[5] as u32,
+            sh: l[6] as u32,
+        }
+    }
+}
+
 // Draws a region, relative to the window; what lies off the screen is cut away first.
 pub fn draw_region(view: View, r: Rect, store: &[u32], screen: &mut [u32])
     requires { ⌜ Drawable view (now store) (now screen) × Within (own view) r ⌝ }
     ensures { λ _. ⌜ now (screen .exit) ≡ drawRegion (view .at) (view .base) (now (store .entry)) (view .sw) (view .sh) r (now (screen .entry)) ⌝ }
 {
     let at = view.at;
-    let on = Rect::new_pd(Pos::new(at.pos.x + r.pos.x, at.pos.y + r.pos.y), r.dims);
-    let all = Rect::new_pd(Pos::new(0, 0), Dims::new(view.sw, view.sh));
-    if let Intersection::Common(k) = on.intersect(all) {
+    let on = Rect::new(at.pos.x + r.pos.x, at.pos.y + r.pos.y, r.dims.w, r.dims.h);
+    let all = Rect::new(0, 0, view.sw, view.sh);
+    if inner::meets(on, all) {
+        let k = inner::common(on, all);
         draw_area(
             screen,
             view.sw as usize,

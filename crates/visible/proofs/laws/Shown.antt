@@ -6,20 +6,12 @@ use mathlib.Core.List.{List, [], _∷_, _++_}
 use native.Mathlib.Omega.{arith}
 use native.Mathlib.Nat.{mul-le-mul-right, mul-comm}
 use lib.ListN.{length, drop, drop-of-length-le}
-use denote.Enum.Declared.{tagOf}
-use types.Run.{OneOf, miss}
 use Rattle.geom.specs.declared.Rect.{Rect}
-use Rattle.geom.specs.declared.Intersection.{Intersection}
-use Rattle.geom.specs.declared.Intersection.the-variants.{Common, Apart, Refused}
 use Rattle.geom.specs.Geom.{rect, left, top, width, height, bottom, meets, common}
 use Rattle.geom.specs.Inner.{Fits, Within}
 use Rattle.geom.specs.Lists.{relative, meetsOf}
-use Rattle.geom.specs.Bare as Bare
-use Rattle.geom.specs.Bare.{bareIntersect}
 use Rattle.geom.proofs.basics.Tests.{cond-yes, cond-no}
 use Rattle.geom.proofs.geometry.Facts.{says-meet, common-within}
-use Rattle.geom.proofs.geometry.Answers.{apart-is, not-refused}
-use Rattle.geom.proofs.Intersection.{the-type}
 use Rattle.winbuf.specs.Pixels.{writeRows, part}
 use Rattle.winbuf.specs.Rows.{Inside}
 use Rattle.winbuf.proofs.rows.Written.{rows-same}
@@ -31,14 +23,6 @@ use Rattle.visible.specs.Seen.{Drawable, own, drawn, regions}
 use Rattle.visible.proofs.laws.Numbers.{length-rects, rects-next}
 use Rattle.visible.proofs.laws.Parts.{within-trans}
 use Rattle.visible.proofs.laws.Regions.{drawn-append, drawn-none, regions-end}
-
--- What `intersect` tells of rectangles that pass question 14 ------------------------------------------------------------
-
--- every case but `Common`
-pub apart : (a b : Rect) (i : Intersection) → Fits a × Fits b → Bare.met i ≡ bareIntersect a b → OneOf (1 ∷ 2 ∷ []) (tagOf the-type i) → meets a b ≡ false
-apart a b (Common k) f e t = absurd (miss (1 ∷ 2 ∷ []) 0 tt t)
-apart a b Apart f e t = apart-is f e refl
-apart a b Refused f e t = absurd (not-refused f e refl)
 
 -- The place on the screen ----------------------------------------------------------------------------------------------
 

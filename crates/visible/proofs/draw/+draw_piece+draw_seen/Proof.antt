@@ -10,8 +10,9 @@ use Rattle.geom.specs.declared.Rect.{Rect}
 use Rattle.geom.specs.Geom.{meets, common}
 use Rattle.geom.specs.Inner.{Fits, Within}
 use Rattle.rules.specs.Visible.{rectsOf}
+use Rattle.visible.specs.declared.region.View.{View}
 use Rattle.visible.specs.Lent.{Lent}
-use Rattle.visible.specs.Seen.{Drawable, regions, drawn}
+use Rattle.visible.specs.Seen.{Drawable, viewOf, regions, drawn}
 use Rattle.visible.proofs.laws.Numbers.{room-at, fits-at}
 use Rattle.visible.proofs.laws.Parts.{within-trans}
 use Rattle.visible.proofs.laws.Regions.{regions-none, drawn-none}
@@ -32,29 +33,30 @@ use Rattle.visible.proofs.around.below.Reads as below-reads
 use Rattle.visible.proofs.around.left.Reads as left-reads
 use Rattle.visible.proofs.around.right.Reads as right-reads
 use Rattle.visible.proofs.draw.draw_part.Reads as draw-part-reads
+use Rattle.visible.proofs.region.View.of.Reads as of-reads
 use Rattle.visible.proofs.rects.first_met.Reads as first-met-reads
 use Rattle.visible.proofs.rects.rect_at.Reads as rect-at-reads
 use Rattle.visible.proofs.draw.+draw_piece+draw_seen.{statement}
 use Rattle.visible.proofs.draw.+draw_piece+draw_seen.Tie.{close}
 
 -- how many rectangles are left, twice, and one more for a piece
-abbrev μ-draw-piece : Measures 4 draw-piece-kinds.ps ℕ
+abbrev μ-draw-piece : Measures 5 draw-piece-kinds.ps ℕ
 μ-draw-piece κs a = 2 * (a .1 .1 .1 .1 .0 - a .1 .1 .1 .0) + 1
 
-abbrev μ-draw-seen : Measures 4 draw-seen-kinds.ps ℕ
+abbrev μ-draw-seen : Measures 5 draw-seen-kinds.ps ℕ
 μ-draw-seen κs a = 2 * (a .1 .1 .1 .1 .0 - a .1 .1 .1 .0)
 
-abbrev draw-piece-at : ℕ → In 4 draw-piece-kinds.ps
-draw-piece-at t = and 4 draw-piece-kinds.ps (is 4 draw-piece-kinds.ps μ-draw-piece t) draw-piece.Pre
+abbrev draw-piece-at : ℕ → In 5 draw-piece-kinds.ps
+draw-piece-at t = and 5 draw-piece-kinds.ps (is 5 draw-piece-kinds.ps μ-draw-piece t) draw-piece.Pre
 
-abbrev draw-piece-below : ℕ → In 4 draw-piece-kinds.ps
-draw-piece-below t = and 4 draw-piece-kinds.ps (falls 4 draw-piece-kinds.ps _<_ μ-draw-piece t) draw-piece.Pre
+abbrev draw-piece-below : ℕ → In 5 draw-piece-kinds.ps
+draw-piece-below t = and 5 draw-piece-kinds.ps (falls 5 draw-piece-kinds.ps _<_ μ-draw-piece t) draw-piece.Pre
 
-abbrev draw-seen-at : ℕ → In 4 draw-seen-kinds.ps
-draw-seen-at t = and 4 draw-seen-kinds.ps (is 4 draw-seen-kinds.ps μ-draw-seen t) draw-seen.Pre
+abbrev draw-seen-at : ℕ → In 5 draw-seen-kinds.ps
+draw-seen-at t = and 5 draw-seen-kinds.ps (is 5 draw-seen-kinds.ps μ-draw-seen t) draw-seen.Pre
 
-abbrev draw-seen-below : ℕ → In 4 draw-seen-kinds.ps
-draw-seen-below t = and 4 draw-seen-kinds.ps (falls 4 draw-seen-kinds.ps _<_ μ-draw-seen t) draw-seen.Pre
+abbrev draw-seen-below : ℕ → In 5 draw-seen-kinds.ps
+draw-seen-below t = and 5 draw-seen-kinds.ps (falls 5 draw-seen-kinds.ps _<_ μ-draw-seen t) draw-seen.Pre
 
 -- A piece -------------------------------------------------------------------------------------------------------------
 
@@ -69,9 +71,9 @@ draw-piece-returns t c =
     let s = c .before .before .before .before .before .before .args in
     let bs = drop (s .i) (rectsOf (s .n) (s .above .now)) in
     let ds = rectsOf (s .m) (s .dirty .now) in
-    sym (ap (λ (rs : List Rect). drawn (s .view) (s .store .now) rs (s .screen .now))
-    (ap (λ (rs : List Rect). regions (s .view .at) rs bs ds) (piece-none (s .piece) (sym (c .before .is-empty .ensures) ∙ c .if1 .taken)) ∙ regions-none (s .view .at) bs ds)
-    ∙ drawn-none (s .view) (s .store .now) (s .screen .now))
+    sym (ap (λ (rs : List Rect). drawn (viewOf (s .view .now)) (s .store .now) rs (s .screen .now))
+    (ap (λ (rs : List Rect). regions (viewOf (s .view .now) .at) rs bs ds) (piece-none (s .piece) (sym (c .before .is-empty .ensures) ∙ c .if1 .taken)) ∙ regions-none (viewOf (s .view .now) .at) bs ds)
+    ∙ drawn-none (viewOf (s .view .now)) (s .store .now) (s .screen .now))
 
 draw-piece-draw-seen-requires : (t : ℕ) → draw-piece-lts.Need-draw-seen-requires (piece-calls t) (draw-piece-at t) draw-piece.Post
 draw-piece-draw-seen-requires t c κs =
@@ -87,7 +89,7 @@ draw-piece-returns-2 t c =
     let bs = drop (s .i) (rectsOf (s .n) (s .above .now)) in
     let ds = rectsOf (s .m) (s .dirty .now) in
     c .before .before .draw-seen .ensures
-    ∙ ap (λ (rs : List Rect). drawn (s .view) (s .store .now) (regions (s .view .at) rs bs ds) (s .screen .now))
+    ∙ ap (λ (rs : List Rect). drawn (viewOf (s .view .now)) (s .store .now) (regions (viewOf (s .view .now) .at) rs bs ds) (s .screen .now))
     (sym (piece-one (s .piece) (sym (c .before .before .before .before .before .is-empty .ensures) ∙ c .before .before .before .before .if1 .left)))
 
 -- A part --------------------------------------------------------------------------------------------------------------
@@ -96,6 +98,8 @@ abbrev seen-calls : ℕ → draw-seen-lts.Claims
 seen-calls t = (
   first-met-reads.Asked,
   first-met-reads.Learnt,
+  of-reads.Asked,
+  of-reads.Learnt,
   draw-part-reads.Asked,
   draw-part-reads.Learnt,
   rect-at-reads.Asked,
@@ -117,23 +121,34 @@ seen-calls t = (
 draw-seen-first-met-requires : (t : ℕ) → draw-seen-lts.Need-first-met-requires (seen-calls t) (draw-seen-at t) draw-seen.Post
 draw-seen-first-met-requires t c κs =
     let s = c .before .before .before .before in
-    (part-fits (s .args .view) (s .args .part) (s .args .store .now) (s .args .screen .now) (s .pre .1 .0) (s .pre .1 .1), s .pre .1 .2 .0, s .pre .1 .2 .1)
+    (part-fits (viewOf (s .args .view .now)) (s .args .part) (s .args .store .now) (s .args .screen .now) (s .pre .1 .0) (s .pre .1 .1), s .pre .1 .2 .0, s .pre .1 .2 .1)
+
+draw-seen-of-requires : (t : ℕ) → draw-seen-lts.Need-of-requires (seen-calls t) (draw-seen-at t) draw-seen.Post
+draw-seen-of-requires t c κs =
+    let d = c .before .before .before .before .before .before .pre .1 .0 in
+    (d .at, d .sw≤, d .sh≤)
 
 draw-seen-draw-part-requires : (t : ℕ) → draw-seen-lts.Need-draw-part-requires (seen-calls t) (draw-seen-at t) draw-seen.Post
 draw-seen-draw-part-requires t c κs =
-    let s = c .before .before .before .before .before .before .before in
-    (s .pre .1 .0, s .pre .1 .1, s .pre .1 .3)
+    let s = c .before .before .before .before .before .before .before .before in
+    let e = sym (c .before .of .ensures) in (
+      subst (λ (v : View). Drawable v (s .args .store .now) (s .args .screen .now)) e (s .pre .1 .0),
+      subst (λ (v : View). Within (v .at) (s .args .part)) e (s .pre .1 .1),
+      s .pre .1 .3,
+    )
 
 draw-seen-same-length : (t : ℕ) → draw-seen-lts.Need-same-length (seen-calls t) (draw-seen-at t) draw-seen.Post
 draw-seen-same-length t c = search needs
 
 draw-seen-returns : (t : ℕ) → draw-seen-lts.Need-returns (seen-calls t) (draw-seen-at t) draw-seen.Post
 draw-seen-returns t c =
-    let s = c .before .before .before .before .before .before .before .before .before .before in
-    let m = c .before .before .before .before .before .first-met in
+    let s = c .before .before .before .before .before .before .before .before .before .before .before .args in
+    let m = c .before .before .before .before .before .before .first-met in
+    let ds = rectsOf (s .m) (s .dirty .now) in
     c .before .before .draw-part .ensures
-    ∙ ap (λ (rs : List Rect). drawn (s .args .view) (s .args .store .now) rs (s .args .screen .now))
-    (regions-leaf (s .args .part) (s .args .n) (s .args .above .now) (s .args .i) (m .result) (m .ensures .0) (c .before .before .before .before .if1 .taken) (s .args .view .at) (rectsOf (s .args .m) (s .args .dirty .now)))
+    ∙ ap (λ (v : View). drawn v (s .store .now) (regions (v .at) (s .part ∷ []) [] ds) (s .screen .now)) (c .before .before .before .before .of .ensures)
+    ∙ ap (λ (rs : List Rect). drawn (viewOf (s .view .now)) (s .store .now) rs (s .screen .now))
+    (regions-leaf (s .part) (s .n) (s .above .now) (s .i) (m .result) (m .ensures .0) (c .before .before .before .before .before .if1 .taken) (viewOf (s .view .now) .at) ds)
 
 draw-seen-rect-at-requires : (t : ℕ) → draw-seen-lts.Need-rect-at-requires (seen-calls t) (draw-seen-at t) draw-seen.Post
 draw-seen-rect-at-requires t c κs =
@@ -146,7 +161,7 @@ draw-seen-common-requires t c κs =
     let s = c .before .before .before .before .before .before .before in
     let m = c .before .before .first-met in
     let lt = missed-more (s .args .part) (s .args .n) (s .args .above .now) (s .args .i) (m .result) (m .ensures .0) (c .before .if1 .left) in (
-      (part-fits (s .args .view) (s .args .part) (s .args .store .now) (s .args .screen .now) (s .pre .1 .0) (s .pre .1 .1), subst Fits (sym (c .rect-at .ensures)) (fits-at (s .args .n) (s .args .above .now) (m .result) (s .pre .1 .2 .0) lt)),
+      (part-fits (viewOf (s .args .view .now)) (s .args .part) (s .args .store .now) (s .args .screen .now) (s .pre .1 .0) (s .pre .1 .1), subst Fits (sym (c .rect-at .ensures)) (fits-at (s .args .n) (s .args .above .now) (m .result) (s .pre .1 .2 .0) lt)),
       ap (meets (s .args .part)) (c .rect-at .ensures) ∙ m .ensures .1 lt,
     )
 
@@ -163,13 +178,13 @@ known t c =
 asks : (t : ℕ) (c : draw-seen-lts.After-common (seen-calls t) (draw-seen-at t) draw-seen.Post) (p : Rect) (screen : List ℕ)
     → let s = c .before .before .before .before .before .before .before .before .args in let k = c .before .before .before .first-met .result in
     Within (s .part) p → length screen ≡ length (s .screen .now)
-    → (2 * (s .n - (k + 1)) + 1 < t) × (Drawable (s .view) (s .store .now) screen × Within (s .view .at) p × (Lent (s .n) (s .above .now) × (k + 1 ≤ s .n)) × Lent (s .m) (s .dirty .now))
+    → (2 * (s .n - (k + 1)) + 1 < t) × (Drawable (viewOf (s .view .now)) (s .store .now) screen × Within (viewOf (s .view .now) .at) p × (Lent (s .n) (s .above .now) × (k + 1 ≤ s .n)) × Lent (s .m) (s .dirty .now))
 asks t c p screen w e =
     let s = c .before .before .before .before .before .before .before .before in (
       omega (arith, s .pre .0, fewer (known t c)),
       (
-        drawable-kept (s .args .view) (s .args .store .now) (s .args .screen .now) screen (s .pre .1 .0) e,
-        within-trans (s .args .view .at) (s .args .part) p (s .pre .1 .1) w,
+        drawable-kept (viewOf (s .args .view .now)) (s .args .store .now) (s .args .screen .now) screen (s .pre .1 .0) e,
+        within-trans (viewOf (s .args .view .now) .at) (s .args .part) p (s .pre .1 .1) w,
         (s .pre .1 .2 .0, omega (arith, known t c .more)),
         s .pre .1 .3,
       ),
@@ -195,7 +210,7 @@ draw-seen-draw-piece-requires-2 t c κs =
 draw-seen-right-requires : (t : ℕ) → draw-seen-lts.Need-right-requires (seen-calls t) (draw-seen-at t) draw-seen.Post
 draw-seen-right-requires t c κs =
     let s = c .before .before .before .before .before .before .before .before .before .before .before .before .before .before .before .before .before .before in
-    (part-fits (s .args .view) (s .args .part) (s .args .store .now) (s .args .screen .now) (s .pre .1 .0) (s .pre .1 .1), split-within (known t (c .before .before .before .before .before .before .before .before .before .before)))
+    (part-fits (viewOf (s .args .view .now)) (s .args .part) (s .args .store .now) (s .args .screen .now) (s .pre .1 .0) (s .pre .1 .1), split-within (known t (c .before .before .before .before .before .before .before .before .before .before)))
 
 draw-seen-draw-piece-requires-3 : (t : ℕ) → draw-seen-lts.Need-draw-piece-requires-3 (seen-calls t) (draw-seen-at t) draw-seen.Post
 draw-seen-draw-piece-requires-3 t c κs =
@@ -205,7 +220,7 @@ draw-seen-draw-piece-requires-3 t c κs =
 draw-seen-below-requires : (t : ℕ) → draw-seen-lts.Need-below-requires (seen-calls t) (draw-seen-at t) draw-seen.Post
 draw-seen-below-requires t c κs =
     let s = c .before .before .before .before .before .before .before .before .before .before .before .before .before .before .before .before .before .before .before .before .before .before .before in
-    (part-fits (s .args .view) (s .args .part) (s .args .store .now) (s .args .screen .now) (s .pre .1 .0) (s .pre .1 .1), split-within (known t (c .before .before .before .before .before .before .before .before .before .before .before .before .before .before .before)))
+    (part-fits (viewOf (s .args .view .now)) (s .args .part) (s .args .store .now) (s .args .screen .now) (s .pre .1 .0) (s .pre .1 .1), split-within (known t (c .before .before .before .before .before .before .before .before .before .before .before .before .before .before .before)))
 
 draw-seen-draw-piece-requires-4 : (t : ℕ) → draw-seen-lts.Need-draw-piece-requires-4 (seen-calls t) (draw-seen-at t) draw-seen.Post
 draw-seen-draw-piece-requires-4 t c κs =
@@ -218,7 +233,7 @@ draw-seen-same-length-2 t c = c .before .before .draw-piece4 .kept .1 .1 .1 .1 .
 draw-seen-returns-2 : (t : ℕ) → draw-seen-lts.Need-returns-2 (seen-calls t) (draw-seen-at t) draw-seen.Post
 draw-seen-returns-2 t c =
     let s = c .before .before .before .before .before .before .before .before .before .before .before .before .before .before .before .before .before .before .before .before .before .before .before .before .before .before .before .before .args in
-    drawn-four (known t (c .before .before .before .before .before .before .before .before .before .before .before .before .before .before .before .before .before .before .before .before)) (c .before .before .before .before .before .before .before .before .before .before .before .before .before .before .before .before .before .before .before .above .ensures) (c .before .before .before .before .before .before .before .before .before .before .before .before .before .before .left .ensures) (c .before .before .before .before .before .before .before .before .before .right .ensures) (c .before .before .before .before .below .ensures) (s .view) (s .store .now) (rectsOf (s .m) (s .dirty .now)) (s .screen .now)
+    drawn-four (known t (c .before .before .before .before .before .before .before .before .before .before .before .before .before .before .before .before .before .before .before .before)) (c .before .before .before .before .before .before .before .before .before .before .before .before .before .before .before .before .before .before .before .above .ensures) (c .before .before .before .before .before .before .before .before .before .before .before .before .before .before .left .ensures) (c .before .before .before .before .before .before .before .before .before .right .ensures) (c .before .before .before .before .below .ensures) (viewOf (s .view .now)) (s .store .now) (rectsOf (s .m) (s .dirty .now)) (s .screen .now)
     (c .before .before .before .before .before .before .before .before .before .before .before .before .before .before .before .before .before .draw-piece .ensures) (c .before .before .before .before .before .before .before .before .before .before .before .before .draw-piece2 .ensures) (c .before .before .before .before .before .before .before .draw-piece3 .ensures) (c .before .before .draw-piece4 .ensures)
 
 pub +draw-piece+draw-seen-spec : {M : Type 1} → statement M
@@ -234,6 +249,7 @@ pub +draw-piece+draw-seen-spec : {M : Type 1} → statement M
     (draw-seen-at t)
     draw-seen.Post
     (draw-seen-first-met-requires t)
+    (draw-seen-of-requires t)
     (draw-seen-draw-part-requires t)
     (draw-seen-same-length t)
     (draw-seen-returns t)
