@@ -19,6 +19,32 @@ pub fn rect_at(list: &[u32], i: usize) -> Rect
     Rect::new(list[at], list[at + 1], list[at + 2], list[at + 3])
 }
 
+// Have the two a pixel in common? Side by side, since of many that are apart the first question or the second says so.
+fn overlap(a: Rect, b: Rect) -> bool
+    requires { ⌜ Fits a × Fits b ⌝ }
+    ensures { λ t. ⌜ t ≡ meets a b ⌝ }
+{
+    if inner::right(a) <= b.pos.x {
+        return false;
+    }
+    if inner::right(b) <= a.pos.x {
+        return false;
+    }
+    if inner::bottom(a) <= b.pos.y {
+        return false;
+    }
+    if inner::bottom(b) <= a.pos.y {
+        return false;
+    }
+    if inner::is_empty(a) {
+        return false;
+    }
+    if inner::is_empty(b) {
+        return false;
+    }
+    true
+}
+
 // The place of the first rectangle, from the i-th of the n on, that meets r; n where none does.
 pub fn first_met(r: Rect, list: &[u32], i: usize, n: usize) -> usize
     requires { ⌜ Fits r × Lent n (now list) × (i ≤ n) ⌝ }
@@ -27,7 +53,7 @@ pub fn first_met(r: Rect, list: &[u32], i: usize, n: usize) -> usize
 {
     let mut k = i;
     while k < n {
-        if inner::meets(r, rect_at(list, k)) {
+        if overlap(r, rect_at(list, k)) {
             return k;
         }
         k += 1;

@@ -26,15 +26,15 @@ rect-at-requires c κs =
     let s = c .before .before .before in
     room-at (s .args .n) (s .args .list .now) (c .before .loop .k) (s .pre .1) (c .loop-test .taken)
 
-meets-requires : tie.Need-meets-requires Inv-loop μ-loop
-meets-requires c κs =
+overlap-requires : tie.Need-overlap-requires Inv-loop μ-loop
+overlap-requires c κs =
     let s = c .before .before .before .before in
     (s .pre .0, subst Fits (sym (c .rect-at .ensures)) (fits-at (s .args .n) (s .args .list .now) (c .before .before .loop .k) (s .pre .1) (c .before .loop-test .taken)))
 
 returns : tie.Need-returns Inv-loop μ-loop
 returns c =
     let s = c .before .before .before .before .before .before in
-    (c .before .before .before .before .loop .inv, λ _. ap (meets (s .args .r)) (sym (c .before .before .rect-at .ensures)) ∙ sym (c .before .meets .ensures) ∙ c .if1 .taken)
+    (c .before .before .before .before .loop .inv, λ _. ap (meets (s .args .r)) (sym (c .before .before .rect-at .ensures)) ∙ sym (c .before .overlap .ensures) ∙ c .if1 .taken)
 
 add-k : tie.Need-add-k Inv-loop μ-loop
 add-k c = omega arith
@@ -47,7 +47,7 @@ loop-again c =
     let s = c .before .before .before .before .before .before in
     let l = c .before .before .before .before .loop in
     missed-next (s .args .r) (s .args .n) (s .args .list .now) (s .args .i) (c .before .before .rect-at .result) (l .k) (c .before .before .before .loop-test .taken) (c .before .before .rect-at .ensures)
-    (sym (c .before .meets .ensures) ∙ c .if1 .left) (l .inv)
+    (sym (c .before .overlap .ensures) ∙ c .if1 .left) (l .inv)
 
 returns-2 : tie.Need-returns-2 Inv-loop μ-loop
 returns-2 c = (c .before .loop .inv, λ h. absurd (omega (arith, h, c .loop-test .left)))
@@ -60,7 +60,7 @@ first-met-spec =
     μ-loop
     loop-holds
     rect-at-requires
-    meets-requires
+    overlap-requires
     returns
     add-k
     loop-less
