@@ -191,50 +191,71 @@ asks t c p screen w e =
     )
 
 draw-seen-add-next : (t : ℕ) → draw-seen-lts.Need-add-next (seen-calls t) (draw-seen-at t) draw-seen.Post
-draw-seen-add-next t c = omega (arith, room-at (c .before .before .before .before .before .before .before .before .args .n) (c .before .before .before .before .before .before .before .before .args .above .now) (c .before .before .before .first-met .result) (c .before .before .before .before .before .before .before .before .pre .1 .2 .0) (known t c .more))
+draw-seen-add-next t c =
+    let s = c .before .before .before .before .before .before .before .before in
+    omega (arith, room-at (s .args .n) (s .args .above .now) (c .before .before .before .first-met .result) (s .pre .1 .2 .0) (known t c .more))
 
 draw-seen-above-requires : (t : ℕ) → draw-seen-lts.Need-above-requires (seen-calls t) (draw-seen-at t) draw-seen.Post
 draw-seen-above-requires t c κs = split-within (known t c)
 
 draw-seen-draw-piece-requires : (t : ℕ) → draw-seen-lts.Need-draw-piece-requires (seen-calls t) (draw-seen-at t) draw-seen.Post
-draw-seen-draw-piece-requires t c κs = asks t (c .before .before) (c .before .above .result) (c .before .before .before .before .before .before .before .before .before .before .args .screen .now) (above-in (known t (c .before .before)) (c .before .above .ensures)) refl
+draw-seen-draw-piece-requires t c κs =
+    let k = c .before .before in
+    asks t k (c .before .above .result) (k .before .before .before .before .before .before .before .before .args .screen .now) (above-in (known t k) (c .before .above .ensures)) refl
 
 draw-seen-left-requires : (t : ℕ) → draw-seen-lts.Need-left-requires (seen-calls t) (draw-seen-at t) draw-seen.Post
 draw-seen-left-requires t c κs = split-within (known t (c .before .before .before .before .before))
 
 draw-seen-draw-piece-requires-2 : (t : ℕ) → draw-seen-lts.Need-draw-piece-requires-2 (seen-calls t) (draw-seen-at t) draw-seen.Post
 draw-seen-draw-piece-requires-2 t c κs =
-    let w = c .before .before .before .before .draw-piece in
-    asks t (c .before .before .before .before .before .before .before) (c .before .left .result) (w .last .1 .1 .1 .1 .1 .1 .1 .1 .0) (left-in (known t (c .before .before .before .before .before .before .before)) (c .before .left .ensures)) (w .kept .1 .1 .1 .1 .1 .1 .1 .1 .0)
+    let a = c .before .before .before .before in
+    let k = a .before .before .before in
+    asks t k (c .before .left .result) (a .draw-piece .last .1 .1 .1 .1 .1 .1 .1 .1 .0) (left-in (known t k) (c .before .left .ensures)) (a .draw-piece .kept .1 .1 .1 .1 .1 .1 .1 .1 .0)
 
 draw-seen-right-requires : (t : ℕ) → draw-seen-lts.Need-right-requires (seen-calls t) (draw-seen-at t) draw-seen.Post
 draw-seen-right-requires t c κs =
-    let s = c .before .before .before .before .before .before .before .before .before .before .before .before .before .before .before .before .before .before in
-    (part-fits (viewOf (s .args .view .now)) (s .args .part) (s .args .store .now) (s .args .screen .now) (s .pre .1 .0) (s .pre .1 .1), split-within (known t (c .before .before .before .before .before .before .before .before .before .before)))
+    let k = c .before .before .before .before .before .before .before .before .before .before in
+    let s = k .before .before .before .before .before .before .before .before in
+    (part-fits (viewOf (s .args .view .now)) (s .args .part) (s .args .store .now) (s .args .screen .now) (s .pre .1 .0) (s .pre .1 .1), split-within (known t k))
 
 draw-seen-draw-piece-requires-3 : (t : ℕ) → draw-seen-lts.Need-draw-piece-requires-3 (seen-calls t) (draw-seen-at t) draw-seen.Post
 draw-seen-draw-piece-requires-3 t c κs =
-    let w = c .before .before .before .before .draw-piece2 in
-    asks t (c .before .before .before .before .before .before .before .before .before .before .before .before) (c .before .right .result) (w .last .1 .1 .1 .1 .1 .1 .1 .1 .0) (right-in (known t (c .before .before .before .before .before .before .before .before .before .before .before .before)) (c .before .right .ensures)) (w .kept .1 .1 .1 .1 .1 .1 .1 .1 .0 ∙ c .before .before .before .before .before .before .before .before .before .draw-piece .kept .1 .1 .1 .1 .1 .1 .1 .1 .0)
+    let l = c .before .before .before .before in
+    let a = l .before .before .before .before .before in
+    let k = a .before .before .before in
+    asks t k (c .before .right .result) (l .draw-piece2 .last .1 .1 .1 .1 .1 .1 .1 .1 .0) (right-in (known t k) (c .before .right .ensures)) (l .draw-piece2 .kept .1 .1 .1 .1 .1 .1 .1 .1 .0 ∙ a .draw-piece .kept .1 .1 .1 .1 .1 .1 .1 .1 .0)
 
 draw-seen-below-requires : (t : ℕ) → draw-seen-lts.Need-below-requires (seen-calls t) (draw-seen-at t) draw-seen.Post
 draw-seen-below-requires t c κs =
-    let s = c .before .before .before .before .before .before .before .before .before .before .before .before .before .before .before .before .before .before .before .before .before .before .before in
-    (part-fits (viewOf (s .args .view .now)) (s .args .part) (s .args .store .now) (s .args .screen .now) (s .pre .1 .0) (s .pre .1 .1), split-within (known t (c .before .before .before .before .before .before .before .before .before .before .before .before .before .before .before)))
+    let k = c .before .before .before .before .before .before .before .before .before .before .before .before .before .before .before in
+    let s = k .before .before .before .before .before .before .before .before in
+    (part-fits (viewOf (s .args .view .now)) (s .args .part) (s .args .store .now) (s .args .screen .now) (s .pre .1 .0) (s .pre .1 .1), split-within (known t k))
 
 draw-seen-draw-piece-requires-4 : (t : ℕ) → draw-seen-lts.Need-draw-piece-requires-4 (seen-calls t) (draw-seen-at t) draw-seen.Post
 draw-seen-draw-piece-requires-4 t c κs =
-    let w = c .before .before .before .before .draw-piece3 in
-    asks t (c .before .before .before .before .before .before .before .before .before .before .before .before .before .before .before .before .before) (c .before .below .result) (w .last .1 .1 .1 .1 .1 .1 .1 .1 .0) (below-in (known t (c .before .before .before .before .before .before .before .before .before .before .before .before .before .before .before .before .before)) (c .before .below .ensures)) (w .kept .1 .1 .1 .1 .1 .1 .1 .1 .0 ∙ c .before .before .before .before .before .before .before .before .before .draw-piece2 .kept .1 .1 .1 .1 .1 .1 .1 .1 .0 ∙ c .before .before .before .before .before .before .before .before .before .before .before .before .before .before .draw-piece .kept .1 .1 .1 .1 .1 .1 .1 .1 .0)
+    let r = c .before .before .before .before in
+    let l = r .before .before .before .before .before in
+    let a = l .before .before .before .before .before in
+    let k = a .before .before .before in
+    asks t k (c .before .below .result) (r .draw-piece3 .last .1 .1 .1 .1 .1 .1 .1 .1 .0) (below-in (known t k) (c .before .below .ensures))
+    (r .draw-piece3 .kept .1 .1 .1 .1 .1 .1 .1 .1 .0 ∙ l .draw-piece2 .kept .1 .1 .1 .1 .1 .1 .1 .1 .0 ∙ a .draw-piece .kept .1 .1 .1 .1 .1 .1 .1 .1 .0)
 
 draw-seen-same-length-2 : (t : ℕ) → draw-seen-lts.Need-same-length-2 (seen-calls t) (draw-seen-at t) draw-seen.Post
-draw-seen-same-length-2 t c = c .before .before .draw-piece4 .kept .1 .1 .1 .1 .1 .1 .1 .1 .0 ∙ c .before .before .before .before .before .before .before .draw-piece3 .kept .1 .1 .1 .1 .1 .1 .1 .1 .0 ∙ c .before .before .before .before .before .before .before .before .before .before .before .before .draw-piece2 .kept .1 .1 .1 .1 .1 .1 .1 .1 .0 ∙ c .before .before .before .before .before .before .before .before .before .before .before .before .before .before .before .before .before .draw-piece .kept .1 .1 .1 .1 .1 .1 .1 .1 .0
+draw-seen-same-length-2 t c =
+    let b = c .before .before in
+    let r = b .before .before .before .before .before in
+    let l = r .before .before .before .before .before in
+    b .draw-piece4 .kept .1 .1 .1 .1 .1 .1 .1 .1 .0 ∙ r .draw-piece3 .kept .1 .1 .1 .1 .1 .1 .1 .1 .0 ∙ l .draw-piece2 .kept .1 .1 .1 .1 .1 .1 .1 .1 .0 ∙ l .before .before .before .before .before .draw-piece .kept .1 .1 .1 .1 .1 .1 .1 .1 .0
 
 draw-seen-returns-2 : (t : ℕ) → draw-seen-lts.Need-returns-2 (seen-calls t) (draw-seen-at t) draw-seen.Post
 draw-seen-returns-2 t c =
-    let s = c .before .before .before .before .before .before .before .before .before .before .before .before .before .before .before .before .before .before .before .before .before .before .before .before .before .before .before .before .args in
-    drawn-four (known t (c .before .before .before .before .before .before .before .before .before .before .before .before .before .before .before .before .before .before .before .before)) (c .before .before .before .before .before .before .before .before .before .before .before .before .before .before .before .before .before .before .before .above .ensures) (c .before .before .before .before .before .before .before .before .before .before .before .before .before .before .left .ensures) (c .before .before .before .before .before .before .before .before .before .right .ensures) (c .before .before .before .before .below .ensures) (viewOf (s .view .now)) (s .store .now) (rectsOf (s .m) (s .dirty .now)) (s .screen .now)
-    (c .before .before .before .before .before .before .before .before .before .before .before .before .before .before .before .before .before .draw-piece .ensures) (c .before .before .before .before .before .before .before .before .before .before .before .before .draw-piece2 .ensures) (c .before .before .before .before .before .before .before .draw-piece3 .ensures) (c .before .before .draw-piece4 .ensures)
+    let b = c .before .before in
+    let r = b .before .before .before .before .before in
+    let l = r .before .before .before .before .before in
+    let a = l .before .before .before .before .before in
+    let s = a .before .before .before .before .before .before .before .before .before .before .before .args in
+    drawn-four (known t (a .before .before .before)) (a .before .before .above .ensures) (l .before .before .left .ensures) (r .before .before .right .ensures) (b .before .before .below .ensures) (viewOf (s .view .now)) (s .store .now) (rectsOf (s .m) (s .dirty .now)) (s .screen .now)
+    (a .draw-piece .ensures) (l .draw-piece2 .ensures) (r .draw-piece3 .ensures) (b .draw-piece4 .ensures)
 
 pub +draw-piece+draw-seen-spec : {M : Type 1} → statement M
 +draw-piece+draw-seen-spec = close μ-draw-piece μ-draw-seen (λ t. draw-piece-lts.spec (piece-calls t)

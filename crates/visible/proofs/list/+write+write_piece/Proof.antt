@@ -1,8 +1,8 @@
 -- The lists of the four pieces, one after the other, are the list of the part. A piece has the rectangles behind the one that
 -- split the part.
 use Prim.Native.Nat.{ℕ, _+_, _-_, _*_, _≤_, _<_}
-use mathlib.Core.Path.{_≡_, refl, sym, ap, subst, _∙_}
-use mathlib.Core.List.{List, [], _∷_}
+use mathlib.Core.Path.{refl, sym, ap, subst, _∙_}
+use mathlib.Core.List.{List}
 use native.Mathlib.Omega.{arith}
 use borrow.Author.Needs.{needs}
 use lib.ListN.{length, drop}
@@ -111,22 +111,27 @@ write-relative-requires t c κs = search needs
 
 write-put-requires : (t : ℕ) → write-lts.Need-put-requires (write-calls t) (write-at t) write.Post
 write-put-requires t c κs =
-    let s = c .before .before .before .before .before .before in
-    room-one (s .args .place) _ (length (s .args .out .now)) (ap length (seen-leaf (s .args .part) (s .args .n) (s .args .above .now) (s .args .i) (c .before .before .before .first-met .result) (c .before .before .before .first-met .ensures .0) (c .before .before .if1 .taken) (s .args .at))) (s .pre .1 .1)
+    let m = c .before .before .before in
+    let s = m .before .before .before in
+    let e = seen-leaf (s .args .part) (s .args .n) (s .args .above .now) (s .args .i) (m .first-met .result) (m .first-met .ensures .0) (c .before .before .if1 .taken) (s .args .at) in
+    room-one (s .args .place) _ (length (s .args .out .now)) (ap length e) (s .pre .1 .1)
 
 write-add-result : (t : ℕ) → write-lts.Need-add-result (write-calls t) (write-at t) write.Post
 write-add-result t c =
     let s = c .before .before .before .before .before .before .before .before .before in
-    omega (arith, room-one (s .args .place) _ (length (s .args .out .now)) (ap length (seen-leaf (s .args .part) (s .args .n) (s .args .above .now) (s .args .i) (c .before .before .before .before .before .before .first-met .result) (c .before .before .before .before .before .before .first-met .ensures .0) (c .before .before .before .before .before .if1 .taken) (s .args .at))) (s .pre .1 .1))
+    let m = c .before .before .before .before .before .before .first-met in
+    omega (arith, room-one (s .args .place) _ (length (s .args .out .now)) (ap length (seen-leaf (s .args .part) (s .args .n) (s .args .above .now) (s .args .i) (m .result) (m .ensures .0) (c .before .before .before .before .before .if1 .taken) (s .args .at))) (s .pre .1 .1))
 
 write-same-length : (t : ℕ) → write-lts.Need-same-length (write-calls t) (write-at t) write.Post
 write-same-length t c = search needs
 
 write-returns : (t : ℕ) → write-lts.Need-returns (write-calls t) (write-at t) write.Post
 write-returns t c =
-    let s = c .before .before .before .before .before .before .before .before .before in
-    written-leaf (s .args .part) (s .args .n) (s .args .above .now) (s .args .i) (c .before .before .before .before .before .before .first-met .result) (c .before .before .before .before .before .before .first-met .ensures .0) (c .before .before .before .before .before .if1 .taken) (s .args .at) (c .before .before .before .relative .result)
-    (s .args .out .now) (c .before .before .put .last .0) (s .args .place) (c .before .before .before .relative .ensures) (c .before .before .put .ensures)
+    let m = c .before .before .before .before .before .before in
+    let s = m .before .before .before .args in
+    let r = c .before .before .before .relative in
+    let w = c .before .before .put in
+    written-leaf (s .part) (s .n) (s .above .now) (s .i) (m .first-met .result) (m .first-met .ensures .0) (c .before .before .before .before .before .if1 .taken) (s .at) (r .result) (s .out .now) (w .last .0) (s .place) (r .ensures) (w .ensures)
 
 write-rect-at-requires : (t : ℕ) → write-lts.Need-rect-at-requires (write-calls t) (write-at t) write.Post
 write-rect-at-requires t c κs =
@@ -166,7 +171,9 @@ asks t c p w room =
     )
 
 write-add-next : (t : ℕ) → write-lts.Need-add-next (write-calls t) (write-at t) write.Post
-write-add-next t c = omega (arith, room-at (c .before .before .before .before .before .before .args .n) (c .before .before .before .before .before .before .args .above .now) (c .before .before .before .first-met .result) (c .before .before .before .before .before .before .pre .1 .0 .2) (known t c .more))
+write-add-next t c =
+    let s = c .before .before .before .before .before .before in
+    omega (arith, room-at (s .args .n) (s .args .above .now) (c .before .before .before .first-met .result) (s .pre .1 .0 .2) (known t c .more))
 
 write-above-requires : (t : ℕ) → write-lts.Need-above-requires (write-calls t) (write-at t) write.Post
 write-above-requires t c κs = split-within (known t c)
@@ -183,48 +190,64 @@ write-left-requires t c κs = split-within (known t (c .before .before .before .
 
 write-write-piece-requires-2 : (t : ℕ) → write-lts.Need-write-piece-requires-2 (write-calls t) (write-at t) write.Post
 write-write-piece-requires-2 t c κs =
-    let q = known t (c .before .before .before .before .before .before .before) in
-    let s = c .before .before .before .before .before .before .before .before .before .before .before .before .before in
+    let a = c .before .before .before .before in
+    let k = a .before .before .before in
+    let s = a .before .before .before .before .before .before .before .before .before in
     let e = c .before .left .ensures in
-    let w = c .before .before .before .before .write-piece in
-    asks t (c .before .before .before .before .before .before .before) (c .before .left .result) (left-in q e)
-    (room-left q (c .before .before .before .before .before .before .above .ensures) e refl refl (s .args .at) (s .args .place) (length (s .args .out .now)) (s .pre .1 .1) (w .ensures .0) (w .kept .1 .1 .1 .1 .1 .0))
+    asks t k (c .before .left .result) (left-in (known t k) e)
+    (room-left (known t k) (a .before .before .above .ensures) e refl refl (s .args .at) (s .args .place) (length (s .args .out .now)) (s .pre .1 .1) (a .write-piece .ensures .0) (a .write-piece .kept .1 .1 .1 .1 .1 .0))
 
 write-right-requires : (t : ℕ) → write-lts.Need-right-requires (write-calls t) (write-at t) write.Post
-write-right-requires t c κs = (within-fits _ _ (c .before .before .before .before .before .before .before .before .before .before .before .before .before .before .before .before .pre .1 .0 .0) (c .before .before .before .before .before .before .before .before .before .before .before .before .before .before .before .before .pre .1 .0 .1), split-within (known t (c .before .before .before .before .before .before .before .before .before .before)))
+write-right-requires t c κs =
+    let k = c .before .before .before .before .before .before .before .before .before .before in
+    let s = k .before .before .before .before .before .before in
+    (within-fits _ _ (s .pre .1 .0 .0) (s .pre .1 .0 .1), split-within (known t k))
 
 write-write-piece-requires-3 : (t : ℕ) → write-lts.Need-write-piece-requires-3 (write-calls t) (write-at t) write.Post
 write-write-piece-requires-3 t c κs =
-    let q = known t (c .before .before .before .before .before .before .before .before .before .before .before .before) in
-    let s = c .before .before .before .before .before .before .before .before .before .before .before .before .before .before .before .before .before .before in
+    let l = c .before .before .before .before in
+    let a = l .before .before .before .before .before in
+    let k = a .before .before .before in
+    let s = a .before .before .before .before .before .before .before .before .before in
     let e = c .before .right .ensures in
-    let w = c .before .before .before .before .before .before .before .before .before .write-piece in
-    let x = c .before .before .before .before .write-piece2 in
-    asks t (c .before .before .before .before .before .before .before .before .before .before .before .before) (c .before .right .result) (right-in q e)
-    (room-right q (c .before .before .before .before .before .before .before .before .before .before .before .above .ensures) (c .before .before .before .before .before .before .left .ensures) e refl (s .args .at) (s .args .place) (length (s .args .out .now)) (s .pre .1 .1) (w .ensures .0) (w .kept .1 .1 .1 .1 .1 .0) (x .ensures .0) (x .kept .1 .1 .1 .1 .1 .0))
+    asks t k (c .before .right .result) (right-in (known t k) e)
+    (room-right (known t k) (a .before .before .above .ensures) (l .before .before .left .ensures) e refl (s .args .at) (s .args .place) (length (s .args .out .now)) (s .pre .1 .1)
+    (a .write-piece .ensures .0) (a .write-piece .kept .1 .1 .1 .1 .1 .0) (l .write-piece2 .ensures .0) (l .write-piece2 .kept .1 .1 .1 .1 .1 .0))
 
 write-below-requires : (t : ℕ) → write-lts.Need-below-requires (write-calls t) (write-at t) write.Post
-write-below-requires t c κs = (within-fits _ _ (c .before .before .before .before .before .before .before .before .before .before .before .before .before .before .before .before .before .before .before .before .before .pre .1 .0 .0) (c .before .before .before .before .before .before .before .before .before .before .before .before .before .before .before .before .before .before .before .before .before .pre .1 .0 .1), split-within (known t (c .before .before .before .before .before .before .before .before .before .before .before .before .before .before .before)))
+write-below-requires t c κs =
+    let k = c .before .before .before .before .before .before .before .before .before .before .before .before .before .before .before in
+    let s = k .before .before .before .before .before .before in
+    (within-fits _ _ (s .pre .1 .0 .0) (s .pre .1 .0 .1), split-within (known t k))
 
 write-write-piece-requires-4 : (t : ℕ) → write-lts.Need-write-piece-requires-4 (write-calls t) (write-at t) write.Post
 write-write-piece-requires-4 t c κs =
-    let q = known t (c .before .before .before .before .before .before .before .before .before .before .before .before .before .before .before .before .before) in
-    let s = c .before .before .before .before .before .before .before .before .before .before .before .before .before .before .before .before .before .before .before .before .before .before .before in
+    let r = c .before .before .before .before in
+    let l = r .before .before .before .before .before in
+    let a = l .before .before .before .before .before in
+    let k = a .before .before .before in
+    let s = a .before .before .before .before .before .before .before .before .before in
     let e = c .before .below .ensures in
-    let w = c .before .before .before .before .before .before .before .before .before .before .before .before .before .before .write-piece in
-    let x = c .before .before .before .before .before .before .before .before .before .write-piece2 in
-    let y = c .before .before .before .before .write-piece3 in
-    asks t (c .before .before .before .before .before .before .before .before .before .before .before .before .before .before .before .before .before) (c .before .below .result) (below-in q e)
-    (room-below q (c .before .before .before .before .before .before .before .before .before .before .before .before .before .before .before .before .above .ensures) (c .before .before .before .before .before .before .before .before .before .before .before .left .ensures) (c .before .before .before .before .before .before .right .ensures) e (s .args .at) (s .args .place) (length (s .args .out .now)) (s .pre .1 .1) (w .ensures .0) (w .kept .1 .1 .1 .1 .1 .0) (x .ensures .0) (x .kept .1 .1 .1 .1 .1 .0) (y .ensures .0) (y .kept .1 .1 .1 .1 .1 .0))
+    asks t k (c .before .below .result) (below-in (known t k) e)
+    (room-below (known t k) (a .before .before .above .ensures) (l .before .before .left .ensures) (r .before .before .right .ensures) e (s .args .at) (s .args .place) (length (s .args .out .now)) (s .pre .1 .1)
+    (a .write-piece .ensures .0) (a .write-piece .kept .1 .1 .1 .1 .1 .0) (l .write-piece2 .ensures .0) (l .write-piece2 .kept .1 .1 .1 .1 .1 .0) (r .write-piece3 .ensures .0) (r .write-piece3 .kept .1 .1 .1 .1 .1 .0))
 
 write-same-length-2 : (t : ℕ) → write-lts.Need-same-length-2 (write-calls t) (write-at t) write.Post
-write-same-length-2 t c = c .before .before .write-piece4 .kept .1 .1 .1 .1 .1 .0 ∙ c .before .before .before .before .before .before .before .write-piece3 .kept .1 .1 .1 .1 .1 .0 ∙ c .before .before .before .before .before .before .before .before .before .before .before .before .write-piece2 .kept .1 .1 .1 .1 .1 .0 ∙ c .before .before .before .before .before .before .before .before .before .before .before .before .before .before .before .before .before .write-piece .kept .1 .1 .1 .1 .1 .0
+write-same-length-2 t c =
+    let b = c .before .before in
+    let r = b .before .before .before .before .before in
+    let l = r .before .before .before .before .before in
+    b .write-piece4 .kept .1 .1 .1 .1 .1 .0 ∙ r .write-piece3 .kept .1 .1 .1 .1 .1 .0 ∙ l .write-piece2 .kept .1 .1 .1 .1 .1 .0 ∙ l .before .before .before .before .before .write-piece .kept .1 .1 .1 .1 .1 .0
 
 write-returns-2 : (t : ℕ) → write-lts.Need-returns-2 (write-calls t) (write-at t) write.Post
 write-returns-2 t c =
-    let s = c .before .before .before .before .before .before .before .before .before .before .before .before .before .before .before .before .before .before .before .before .before .before .before .before .before .before in
-    written-four (known t (c .before .before .before .before .before .before .before .before .before .before .before .before .before .before .before .before .before .before .before .before)) (c .before .before .before .before .before .before .before .before .before .before .before .before .before .before .before .before .before .before .before .above .ensures) (c .before .before .before .before .before .before .before .before .before .before .before .before .before .before .left .ensures) (c .before .before .before .before .before .before .before .before .before .right .ensures) (c .before .before .before .before .below .ensures) (s .args .at) (s .args .out .now) (s .args .place)
-    (c .before .before .before .before .before .before .before .before .before .before .before .before .before .before .before .before .before .write-piece .ensures) (c .before .before .before .before .before .before .before .before .before .before .before .before .write-piece2 .ensures) (c .before .before .before .before .before .before .before .write-piece3 .ensures) (c .before .before .write-piece4 .ensures)
+    let b = c .before .before in
+    let r = b .before .before .before .before .before in
+    let l = r .before .before .before .before .before in
+    let a = l .before .before .before .before .before in
+    let s = a .before .before .before .before .before .before .before .before .before .args in
+    written-four (known t (a .before .before .before)) (a .before .before .above .ensures) (l .before .before .left .ensures) (r .before .before .right .ensures) (b .before .before .below .ensures) (s .at) (s .out .now) (s .place)
+    (a .write-piece .ensures) (l .write-piece2 .ensures) (r .write-piece3 .ensures) (b .write-piece4 .ensures)
 
 -- A piece -------------------------------------------------------------------------------------------------------------
 
@@ -236,25 +259,29 @@ write-piece-is-empty-requires t c κs = search needs
 
 write-piece-returns : (t : ℕ) → write-piece-lts.Need-returns (piece-calls t) (write-piece-at t) write-piece.Post
 write-piece-returns t c =
-    let s = c .before .before .before .before in
-    written-none (s .args .out .now) (s .args .place) (ap (λ (rs : List Rect). seen (s .args .at) rs (drop (s .args .i) (rectsOf (s .args .n) (s .args .above .now)))) (piece-none (s .args .piece) (sym (c .before .is-empty .ensures) ∙ c .if1 .taken)) ∙ seen-none (s .args .at) (drop (s .args .i) (rectsOf (s .args .n) (s .args .above .now))))
+    let s = c .before .before .before .before .args in
+    let bs = drop (s .i) (rectsOf (s .n) (s .above .now)) in
+    let e = piece-none (s .piece) (sym (c .before .is-empty .ensures) ∙ c .if1 .taken) in
+    written-none (s .out .now) (s .place) (ap (λ (rs : List Rect). seen (s .at) rs bs) e ∙ seen-none (s .at) bs)
 
 write-piece-write-requires : (t : ℕ) → write-piece-lts.Need-write-requires (piece-calls t) (write-piece-at t) write-piece.Post
 write-piece-write-requires t c κs =
-    let s = c .before .before .before .before .before in (
-      omega (arith, s .pre .0),
-      (s .pre .1 .0, subst (λ (rs : List Rect). 4 * (s .args .place + length (seen (s .args .at) rs (drop (s .args .i) (rectsOf (s .args .n) (s .args .above .now))))) ≤ length (s .args .out .now)) (piece-one (s .args .piece) (sym (c .before .before .is-empty .ensures) ∙ c .before .if1 .left)) (s .pre .1 .1)),
-    )
+    let s = c .before .before .before .before .before in
+    let a = s .args in
+    let bs = drop (a .i) (rectsOf (a .n) (a .above .now)) in
+    let e = piece-one (a .piece) (sym (c .before .before .is-empty .ensures) ∙ c .before .if1 .left) in
+    (omega (arith, s .pre .0), (s .pre .1 .0, subst (λ (rs : List Rect). 4 * (a .place + length (seen (a .at) rs bs)) ≤ length (a .out .now)) e (s .pre .1 .1)))
 
 write-piece-same-length : (t : ℕ) → write-piece-lts.Need-same-length (piece-calls t) (write-piece-at t) write-piece.Post
 write-piece-same-length t c = search needs
 
 write-piece-returns-2 : (t : ℕ) → write-piece-lts.Need-returns-2 (piece-calls t) (write-piece-at t) write-piece.Post
 write-piece-returns-2 t c =
-    let s = c .before .before .before .before .before .before .before .before in
+    let s = c .before .before .before .before .before .before .before .before .args in
     let w = c .before .before .write in
-    subst (λ (rs : List Rect). Written (s .args .out .now) (s .args .place) (seen (s .args .at) rs (drop (s .args .i) (rectsOf (s .args .n) (s .args .above .now)))) (w .result) (w .last .1 .1 .1 .1 .1 .0))
-    (sym (piece-one (s .args .piece) (sym (c .before .before .before .before .before .is-empty .ensures) ∙ c .before .before .before .before .if1 .left))) (w .ensures)
+    let bs = drop (s .i) (rectsOf (s .n) (s .above .now)) in
+    let e = piece-one (s .piece) (sym (c .before .before .before .before .before .is-empty .ensures) ∙ c .before .before .before .before .if1 .left) in
+    subst (λ (rs : List Rect). Written (s .out .now) (s .place) (seen (s .at) rs bs) (w .result) (w .last .1 .1 .1 .1 .1 .0)) (sym e) (w .ensures)
 
 pub +write+write-piece-spec : {M : Type 1} → statement M
 +write+write-piece-spec = close μ-write μ-write-piece (λ t. write-lts.spec (write-calls t)
