@@ -71,50 +71,14 @@ fn draw_seen(
     }
     let both = inner::common(part, rects::rect_at(above, k));
     let next = k + 1;
-    draw_piece(
-        view,
-        around::above(part, both),
-        above,
-        next,
-        n,
-        dirty,
-        m,
-        store,
-        screen,
-    );
-    draw_piece(
-        view,
-        around::left(part, both),
-        above,
-        next,
-        n,
-        dirty,
-        m,
-        store,
-        screen,
-    );
-    draw_piece(
-        view,
-        around::right(part, both),
-        above,
-        next,
-        n,
-        dirty,
-        m,
-        store,
-        screen,
-    );
-    draw_piece(
-        view,
-        around::below(part, both),
-        above,
-        next,
-        n,
-        dirty,
-        m,
-        store,
-        screen,
-    );
+    let a = around::above(part, both);
+    draw_piece(view, a, above, next, n, dirty, m, store, screen);
+    let l = around::left(part, both);
+    draw_piece(view, l, above, next, n, dirty, m, store, screen);
+    let r = around::right(part, both);
+    draw_piece(view, r, above, next, n, dirty, m, store, screen);
+    let b = around::below(part, both);
+    draw_piece(view, b, above, next, n, dirty, m, store, screen);
 }
 
 // The same of a piece, which may have no pixel.
