@@ -25,6 +25,27 @@ pub enum Call {
     Visible(u16),
 }
 
+impl Call {
+    /// The exported function that does it.
+    pub fn function(&self) -> &'static str {
+        match self {
+            Call::Create => "roq_create",
+            Call::Show(_) => "roq_show",
+            Call::Hide(_) => "roq_hide",
+            Call::Drop(_) => "roq_drop",
+            Call::Mark(_) => "roq_mark",
+            Call::Move(..) => "roq_move",
+            Call::Resize(..) => "roq_resize",
+            Call::Fill(..) => "roq_fill",
+            Call::Blit(..) => "roq_blit",
+            Call::Press(..) | Call::Release(..) | Call::Point(..) => "roq_route",
+            Call::Pop(_) => "roq_pop",
+            Call::Redraw(_) => "roq_redraw",
+            Call::Visible(_) => "roq_visible",
+        }
+    }
+}
+
 /// An event that was popped.
 #[derive(Clone, Copy, Debug, PartialEq)]
 pub enum Popped {
@@ -55,7 +76,7 @@ pub struct State {
     pub screen: Vec<u32>,
 }
 
-/// One of the two implementations, with a session, pixels and a screen.
+/// One of the implementations, with a session, pixels and a screen.
 pub trait Side {
     fn call(&mut self, call: &Call) -> Reply;
     fn is_screen(&self, like: &dyn Fn(&[u32]) -> bool) -> bool;

@@ -1,18 +1,23 @@
 //! The classes of the tables, and those of the two plots.
 use crate::call::{Area, Call};
-use crate::class::{Class, Target};
-use crate::mix;
+use crate::class::{Beside, Class, Limit};
+use crate::mix::Drag;
+use crate::pixman;
 use crate::plain::Copied;
 use crate::rows;
-use crate::scene::{cascade, eight, free_crossing, free_station, plans, station, Scene, HEIGHT, STEP, WIDTH};
+use crate::scene::{
+    cascade, eight, free_crossing, free_station, plans, station, Scene, DRAGGED, DRAGGED_OF_EIGHT, HEIGHT, STEP, WIDTH,
+};
 
-/// A call that touches neither pixels nor lists.
-const SMALL: Target = Target::More(100.0);
 const LISTS: &str =
     "the original makes its visible lists here, we make them when a redraw or a visible list needs them";
 const KEPT: &str = "the original kept it at the last show, hide, move or resize";
-const CLEARED: &str = "document 01 has us clear the rest of the window's C pixels";
+const CLEARED: &str = "document 01 has us clear the rest of the window's C pixels; the limit is `memset` of C";
 const OTHER: &str = "the original draws something else (docs/DIFFERENCES.md)";
+
+/// What a station does, on one display and on eight.
+pub const MIX: &str = "a second of the station's mix";
+pub const MIX_OF_EIGHT: &str = "a second of the mix on eight displays";
 
 pub fn table() -> Vec<Class> {
     let mut all = small();
@@ -20,6 +25,9 @@ pub fn table() -> Vec<Class> {
     all.extend(pixels());
     all.extend(redraws());
     all.extend(mixes());
+    if pixman::INSTALLED {
+        all.extend(beside_pixman());
+    }
     all.extend(rows::classes());
     all
 }
@@ -42,21 +50,21 @@ fn small() -> Vec<Class> {
     let mut pop = Class::new("pop, 16 events wait", cascade(16), pops).between(presses.clone());
     pop.scene.setup.extend(presses);
     let mark = Class::new("mark", cascade(16), (0..16).map(Call::Mark).collect());
-    [press, pop, mark].into_iter().map(|class| class.target(SMALL)).collect()
+    vec![press, pop, mark]
 }
 
 fn order() -> Vec<Class> {
     let made = vec![Call::Create, Call::Drop(15)];
     let shown = vec![Call::Hide(15), Call::Show(15)];
     let mut all = vec![
-        Class::new("create or drop, 15 windows", cascade(15), made).target(SMALL),
+        Class::new("create or drop, 15 windows", cascade(15), made),
         Class::new("hide or show, 16 windows", cascade(16), shown).note(LISTS),
     ];
     for (above, id) in [(0, 15), (3, 12), (15, 0)] {
         let name = format!("move, {above} windows above and {id} below");
         all.push(Class::new(name, cascade(16), moves(id)).note(LISTS));
     }
-    all.push(Class::new("visible list of the lowest of 16", cascade(16), vec![Call::Visible(0)]).note(KEPT));
+    all.push(listed("visible list of the lowest of 16".into(), cascade(16)).note(KEPT));
     let listed = moves(0).into_iter().flat_map(|call| [call, Call::Visible(0)]).collect();
     all.push(Class::new("move of the lowest of 16, and its visible list", cascade(16), listed).parts(2));
     all
@@ -81,6 +89,10 @@ fn pixels() -> Vec<Class> {
         let blits = eight_areas(w, h).into_iter().map(|a| Call::Blit(0, a, (0..w * h).collect())).collect();
         all.push(written(format!("blit {w} by {h}"), blits, eight_areas(w, h)));
     }
+    let whole = Area(0, 0, WIDTH, HEIGHT);
+    all.push(written("fill 800 by 480".into(), vec![Call::Fill(0, whole, 0x0012_3456)], vec![whole]));
+    let data = (0..WIDTH * HEIGHT).collect();
+    all.push(written("blit 800 by 480".into(), vec![Call::Blit(0, whole, data)], vec![whole]));
     all.push(resized("resize, 800 by 480, C 384,000", cascade(1), WIDTH, HEIGHT));
     let mut little = cascade(1);
     little.setup.extend([Call::Resize(0, WIDTH, 50), Call::Resize(0, 100, 50), Call::Pop(0), Call::Pop(0)]);
@@ -90,18 +102,17 @@ fn pixels() -> Vec<Class> {
 
 /// Each area once; the damage is then drawn.
 fn written(name: String, calls: Vec<Call>, areas: Vec<Area>) -> Class {
-    let rows = Copied::areas(areas).times(0.125);
-    Class::new(name, cascade(4), calls).between(vec![Call::Mark(0), Call::Redraw(false)]).rows(rows)
+    let times = 1.0 / areas.len() as f64;
+    let rows = Limit::Rows(Copied::areas(areas).times(times));
+    Class::new(name, cascade(4), calls).between(vec![Call::Mark(0), Call::Redraw(false)]).limit(rows)
 }
 
 /// A window at half its width, at one row, at its whole width, and as it was.
 fn resized(name: &str, scene: Scene, w: u32, h: u32) -> Class {
     let sizes = [(w / 2, h), (w / 2, 1), (w, 1), (w, h)];
     let timed = sizes.iter().map(|&(w, h)| Call::Resize(0, w, h)).collect();
-    Class::new(name, scene, timed)
-        .between(vec![Call::Pop(0); 4])
-        .rows(Copied::areas(vec![Area(0, 0, w, h)]))
-        .note(CLEARED)
+    let limit = Limit::Cleared(scene.c);
+    Class::new(name, scene, timed).between(vec![Call::Pop(0); 4]).limit(limit).note(CLEARED)
 }
 
 fn redraws() -> Vec<Class> {
@@ -112,7 +123,7 @@ fn redraws() -> Vec<Class> {
     all.push(full("full redraw 6,400 by 480, windows: 16".into(), eight()));
     let moved = moves(15).into_iter().flat_map(|call| [call, Call::Redraw(false)]).collect();
     let moved = Class::new("move and full redraw 800 by 480, windows: 16", cascade(16), moved).parts(2);
-    all.push(moved.picture(Copied::picture(WIDTH, HEIGHT)));
+    all.push(moved.limit(Limit::Redraws));
     all.extend([4, 16].map(|n| lists(format!("full redraw 1 by 1, windows: {n}"), cascade(n))));
     for n in [4, 8, 16] {
         let name = format!("full redraw 800 by 480, crossing windows: {n}");
@@ -123,8 +134,7 @@ fn redraws() -> Vec<Class> {
 }
 
 fn full(name: String, scene: Scene) -> Class {
-    let picture = Copied::picture(scene.width, scene.height);
-    Class::new(name, scene, vec![Call::Redraw(true)]).picture(picture).full()
+    Class::new(name, scene, vec![Call::Redraw(true)]).limit(Limit::Redraws)
 }
 
 /// All but the pixels.
@@ -137,7 +147,7 @@ fn button() -> Class {
     let paint = vec![Call::Fill(3, Area(50, 40, 100, 50), 7), Call::Mark(3)];
     let mut class = Class::new("redraw of a button, 100 by 50", cascade(4), vec![Call::Redraw(false)]);
     class.scene.setup.extend(paint.clone());
-    class.between(paint).rows(Copied::areas(vec![Area(125, 85, 100, 50)]))
+    class.between(paint).limit(Limit::Rows(Copied::areas(vec![Area(125, 85, 100, 50)])))
 }
 
 /// A strip of each of 16 windows is painted and drawn.
@@ -147,16 +157,36 @@ fn marked() -> Class {
     let mut class = Class::new("redraw of 16 marked windows, 100 by 15 each", cascade(16), vec![Call::Redraw(false)]);
     class.scene.setup.extend(paint.clone());
     let strips = (0..16).map(|k| Area(k * STEP.0, k * STEP.1, 100, STEP.1)).collect();
-    class.between(paint).rows(Copied::areas(strips))
+    class.between(paint).limit(Limit::Rows(Copied::areas(strips)))
 }
 
 fn mixes() -> Vec<Class> {
-    let pictures = Copied::picture(WIDTH, HEIGHT).times(f64::from(mix::REDRAWS));
-    let mix = |name, scene| Class::new(name, scene, mix::second()).parts(1).picture(pictures.clone());
+    let mix = |name, scene, drag: Drag| Class::new(name, scene, drag.second()).parts(1).limit(Limit::Redraws);
     vec![
-        mix("a second of the station's mix", station(mix::START)),
-        mix("the same, panels anywhere", free_station(mix::START)).note(OTHER),
+        mix(MIX, station(), DRAGGED),
+        mix("the same, panels anywhere", free_station(), DRAGGED).note(OTHER),
+        mix(MIX_OF_EIGHT, eight(), DRAGGED_OF_EIGHT),
     ]
+}
+
+fn beside_pixman() -> Vec<Class> {
+    let mut all = vec![listed("visible list of the lowest of 16".into(), cascade(16))];
+    for n in [4, 8, 16] {
+        all.push(listed(format!("visible list of the lowest, crossing windows: {n}"), free_crossing(n)));
+    }
+    for n in [1, 4, 16] {
+        all.push(full(format!("full redraw 800 by 480, windows: {n}"), cascade(n)));
+    }
+    for n in [4, 8, 16] {
+        all.push(full(format!("full redraw 800 by 480, crossing windows: {n}"), free_crossing(n)));
+    }
+    all.push(full("full redraw 6,400 by 480, windows: 16".into(), eight()));
+    all.into_iter().map(|class| class.beside(Beside::Pixman)).collect()
+}
+
+/// The visible list of the lowest window.
+fn listed(name: String, scene: Scene) -> Class {
+    Class::new(name, scene, vec![Call::Visible(0)])
 }
 
 /// A full redraw against the number of windows.

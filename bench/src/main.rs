@@ -1,7 +1,9 @@
-//! The same lists of calls on our library and on the original, and fills and blits beside a loop over rows: two tables of times, and two
-//! plots of the full redraw.
+//! The same lists of calls on our library, on the original, on pixman and on a loop over rows: tables of times, and two plots of the full
+//! redraw.
 //!
-//! `bench FOLDER` writes speed-table.md, redraw-windows.svg and redraw-pixels.svg there and prints the tables.
+//! `bench FOLDER COPIES STACK` writes speed-table.md, redraw-windows.svg and redraw-pixels.svg there, puts its tables into SPEED.md and
+//! prints all of them; the two files have a number for each exported call. `bench --beside PROGRAM` compares with this benchmark linked
+//! with another archive, and writes nothing.
 mod call;
 mod check;
 mod class;
@@ -10,17 +12,22 @@ mod loops;
 mod measure;
 mod mix;
 mod ours;
+#[cfg_attr(not(pixman), path = "no_pixman.rs")]
+mod pixman;
 mod plain;
 mod plot;
 mod report;
 mod rows;
 mod scene;
 mod station;
+mod summary;
+mod targets;
 mod theirs;
 
 use class::{Beside, Class};
 use measure::{measure, middle, Measured};
 use plot::{Curve, Plot};
+use std::fs;
 use std::path::Path;
 use std::process::Command;
 
@@ -28,31 +35,46 @@ use std::process::Command;
 const PROCESSES: usize = 5;
 /// The word that makes a process measure.
 const ONCE: &str = "--once";
-const HEAD: &str = "# Speed table\n\nWritten by `bash bench/run`. [SPEED.md](SPEED.md) says what is measured.\n\n";
-const ROWS: &str = "## Beside a loop over rows in Rust\n\n";
+const NO_PIXMAN: &str = "pixman is not installed: its rows are left out.\n";
 
 fn main() {
-    let word = std::env::args().nth(1).expect("the folder to write to");
-    let table = classes::table();
-    let (windows, pixels) = (classes::by_windows(), classes::by_pixels());
-    if word == ONCE {
-        let plotted = windows.iter().chain(&pixels).map(|(_, class)| class);
-        for m in table.iter().chain(plotted).map(measure) {
-            println!(
-                "{} {} {} {} {} {} {}",
-                m.ours, m.theirs, m.rows, m.picture, m.ratio, m.rows_speed, m.picture_speed
-            );
-        }
-        return;
+    let words: Vec<String> = std::env::args().skip(1).collect();
+    let words: Vec<&str> = words.iter().map(String::as_str).collect();
+    match words[..] {
+        [ONCE] => once(),
+        ["--beside", other] => beside(other),
+        [folder, copies, stack] => tables(Path::new(folder), &read(copies), &read(stack)),
+        _ => panic!("bench FOLDER COPIES STACK, or bench --beside PROGRAM"),
     }
-    let runs: Vec<Vec<Measured>> = (0..PROCESSES).map(|_| in_a_process()).collect();
+}
+
+fn once() {
+    let (table, windows, pixels) = (classes::table(), classes::by_windows(), classes::by_pixels());
+    let plotted = windows.iter().chain(&pixels).map(|(_, class)| class);
+    for m in table.iter().chain(plotted).map(measure) {
+        println!("{} {} {} {} {}", m.ours, m.theirs, m.limit, m.ratio, m.speed);
+    }
+}
+
+fn tables(folder: &Path, copies: &str, stack: &str) {
+    let (table, windows, pixels) = (classes::table(), classes::by_windows(), classes::by_pixels());
+    let (copies, stack) = (summary::numbers(copies), summary::numbers(stack));
+    let runs: Vec<Vec<Measured>> = (0..PROCESSES).map(|_| in_a_process(&this_program())).collect();
     let results: Vec<Measured> = (0..runs[0].len()).map(|i| middle(&of_class(&runs, i))).collect();
     let (of_table, of_plots) = results.split_at(table.len());
     let (of_windows, of_pixels) = of_plots.split_at(windows.len());
-    let folder = Path::new(&word);
-    write(folder, "speed-table.md", &tell(&table, of_table, &runs));
-    write(folder, "redraw-windows.svg", &by_windows(&windows, of_windows));
-    write(folder, "redraw-pixels.svg", &by_pixels(&pixels, of_pixels));
+    let short = [
+        ("station", summary::station(&table, of_table, &stack)),
+        ("targets", format!("{}{}", targets::table(&table, of_table), if pixman::INSTALLED { "" } else { NO_PIXMAN })),
+        ("calls", summary::calls(&table, of_table, &copies, &stack)),
+    ];
+    let long = tell(&table, of_table, &runs);
+    short.iter().for_each(|(_, table)| println!("{table}"));
+    print!("{long}");
+    put(&folder.join("SPEED.md"), &short);
+    write(&folder.join("speed-table.md"), &long);
+    write(&folder.join("redraw-windows.svg"), &by_windows(&windows, of_windows));
+    write(&folder.join("redraw-pixels.svg"), &by_pixels(&pixels, of_pixels));
 }
 
 fn of_class(runs: &[Vec<Measured>], class: usize) -> Vec<Measured> {
@@ -60,14 +82,29 @@ fn of_class(runs: &[Vec<Measured>], class: usize) -> Vec<Measured> {
 }
 
 fn tell(classes: &[Class], results: &[Measured], runs: &[Vec<Measured>]) -> String {
-    let table = |beside| {
-        let table = report::table(beside, classes, results, runs);
-        format!("{table}\nMissed: {}.\n", report::missed(beside, classes, results))
-    };
+    let table = |beside| report::table(beside, classes, results, runs);
     let (original, loops) = (table(Beside::Original), table(Beside::Loops));
-    let text = format!("{HEAD}{original}\n{}\n{ROWS}{loops}", report::notes(classes));
-    print!("{text}");
-    text
+    let pixman = if pixman::INSTALLED { table(Beside::Pixman) } else { NO_PIXMAN.to_string() };
+    format!(
+        "# Speed table\n\nWritten by `bash bench/run`. [SPEED.md](SPEED.md) says what is measured.\n\n\
+         ## Beside the original\n\n{original}\n{}\n## Beside pixman\n\n{pixman}\n\
+         ## Beside a loop over rows in Rust\n\n{loops}",
+        report::notes(classes)
+    )
+}
+
+/// The same benchmark with another archive, process by process in turns.
+fn beside(other: &str) {
+    let (mut ours, mut others) = (Vec::new(), Vec::new());
+    for turn in 0..2 * PROCESSES {
+        // Who begins changes from pair to pair.
+        if turn % 4 == 0 || turn % 4 == 3 {
+            others.push(in_a_process(other));
+        } else {
+            ours.push(in_a_process(&this_program()));
+        }
+    }
+    print!("{}", report::archives(&classes::table(), &ours, &others));
 }
 
 fn by_windows(classes: &[(f64, Class)], results: &[Measured]) -> String {
@@ -96,29 +133,45 @@ fn curves(classes: &[(f64, Class)], results: &[Measured], across: f64, up: f64) 
         Curve { name, colour, points }
     };
     vec![
-        curve("memcpy, one picture", "#bbbbbb", |m| m.picture),
-        curve("memcpy, same rows", "#777777", |m| m.rows),
+        curve("memcpy, same rows", "#777777", |m| m.limit),
         curve("the original", "#d05020", |m| m.theirs),
         curve("ours", "#1060c0", |m| m.ours),
     ]
 }
 
-fn write(folder: &Path, name: &str, text: &str) {
-    let file = folder.join(name);
-    std::fs::write(&file, text).unwrap_or_else(|e| panic!("{}: {e}", file.display()));
+/// Puts each table between its two marks.
+fn put(file: &Path, tables: &[(&str, String)]) {
+    let mut text = read(&file.to_string_lossy());
+    for (name, table) in tables {
+        let begin = format!("<!-- bench/run: {name} -->\n");
+        let at = text.find(&begin).unwrap_or_else(|| panic!("{}: no mark {begin}", file.display())) + begin.len();
+        let end =
+            at + text[at..].find("<!-- end -->").unwrap_or_else(|| panic!("{}: {name} has no end", file.display()));
+        text.replace_range(at..end, table);
+    }
+    write(file, &text);
 }
 
-fn in_a_process() -> Vec<Measured> {
-    let program = std::env::current_exe().expect("the path of this program");
+fn write(file: &Path, text: &str) {
+    fs::write(file, text).unwrap_or_else(|e| panic!("{}: {e}", file.display()));
+}
+
+fn read(file: &str) -> String {
+    fs::read_to_string(file).unwrap_or_else(|e| panic!("{file}: {e}"))
+}
+
+fn this_program() -> String {
+    std::env::current_exe().expect("the path of this program").to_string_lossy().into_owned()
+}
+
+fn in_a_process(program: &str) -> Vec<Measured> {
     let run = Command::new(program).arg(ONCE).output().expect("a process");
     assert!(run.status.success(), "{}", String::from_utf8_lossy(&run.stderr));
-    String::from_utf8_lossy(&run.stdout).lines().map(read).collect()
+    String::from_utf8_lossy(&run.stdout).lines().map(measured).collect()
 }
 
-fn read(line: &str) -> Measured {
+fn measured(line: &str) -> Measured {
     let numbers: Vec<f64> = line.split(' ').map(|n| n.parse().expect("a number")).collect();
-    let [ours, theirs, rows, picture, ratio, rows_speed, picture_speed] = numbers[..] else {
-        panic!("seven numbers: {line}")
-    };
-    Measured { ours, theirs, rows, picture, ratio, rows_speed, picture_speed }
+    let [ours, theirs, limit, ratio, speed] = numbers[..] else { panic!("five numbers: {line}") };
+    Measured { ours, theirs, limit, ratio, speed }
 }

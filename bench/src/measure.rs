@@ -1,9 +1,10 @@
-//! The sides and `memcpy`, timed in turns: whatever else the machine does slows all.
+//! The sides and the limit, timed in turns: whatever else the machine does slows all.
 use crate::call::Side;
 use crate::check;
-use crate::class::{Beside, Class};
+use crate::class::{Beside, Class, Limit};
 use crate::loops::Loops;
 use crate::ours::Ours;
+use crate::pixman::Pixman;
 use crate::plain::Plain;
 use crate::theirs::Theirs;
 use std::hint::black_box;
@@ -21,29 +22,25 @@ const LEAST_ROUNDS: f64 = 15.0;
 pub struct Measured {
     pub ours: f64,
     pub theirs: f64,
-    /// `memcpy` of the same rows.
-    pub rows: f64,
-    /// `memcpy` of one picture of as many pixels.
-    pub picture: f64,
+    pub limit: f64,
     /// Ours by theirs.
     pub ratio: f64,
-    /// How fast we are beside `memcpy`: its time by ours.
-    pub rows_speed: f64,
-    pub picture_speed: f64,
+    /// How fast we are beside the limit: its time by ours.
+    pub speed: f64,
 }
 
 /// Who takes part.
 struct Turns<Other> {
     ours: Ours,
     theirs: Option<Other>,
-    rows: Option<Plain>,
-    picture: Option<Plain>,
+    limit: Option<Plain>,
 }
 
 pub fn measure(class: &Class) -> Measured {
     let scene = &class.scene;
     match class.beside {
         Beside::Original => beside(class, scene.common.then(|| Theirs::new(scene.width, scene.height))),
+        Beside::Pixman => beside(class, Some(Pixman::new(scene.width, scene.height))),
         Beside::Loops => beside(class, Some(Loops::new(scene.width, scene.height))),
     }
 }
@@ -55,32 +52,33 @@ fn beside(class: &Class, mut theirs: Option<impl Side>) -> Measured {
         Some(theirs) => check::same(class, &mut ours, theirs),
         None => check::alone(class, &mut ours),
     }
-    let rows = if class.is_full { Some(ours.plain()) } else { class.rows.as_ref().map(Plain::copied) };
-    let picture = class.picture.as_ref().map(Plain::copied);
+    let limit = match &class.limit {
+        Limit::None => None,
+        Limit::Rows(rows) => Some(Plain::copied(rows)),
+        Limit::Redraws => Some(ours.plain(class)),
+        Limit::Cleared(pixels) => Some(Plain::cleared(*pixels)),
+    };
     let times = times_in_a_turn(class, &mut ours);
     let turn = time(class, &mut ours, times) * (times * class.parts) as f64;
     let rounds = (BUDGET / turn).clamp(LEAST_ROUNDS, MOST_ROUNDS) as usize;
-    let mut turns = Turns { ours, theirs, rows, picture };
+    let mut turns = Turns { ours, theirs, limit };
     let all: Vec<Measured> = (0..rounds).map(|r| round(class, times, r, &mut turns)).collect();
     middle(&all)
 }
 
 /// Who begins changes from round to round.
 fn round(class: &Class, times: usize, round: usize, turns: &mut Turns<impl Side>) -> Measured {
-    let mut taken = [f64::NAN; 4];
-    let parts = times * class.parts;
-    for turn in 0..4 {
-        let who = (round + turn) % 4;
+    let mut taken = [f64::NAN; 3];
+    for turn in 0..3 {
+        let who = (round + turn) % 3;
         taken[who] = match who {
             0 => time(class, &mut turns.ours, times),
             1 => turns.theirs.as_mut().map_or(f64::NAN, |side| time(class, side, times)),
-            2 => turns.rows.as_mut().map_or(f64::NAN, |plain| plain.time(parts)),
-            _ => turns.picture.as_mut().map_or(f64::NAN, |plain| plain.time(parts)),
+            _ => turns.limit.as_mut().map_or(f64::NAN, |plain| plain.time(times * class.parts)),
         };
     }
-    let [ours, theirs, rows, picture] = taken;
-    let (ratio, rows_speed, picture_speed) = (ours / theirs, rows / ours, picture / ours);
-    Measured { ours, theirs, rows, picture, ratio, rows_speed, picture_speed }
+    let [ours, theirs, limit] = taken;
+    Measured { ours, theirs, limit, ratio: ours / theirs, speed: limit / ours }
 }
 
 /// Nanoseconds of one part.
@@ -113,18 +111,17 @@ fn times_in_a_turn(class: &Class, side: &mut impl Side) -> usize {
 
 /// The median of each number.
 pub fn middle(all: &[Measured]) -> Measured {
-    let median = |number: fn(&Measured) -> f64| {
-        let mut sorted: Vec<f64> = all.iter().map(number).collect();
-        sorted.sort_by(f64::total_cmp);
-        sorted[sorted.len() / 2]
-    };
+    let of = |number: fn(&Measured) -> f64| median(all.iter().map(number).collect());
     Measured {
-        ours: median(|m| m.ours),
-        theirs: median(|m| m.theirs),
-        rows: median(|m| m.rows),
-        picture: median(|m| m.picture),
-        ratio: median(|m| m.ratio),
-        rows_speed: median(|m| m.rows_speed),
-        picture_speed: median(|m| m.picture_speed),
+        ours: of(|m| m.ours),
+        theirs: of(|m| m.theirs),
+        limit: of(|m| m.limit),
+        ratio: of(|m| m.ratio),
+        speed: of(|m| m.speed),
     }
+}
+
+pub fn median(mut numbers: Vec<f64>) -> f64 {
+    numbers.sort_by(f64::total_cmp);
+    numbers[numbers.len() / 2]
 }

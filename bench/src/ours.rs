@@ -1,5 +1,6 @@
 //! Our side: a station's session with the store and the screen that it is lent.
 use crate::call::{Area, Call, Popped, Reply, Side, State};
+use crate::class::Class;
 use crate::plain::{Piece, Plain};
 use crate::station::{Event, Station, MOUSE_DOWN, MOUSE_MOVE, MOUSE_UP, RESIZE};
 
@@ -36,17 +37,33 @@ impl Ours {
         }
     }
 
-    /// The visible rectangles of windows that were shown in the order of their ids, drawn by `memcpy`.
-    pub fn plain(&mut self) -> Plain {
+    /// What the redraws among the calls draw, drawn by `memcpy`.
+    pub fn plain(&mut self, class: &Class) -> Plain {
         let mut pieces = Vec::new();
-        for id in 0..16 {
-            let [x, y, w, _] = self.station.rect_of(id).unwrap_or_default();
-            for Area(left, top, width, height) in self.visible(id) {
-                let from = usize::from(id) * self.c + (top * w + left) as usize;
-                pieces.push(Piece { from, pitch: w as usize, to: Area(x + left, y + top, width, height) });
+        for call in &class.timed {
+            self.call(call);
+            if let Call::Redraw(_) = call {
+                pieces.extend((0..16).flat_map(|id| self.pieces(id)));
             }
         }
-        Plain::drawn(pieces, self.store.clone(), &self.screen, self.width)
+        let plain = Plain::drawn(pieces, class.parts, self.store.clone(), &self.screen, self.width);
+        for call in &class.between {
+            self.call(call);
+        }
+        plain
+    }
+
+    /// The visible rectangles of a window, as far as they lie on the screen.
+    fn pieces(&mut self, id: u16) -> Vec<Piece> {
+        let [x, y, w, _] = self.station.rect_of(id).unwrap_or_default();
+        let from = usize::from(id) * self.c;
+        let visible = self.visible(id);
+        let piece = |Area(left, top, width, height)| {
+            let (x, y) = (x + left, y + top);
+            let to = Area(x, y, width.min(self.width.saturating_sub(x)), height.min(self.height.saturating_sub(y)));
+            Piece { from: from + (top * w + left) as usize, pitch: w as usize, to }
+        };
+        visible.into_iter().map(piece).collect()
     }
 
     fn visible(&mut self, id: u16) -> Vec<Area> {

@@ -1,4 +1,4 @@
-//! `memcpy` of as many pixels, row by row.
+//! What the C library takes for as many pixels: `memcpy` row by row, and `memset`.
 use crate::call::Area;
 use crate::scene::{HEIGHT, WIDTH};
 use std::hint::black_box;
@@ -7,21 +7,15 @@ use std::time::Instant;
 /// Areas of a picture that go to the same places of another one.
 #[derive(Clone)]
 pub struct Copied {
-    width: u32,
-    height: u32,
     areas: Vec<Area>,
     /// How often all of them are copied for one part of a class.
     times: f64,
 }
 
 impl Copied {
-    /// All of a picture.
-    pub fn picture(width: u32, height: u32) -> Copied {
-        Copied { width, height, areas: vec![Area(0, 0, width, height)], times: 1.0 }
-    }
     /// Areas of a station's screen.
     pub fn areas(areas: Vec<Area>) -> Copied {
-        Copied { areas, ..Copied::picture(WIDTH, HEIGHT) }
+        Copied { areas, times: 1.0 }
     }
     pub fn times(self, times: f64) -> Copied {
         Copied { times, ..self }
@@ -45,18 +39,24 @@ pub struct Plain {
 
 impl Plain {
     pub fn copied(what: &Copied) -> Plain {
-        let (width, size) = (what.width as usize, what.width * what.height);
+        let (width, size) = (WIDTH as usize, WIDTH * HEIGHT);
         let piece = |&to: &Area| Piece { from: to.1 as usize * width + to.0 as usize, pitch: width, to };
         let pieces = what.areas.iter().map(piece).collect();
         Plain { pieces, times: what.times, from: (0..size).collect(), to: vec![1; size as usize], width }
     }
 
-    /// A screen, so many pixels wide, drawn from a store.
-    pub fn drawn(pieces: Vec<Piece>, store: Vec<u32>, screen: &[u32], width: u32) -> Plain {
-        let mut plain = Plain { pieces, times: 1.0, from: store, to: vec![1; screen.len()], width: width as usize };
+    /// A screen, so many pixels wide, drawn from a store; the last of the pieces fill it. All of them are drawn in so many parts of a class.
+    pub fn drawn(pieces: Vec<Piece>, parts: usize, store: Vec<u32>, screen: &[u32], width: u32) -> Plain {
+        let (to, width, times) = (vec![1; screen.len()], width as usize, 1.0 / parts as f64);
+        let mut plain = Plain { pieces, times, from: store, to, width };
         plain.time(1);
         assert!(plain.to == screen, "the visible lists do not draw the screen");
         plain
+    }
+
+    /// No pieces: so many pixels are cleared.
+    pub fn cleared(pixels: u32) -> Plain {
+        Plain { pieces: Vec::new(), times: 1.0, from: Vec::new(), to: vec![1; pixels as usize], width: 0 }
     }
 
     /// Nanoseconds of one part, of so many parts.
@@ -64,6 +64,9 @@ impl Plain {
         let copies = (parts as f64 * self.times).ceil();
         let start = Instant::now();
         for _ in 0..copies as usize {
+            if self.pieces.is_empty() {
+                black_box(&mut self.to).fill(0);
+            }
             for piece in &self.pieces {
                 copy(black_box(&mut self.to), self.width, black_box(&self.from), black_box(piece));
             }

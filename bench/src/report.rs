@@ -1,26 +1,48 @@
-//! The tables, as text that is also Markdown.
-use crate::class::{Beside, Class, Target};
-use crate::measure::Measured;
-
-/// A full redraw is to be at least so fast beside `memcpy` of one picture of as many pixels.
-const SPEED: f64 = 0.9;
-
-const ORIGINAL: &str = "| class | ours ns | original ns | ratio | from - to | same rows | one picture | target | |\n\
-                        |---|---:|---:|---:|---|---:|---:|---|---|\n";
-const LOOPS: &str = "| class | ours ns | Rust ns | ratio | from - to | target | |\n|---|---:|---:|---:|---|---|---|\n";
+//! The tables of classes, as text that is also Markdown.
+use crate::class::{Beside, Class};
+use crate::measure::{median, Measured};
 
 /// Of the classes that are played beside one side: the medians of each, and the results of the single processes.
 pub fn table(beside: Beside, classes: &[Class], results: &[Measured], runs: &[Vec<Measured>]) -> String {
-    let mut text = String::from(if beside == Beside::Original { ORIGINAL } else { LOOPS });
+    let (theirs, limit) = match beside {
+        Beside::Original => ("original", true),
+        Beside::Pixman => ("pixman", true),
+        Beside::Loops => ("Rust", false),
+    };
+    let (title, line) = if limit { (" same rows |", "---:|") } else { ("", "") };
+    let head =
+        format!("| class | ours ns | {theirs} ns | ratio | from - to |{title}\n|---|---:|---:|---:|---|{line}\n");
+    let mut text = head;
     for (i, (class, m)) in classes.iter().zip(results).enumerate().filter(|(_, (class, _))| class.beside == beside) {
-        let (target, met) = judge(class, m);
         let ratios: Vec<f64> = runs.iter().map(|run| run[i].ratio).collect();
         let (ours, theirs) = (nanoseconds(m.ours), nanoseconds(m.theirs));
         text += &format!("| {} | {ours} | {theirs} | {} | {} |", class.name, ratio(m.ratio), range(&ratios));
-        if beside == Beside::Original {
-            text += &format!(" {} | {} |", ratio(m.rows_speed), ratio(m.picture_speed));
-        }
-        text += &format!(" {target} | {met} |\n");
+        text += &if limit { format!(" {} |\n", ratio(m.speed)) } else { "\n".to_string() };
+    }
+    text
+}
+
+/// Our times with this archive and with another one, whose runs took turns.
+pub fn archives(classes: &[Class], ours: &[Vec<Measured>], others: &[Vec<Measured>]) -> String {
+    let mut text =
+        "| class | other ns | ours ns | ours by other | from - to | other by its side | ours by its side |\n\
+                    |---|---:|---:|---:|---|---:|---:|\n"
+            .to_string();
+    for (i, class) in classes.iter().enumerate() {
+        let all = |runs: &[Vec<Measured>], number: fn(&Measured) -> f64| -> Vec<f64> {
+            runs.iter().map(|run| number(&run[i])).collect()
+        };
+        let (a, b) = (all(others, |m| m.ours), all(ours, |m| m.ours));
+        let change: Vec<f64> = a.iter().zip(&b).map(|(a, b)| b / a).collect();
+        let (before, after) = (median(all(others, |m| m.ratio)), median(all(ours, |m| m.ratio)));
+        text += &format!("| {} | {} | {} |", class.name, nanoseconds(median(a)), nanoseconds(median(b)));
+        text += &format!(
+            " {} | {} | {} | {} |\n",
+            ratio(median(change.clone())),
+            range(&change),
+            ratio(before),
+            ratio(after)
+        );
     }
     text
 }
@@ -40,46 +62,20 @@ pub fn notes(classes: &[Class]) -> String {
     text
 }
 
-pub fn missed(beside: Beside, classes: &[Class], results: &[Measured]) -> usize {
-    let missed = |(class, m): &(&Class, &Measured)| class.beside == beside && judge(class, m).1 == "missed";
-    classes.iter().zip(results).filter(missed).count()
-}
-
-fn judge(class: &Class, m: &Measured) -> (String, &'static str) {
-    let mut met = !class.is_full || m.picture_speed >= SPEED;
-    let mut targets = Vec::new();
-    match class.target {
-        Target::Times(most) => {
-            // As it is printed.
-            met &= (100.0 * m.ratio).round() <= (100.0 * most).round();
-            targets.push(format!("{most:.2}"));
-        }
-        Target::More(most) => {
-            met &= m.ours - m.theirs <= most;
-            targets.push(format!("{most:.0} ns more"));
-        }
-        Target::None => {}
-    }
-    if class.is_full {
-        targets.push(format!("picture {SPEED:.2}"));
-    }
-    let says = match (targets.is_empty(), met) {
-        (true, _) => "",
-        (_, true) => "met",
-        (_, false) => "missed",
-    };
-    (targets.join(", "), says)
-}
-
-/// With commas, or with one decimal where it is short.
-fn nanoseconds(time: f64) -> String {
+/// With one decimal where it is short.
+pub fn nanoseconds(time: f64) -> String {
     if time.is_nan() {
         return String::new();
     }
     if time < 100.0 {
         return format!("{time:.1}");
     }
-    let digits = format!("{time:.0}");
+    whole(time)
+}
+
+/// With commas.
+pub fn whole(number: f64) -> String {
+    let digits = format!("{number:.0}");
     let mut text = String::new();
     for (i, digit) in digits.chars().enumerate() {
         if i > 0 && (digits.len() - i) % 3 == 0 {
@@ -90,13 +86,17 @@ fn nanoseconds(time: f64) -> String {
     text
 }
 
-fn range(numbers: &[f64]) -> String {
+/// From the least to the greatest.
+pub fn range(numbers: &[f64]) -> String {
     if numbers.iter().any(|n| n.is_nan()) {
         return String::new();
     }
-    let least = numbers.iter().copied().fold(f64::INFINITY, f64::min);
-    let most = numbers.iter().copied().fold(0.0, f64::max);
-    format!("{least:.2} - {most:.2}")
+    let least = ratio(numbers.iter().copied().fold(f64::INFINITY, f64::min));
+    let most = ratio(numbers.iter().copied().fold(0.0, f64::max));
+    if least == most {
+        return least;
+    }
+    format!("{least} - {most}")
 }
 
 fn ratio(number: f64) -> String {

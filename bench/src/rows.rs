@@ -1,7 +1,7 @@
 //! Rectangles of one window, filled and blitted. How far the places of a rectangle lie apart decides from which of the caches its
 //! pixels come, and that changes the ratios: so they lie near to each other, or far from each other.
 use crate::call::{Area, Call};
-use crate::class::{Beside, Class, Target};
+use crate::class::{Beside, Class};
 use crate::scene::{alone, Scene, HEIGHT, WIDTH};
 
 const WIDTHS: [u32; 7] = [8, 16, 32, 64, 100, 300, 800];
@@ -18,19 +18,18 @@ pub fn classes() -> Vec<Class> {
         for (lie, place) in [("near", near as fn(u32, u32) -> Area), ("far", far)] {
             for w in WIDTHS {
                 let calls = (0..PLACES).map(|k| call(place(w, k))).collect();
-                all.push(class(format!("{word} {w} by {ROWS}, {lie}"), alone(WIDTH, HEIGHT), calls, w));
+                all.push(class(format!("{word} {w} by {ROWS}, {lie}"), alone(WIDTH, HEIGHT), calls));
             }
         }
         for w in SINGLE {
-            all.push(class(format!("{word} {w} by 1"), alone(w, 1), vec![call(Area(0, 0, w, 1))], w));
+            all.push(class(format!("{word} {w} by 1"), alone(w, 1), vec![call(Area(0, 0, w, 1))]));
         }
     }
     all
 }
 
-fn class(name: String, scene: Scene, calls: Vec<Call>, w: u32) -> Class {
-    let most = if w < 300 { 1.0 } else { 1.15 };
-    Class::new(name, scene, calls).beside(Beside::Loops).target(Target::Times(most))
+fn class(name: String, scene: Scene, calls: Vec<Call>) -> Class {
+    Class::new(name, scene, calls).beside(Beside::Loops)
 }
 
 fn fill(area: Area) -> Call {

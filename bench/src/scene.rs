@@ -3,6 +3,7 @@
 //! The original loses parts of a window where a higher one meets some entries of its visible list and misses others. In the scenes
 //! without `free` in their name no window does, so both sides draw the same.
 use crate::call::{Area, Call};
+use crate::mix::Drag;
 
 /// The screen of a station.
 pub const WIDTH: u32 = 800;
@@ -49,12 +50,12 @@ pub fn cascade(n: u32) -> Scene {
     scene(WIDTH, HEIGHT, &(0..n).map(place).collect::<Vec<_>>())
 }
 
-/// The panel that is dragged.
-pub const DRAGGED: u16 = 6;
+/// The panel that is dragged across a station's screen.
+pub const DRAGGED: Drag = Drag { id: 6, start: (3, 45), step: (6, 2) };
 const PANEL: (u32, u32) = (200, 150);
 
-/// A plan that fills the screen, five panels along its edges, and over them one that is dragged, at `start`.
-pub fn station(start: (u32, u32)) -> Scene {
+/// A plan that fills the screen, five panels along its edges, and over them the one that is dragged.
+pub fn station() -> Scene {
     let edges = [
         Area(0, 0, 800, 480),
         Area(0, 0, 800, 48),
@@ -62,15 +63,15 @@ pub fn station(start: (u32, u32)) -> Scene {
         Area(0, 48, 100, 384),
         Area(700, 48, 100, 384),
         Area(100, 48, 600, 40),
-        Area(start.0, start.1, PANEL.0, PANEL.1),
+        Area(DRAGGED.start.0, DRAGGED.start.1, PANEL.0, PANEL.1),
     ];
     scene(WIDTH, HEIGHT, &edges)
 }
 
 /// A plan that fills the screen, and six panels anywhere over it, the highest one dragged.
-pub fn free_station(start: (u32, u32)) -> Scene {
+pub fn free_station() -> Scene {
     let mut places = vec![Area(0, 0, WIDTH, HEIGHT)];
-    for (x, y) in [(60, 50), (180, 120), (420, 90), (520, 200), (250, 270), start] {
+    for (x, y) in [(60, 50), (180, 120), (420, 90), (520, 200), (250, 270), DRAGGED.start] {
         places.push(Area(x, y, PANEL.0, PANEL.1));
     }
     Scene { common: false, ..scene(WIDTH, HEIGHT, &places) }
@@ -93,9 +94,14 @@ pub fn plans(width: u32) -> Scene {
     scene(width, HEIGHT, &(0..width / one).map(place).collect::<Vec<_>>())
 }
 
+/// The panel of the last of eight displays; it stays on that display.
+pub const DRAGGED_OF_EIGHT: Drag = Drag { id: 15, start: (7 * WIDTH + 3, 45), step: (4, 2) };
+
 /// Eight displays side by side as one screen, on each a plan with a panel.
 pub fn eight() -> Scene {
+    let (x, y) = DRAGGED_OF_EIGHT.start;
     let plans = (0..8).map(|k| Area(k * WIDTH, 0, WIDTH, HEIGHT));
-    let panels = (0..8).map(|k| Area(k * WIDTH + 100, 100, 300, 200));
-    scene(8 * WIDTH, HEIGHT, &plans.chain(panels).collect::<Vec<_>>())
+    let panels = (0..7).map(|k| Area(k * WIDTH + 100, 100, 300, 200));
+    let places: Vec<Area> = plans.chain(panels).chain([Area(x, y, 300, 200)]).collect();
+    scene(8 * WIDTH, HEIGHT, &places)
 }

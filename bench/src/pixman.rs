@@ -1,0 +1,203 @@
+//! Pixman's side: a region for what is visible of a window, and clipped compositing of its pixels. It knows the calls of a scene's setup, full
+//! redraws and visible lists.
+use crate::call::{Area, Call, Popped, Reply, Side, State};
+use std::ffi::c_void;
+use std::ptr::null_mut;
+
+pub const INSTALLED: bool = true;
+
+#[repr(C)]
+struct Box32 {
+    x1: i32,
+    y1: i32,
+    x2: i32,
+    y2: i32,
+}
+
+#[repr(C)]
+struct Region {
+    extents: Box32,
+    data: *mut c_void,
+}
+
+/// A `pixman_image_t`.
+type Image = c_void;
+const OP_SRC: i32 = 1;
+const A8R8G8B8: u32 = 0x2002_8888;
+
+extern "C" {
+    fn pixman_region32_init(region: *mut Region);
+    fn pixman_region32_init_rect(region: *mut Region, x: i32, y: i32, w: u32, h: u32);
+    fn pixman_region32_fini(region: *mut Region);
+    fn pixman_region32_subtract(to: *mut Region, from: *const Region, what: *const Region) -> i32;
+    fn pixman_region32_union(to: *mut Region, a: *const Region, b: *const Region) -> i32;
+    fn pixman_region32_rectangles(region: *const Region, count: *mut i32) -> *const Box32;
+    fn pixman_image_create_bits(format: u32, w: i32, h: i32, bits: *mut u32, stride: i32) -> *mut Image;
+    fn pixman_image_unref(image: *mut Image) -> i32;
+    fn pixman_image_set_clip_region32(image: *mut Image, region: *const Region) -> i32;
+    fn pixman_image_composite32(
+        op: i32,
+        from: *mut Image,
+        mask: *mut Image,
+        to: *mut Image,
+        from_x: i32,
+        from_y: i32,
+        mask_x: i32,
+        mask_y: i32,
+        to_x: i32,
+        to_y: i32,
+        w: i32,
+        h: i32,
+    );
+}
+
+// SAFETY of the calls below: a region was begun by one of the first two functions and is ended once, by `drop`; an image's bits live as long
+// as the image.
+impl Region {
+    fn empty() -> Region {
+        let mut region = Region { extents: Box32 { x1: 0, y1: 0, x2: 0, y2: 0 }, data: null_mut() };
+        unsafe { pixman_region32_init(&mut region) };
+        region
+    }
+    fn of(a: Area) -> Region {
+        let mut region = Region { extents: Box32 { x1: 0, y1: 0, x2: 0, y2: 0 }, data: null_mut() };
+        unsafe { pixman_region32_init_rect(&mut region, a.0 as i32, a.1 as i32, a.2, a.3) };
+        region
+    }
+    fn subtract(&mut self, what: &Region) {
+        let this: *mut Region = self;
+        unsafe { pixman_region32_subtract(this, this, what) };
+    }
+    fn unite(&mut self, with: &Region) {
+        let this: *mut Region = self;
+        unsafe { pixman_region32_union(this, this, with) };
+    }
+    fn rectangles(&self) -> &[Box32] {
+        let mut count = 0;
+        unsafe {
+            let first = pixman_region32_rectangles(self, &mut count);
+            std::slice::from_raw_parts(first, count as usize)
+        }
+    }
+}
+
+impl Drop for Region {
+    fn drop(&mut self) {
+        unsafe { pixman_region32_fini(self) };
+    }
+}
+
+/// Pixels that pixman can read and write.
+struct Picture {
+    pixels: Vec<u32>,
+    width: usize,
+    image: *mut Image,
+}
+
+impl Picture {
+    fn new(width: u32, height: u32) -> Picture {
+        let mut pixels = vec![0; (width * height) as usize];
+        let (w, h) = (width as i32, height as i32);
+        let image = unsafe { pixman_image_create_bits(A8R8G8B8, w, h, pixels.as_mut_ptr(), 4 * w) };
+        Picture { pixels, width: width as usize, image }
+    }
+    fn fill(&mut self, a: Area, colour: u32) {
+        for row in a.1..a.1 + a.3 {
+            let start = row as usize * self.width + a.0 as usize;
+            self.pixels[start..start + a.2 as usize].fill(colour);
+        }
+    }
+}
+
+impl Drop for Picture {
+    fn drop(&mut self) {
+        unsafe { pixman_image_unref(self.image) };
+    }
+}
+
+struct Window {
+    at: Area,
+    picture: Picture,
+}
+
+pub struct Pixman {
+    /// In the order of their ids, in which they are shown.
+    windows: Vec<Window>,
+    screen: Picture,
+}
+
+impl Pixman {
+    pub fn new(width: u32, height: u32) -> Pixman {
+        Pixman { windows: Vec::new(), screen: Picture::new(width, height) }
+    }
+
+    /// A window without those above it.
+    fn seen(&self, id: usize) -> Region {
+        let mut seen = Region::of(self.windows[id].at);
+        for above in &self.windows[id + 1..] {
+            seen.subtract(&Region::of(above.at));
+        }
+        seen
+    }
+
+    /// From the highest window down, which leaves one region to subtract from each.
+    fn redraw(&mut self) {
+        let mut above = Region::empty();
+        for window in self.windows.iter().rev() {
+            let Area(x, y, w, h) = window.at;
+            let (x, y, w, h) = (x as i32, y as i32, w as i32, h as i32);
+            let whole = Region::of(window.at);
+            let mut seen = Region::of(window.at);
+            seen.subtract(&above);
+            let (from, to) = (window.picture.image, self.screen.image);
+            unsafe {
+                pixman_image_set_clip_region32(to, &seen);
+                pixman_image_composite32(OP_SRC, from, null_mut(), to, 0, 0, 0, 0, x, y, w, h);
+            }
+            above.unite(&whole);
+        }
+    }
+
+    fn visible(&self, id: usize) -> Vec<Area> {
+        let Area(x, y, ..) = self.windows[id].at;
+        let area = |b: &Box32| (b.x1 as u32 - x, b.y1 as u32 - y, (b.x2 - b.x1) as u32, (b.y2 - b.y1) as u32);
+        self.seen(id).rectangles().iter().map(area).map(|(x, y, w, h)| Area(x, y, w, h)).collect()
+    }
+}
+
+impl Side for Pixman {
+    fn call(&mut self, call: &Call) -> Reply {
+        match *call {
+            Call::Create => {
+                self.windows.push(Window { at: Area(0, 0, 0, 0), picture: Picture::new(1, 1) });
+                return Reply::Id(self.windows.len() as u32 - 1);
+            }
+            Call::Resize(id, w, h) => {
+                self.windows[usize::from(id)] = Window { at: Area(0, 0, w, h), picture: Picture::new(w, h) };
+            }
+            Call::Pop(_) => return Reply::Event(Some(Popped::Resize)),
+            Call::Fill(id, area, colour) => self.windows[usize::from(id)].picture.fill(area, colour),
+            Call::Move(id, x, y) => {
+                let at = &mut self.windows[usize::from(id)].at;
+                *at = Area(x, y, at.2, at.3);
+            }
+            Call::Show(_) => {}
+            Call::Redraw(true) => self.redraw(),
+            Call::Visible(id) => return Reply::Count(self.seen(usize::from(id)).rectangles().len()),
+            _ => unreachable!("{call:?}"),
+        }
+        Reply::Answer(0)
+    }
+
+    fn is_screen(&self, like: &dyn Fn(&[u32]) -> bool) -> bool {
+        like(&self.screen.pixels)
+    }
+
+    fn state(&mut self) -> State {
+        let mut pixels: Vec<Vec<u32>> = self.windows.iter().map(|window| window.picture.pixels.clone()).collect();
+        let mut visible: Vec<Vec<Area>> = (0..self.windows.len()).map(|id| self.visible(id)).collect();
+        pixels.resize(16, Vec::new());
+        visible.resize(16, Vec::new());
+        State { focus: self.windows.len() as u16 - 1, visible, pixels, screen: self.screen.pixels.clone() }
+    }
+}

@@ -1,0 +1,85 @@
+//! What a station's engineer wants to know, and what each exported call takes.
+use crate::class::Class;
+use crate::classes::{MIX, MIX_OF_EIGHT};
+use crate::measure::Measured;
+use crate::report::{nanoseconds, whole};
+use crate::scene::{HEIGHT, WIDTH};
+use crate::station::Station;
+use std::collections::BTreeMap;
+
+/// A number for each exported function, from lines `function number`.
+pub type Numbers = BTreeMap<String, f64>;
+
+pub fn numbers(text: &str) -> Numbers {
+    let line = |line: &str| {
+        let (function, number) = line.split_once(' ')?;
+        Some((function.to_string(), number.parse().ok()?))
+    };
+    text.lines().filter_map(line).collect()
+}
+
+/// The longest single call of a function, and its class.
+struct Longest<'a> {
+    function: &'static str,
+    time: f64,
+    class: &'a Class,
+}
+
+/// Of the classes on screens up to a width. Where a class has two functions, each takes the mean of both.
+fn longest<'a>(classes: &'a [Class], results: &[Measured], width: u32) -> Vec<Longest<'a>> {
+    let mut all: Vec<Longest> = Vec::new();
+    for (class, m) in classes.iter().zip(results).filter(|(class, _)| class.is_single() && class.scene.width <= width) {
+        for function in class.timed.iter().map(|call| call.function()) {
+            match all.iter_mut().find(|longest| longest.function == function) {
+                Some(longest) if longest.time >= m.ours => {}
+                Some(longest) => *longest = Longest { function, time: m.ours, class },
+                None => all.push(Longest { function, time: m.ours, class }),
+            }
+        }
+    }
+    all.sort_by_key(|longest| longest.function);
+    all
+}
+
+/// The first table: one display, and eight.
+pub fn station(classes: &[Class], results: &[Measured], stack: &Numbers) -> String {
+    let share = |name: &str| {
+        let of_mix = |(class, m): (&Class, &Measured)| (class.name == name).then_some(m.ours);
+        let second = classes.iter().zip(results).find_map(of_mix).expect("a class of this name");
+        format!("{:.2} %", second / 1e9 * 100.0)
+    };
+    let call = |width: u32| {
+        let longest = longest(classes, results, width).into_iter().max_by(|a, b| a.time.total_cmp(&b.time));
+        let Longest { function, time, class } = longest.expect("a class");
+        format!("{:.2} ms, `{function}`, {}", time / 1e6, class.name)
+    };
+    let both = |what: String| (what.clone(), what);
+    let c = WIDTH * HEIGHT;
+    let screen = |displays: u32| format!("{} bytes", whole(f64::from(displays * c * 4)));
+    let deepest = stack.iter().max_by(|a, b| a.1.total_cmp(b.1));
+    let deepest = deepest.map_or(String::new(), |(function, bytes)| format!("{} bytes, `{function}`", whole(*bytes)));
+    let rows = [
+        ("share of a core at 200 events and 30 full redraws a second", (share(MIX), share(MIX_OF_EIGHT))),
+        ("longest call", (call(WIDTH), call(8 * WIDTH))),
+        ("session", both(format!("{} bytes", whole(size_of::<Station>() as f64)))),
+        ("store of 16 windows, C = 384,000 (800 by 480)", both(format!("{} bytes", whole(f64::from(16 * c * 4))))),
+        ("screen", (screen(1), screen(8))),
+        ("stack, deepest call", both(deepest)),
+    ];
+    let rows: String = rows.iter().map(|(what, (one, eight))| format!("| {what} | {one} | {eight} |\n")).collect();
+    format!("| | one display, 800 by 480 | eight displays, 6,400 by 480 |\n|---|---|---|\n{rows}")
+}
+
+/// Each exported call: its longest class, its copies of the session and its stack. Those that are not timed touch at most one row.
+pub fn calls(classes: &[Class], results: &[Measured], copies: &Numbers, stack: &Numbers) -> String {
+    let longest = longest(classes, results, u32::MAX);
+    let number = |numbers: &Numbers, function: &str| numbers.get(function).map_or(String::new(), |n| whole(*n));
+    let row = |function: &String| {
+        let timed = longest.iter().find(|longest| longest.function == function);
+        let (time, class) = timed.map_or((String::new(), ""), |l| (nanoseconds(l.time), &l.class.name));
+        let (copies, stack) = (number(copies, function), number(stack, function));
+        format!("| `{function}` | {copies} | {stack} | {time} | {class} |\n")
+    };
+    let rows: String = stack.keys().map(row).collect();
+    format!("| call | copies of the session | stack, bytes | longest, ns | in |\n|---|---:|---:|---:|---|\n{rows}")
+}
