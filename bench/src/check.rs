@@ -1,6 +1,6 @@
 //! Both sides must say and show the same before they are timed.
 use crate::call::{Area, Call, Reply, Side, State};
-use crate::class::{Beside, Class};
+use crate::class::Class;
 
 /// Plays the setup, and twice the calls of the class, so that the second time finds what the first has left.
 pub fn same(class: &Class, ours: &mut impl Side, theirs: &mut impl Side) {
@@ -16,7 +16,7 @@ pub fn same(class: &Class, ours: &mut impl Side, theirs: &mut impl Side) {
 fn one(class: &Class, call: &Call, ours: &mut impl Side, theirs: &mut impl Side) {
     let name = &class.name;
     let (a, b) = (ours.call(call), theirs.call(call));
-    let cut_differently = class.beside == Beside::Pixman && matches!(a, Reply::Count(_));
+    let cut_differently = class.beside.is_pixman() && matches!(a, Reply::Count(_));
     assert!(a == b || cut_differently, "{name}: {call:?}: ours {a:?}, the other side's {b:?}");
     if let Call::Redraw(_) = call {
         let same = ours.is_screen(&|ours| theirs.is_screen(&|theirs| ours == theirs));
@@ -26,7 +26,7 @@ fn one(class: &Class, call: &Call, ours: &mut impl Side, theirs: &mut impl Side)
 
 /// Pixman cuts what is visible into other rectangles.
 fn same_states(class: &Class, mut a: State, mut b: State) -> bool {
-    if class.beside == Beside::Pixman {
+    if class.beside.is_pixman() {
         let all = |state: &mut State| std::mem::take(&mut state.visible);
         for (a, b) in all(&mut a).iter().zip(&all(&mut b)) {
             if covered(class, a) != covered(class, b) {

@@ -3,13 +3,24 @@ use crate::call::Call;
 use crate::plain::Copied;
 use crate::scene::Scene;
 
+/// How the name of a cold class ends.
+pub const COLD: &str = ", pixels in no cache";
+
 /// Who plays the same calls.
 #[derive(Clone, Copy, PartialEq)]
 pub enum Beside {
     Original,
     Pixman,
+    /// Pixman, with one region of all windows above for a visible list.
+    PixmanAtOnce,
     /// A loop over rows in Rust.
     Loops,
+}
+
+impl Beside {
+    pub fn is_pixman(self) -> bool {
+        self == Beside::Pixman || self == Beside::PixmanAtOnce
+    }
 }
 
 /// What has to be done at least, as the C library does it.
@@ -34,6 +45,8 @@ pub struct Class {
     pub parts: usize,
     pub limit: Limit,
     pub beside: Beside,
+    /// Whether each redraw finds its pixels in no cache. Then we are timed alone.
+    pub is_cold: bool,
     /// When the original does its share of the work, where it is at another time.
     pub note: &'static str,
 }
@@ -42,7 +55,8 @@ impl Class {
     pub fn new(name: impl Into<String>, scene: Scene, timed: Vec<Call>) -> Class {
         let parts = timed.len();
         let (name, between) = (name.into(), Vec::new());
-        Class { name, scene, timed, between, parts, limit: Limit::None, beside: Beside::Original, note: "" }
+        let (limit, beside) = (Limit::None, Beside::Original);
+        Class { name, scene, timed, between, parts, limit, beside, is_cold: false, note: "" }
     }
     pub fn between(mut self, calls: Vec<Call>) -> Class {
         self.between = calls;
@@ -58,6 +72,11 @@ impl Class {
     }
     pub fn beside(mut self, beside: Beside) -> Class {
         self.beside = beside;
+        self
+    }
+    pub fn cold(mut self) -> Class {
+        self.is_cold = true;
+        self.name += COLD;
         self
     }
     pub fn note(mut self, note: &'static str) -> Class {

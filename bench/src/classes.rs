@@ -121,6 +121,8 @@ fn redraws() -> Vec<Class> {
         all.push(full(format!("full redraw 800 by 480, windows: {n}"), cascade(n)));
     }
     all.push(full("full redraw 6,400 by 480, windows: 16".into(), eight()));
+    all.push(full("full redraw 800 by 480, windows: 16".into(), cascade(16)).cold());
+    all.push(full("full redraw 6,400 by 480, windows: 16".into(), eight()).cold());
     let moved = moves(15).into_iter().flat_map(|call| [call, Call::Redraw(false)]).collect();
     let moved = Class::new("move and full redraw 800 by 480, windows: 16", cascade(16), moved).parts(2);
     all.push(moved.limit(Limit::Redraws));
@@ -166,22 +168,26 @@ fn mixes() -> Vec<Class> {
         mix(MIX, station(), DRAGGED),
         mix("the same, panels anywhere", free_station(), DRAGGED).note(OTHER),
         mix(MIX_OF_EIGHT, eight(), DRAGGED_OF_EIGHT),
+        mix(MIX, station(), DRAGGED).cold(),
+        mix(MIX_OF_EIGHT, eight(), DRAGGED_OF_EIGHT).cold(),
     ]
 }
 
 fn beside_pixman() -> Vec<Class> {
-    let mut all = vec![listed("visible list of the lowest of 16".into(), cascade(16))];
-    for n in [4, 8, 16] {
-        all.push(listed(format!("visible list of the lowest, crossing windows: {n}"), free_crossing(n)));
-    }
-    for n in [1, 4, 16] {
-        all.push(full(format!("full redraw 800 by 480, windows: {n}"), cascade(n)));
-    }
-    for n in [4, 8, 16] {
-        all.push(full(format!("full redraw 800 by 480, crossing windows: {n}"), free_crossing(n)));
-    }
-    all.push(full("full redraw 6,400 by 480, windows: 16".into(), eight()));
-    all.into_iter().map(|class| class.beside(Beside::Pixman)).collect()
+    let mut all = lists_of_lowest(Beside::Pixman, "");
+    all.extend(lists_of_lowest(Beside::PixmanAtOnce, ", those above as one region"));
+    let cascades = [1, 4, 16].map(|n| full(format!("full redraw 800 by 480, windows: {n}"), cascade(n)));
+    let crossing = |n| full(format!("full redraw 800 by 480, crossing windows: {n}"), free_crossing(n));
+    let displays = full("full redraw 6,400 by 480, windows: 16".into(), eight());
+    let redraws = cascades.into_iter().chain([4, 8, 16].map(crossing)).chain([displays]);
+    all.extend(redraws.map(|class| class.beside(Beside::Pixman)));
+    all
+}
+
+fn lists_of_lowest(beside: Beside, way: &str) -> Vec<Class> {
+    let crossing = |n| listed(format!("visible list of the lowest, crossing windows: {n}{way}"), free_crossing(n));
+    let cascade = listed(format!("visible list of the lowest of 16{way}"), cascade(16));
+    [cascade].into_iter().chain([4, 8, 16].map(crossing)).map(|class| class.beside(beside)).collect()
 }
 
 /// The visible list of the lowest window.

@@ -1,5 +1,5 @@
 //! The sides and the limit, timed in turns: whatever else the machine does slows all.
-use crate::call::Side;
+use crate::call::{Call, Side};
 use crate::check;
 use crate::class::{Beside, Class, Limit};
 use crate::loops::Loops;
@@ -16,6 +16,8 @@ const TURN: f64 = 300_000.0;
 const BUDGET: f64 = 20_000_000.0;
 const MOST_ROUNDS: f64 = 51.0;
 const LEAST_ROUNDS: f64 = 15.0;
+/// Rounds with empty caches; it takes long to empty them, so there are few where a round has many redraws.
+const LEAST_COLD: usize = 3;
 
 /// Nanoseconds of one part, and ratios of times taken one after the other. What was not measured is no number (NaN).
 #[derive(Clone, Copy)]
@@ -38,9 +40,13 @@ struct Turns<Other> {
 
 pub fn measure(class: &Class) -> Measured {
     let scene = &class.scene;
+    if class.is_cold {
+        return cold(class);
+    }
     match class.beside {
         Beside::Original => beside(class, scene.common.then(|| Theirs::new(scene.width, scene.height))),
-        Beside::Pixman => beside(class, Some(Pixman::new(scene.width, scene.height))),
+        Beside::Pixman => beside(class, Some(Pixman::new(scene.width, scene.height, false))),
+        Beside::PixmanAtOnce => beside(class, Some(Pixman::new(scene.width, scene.height, true))),
         Beside::Loops => beside(class, Some(Loops::new(scene.width, scene.height))),
     }
 }
@@ -64,6 +70,27 @@ fn beside(class: &Class, mut theirs: Option<impl Side>) -> Measured {
     let mut turns = Turns { ours, theirs, limit };
     let all: Vec<Measured> = (0..rounds).map(|r| round(class, times, r, &mut turns)).collect();
     middle(&all)
+}
+
+/// Our time alone. The clock is read at each call, and stands still while the caches are emptied.
+fn cold(class: &Class) -> Measured {
+    let mut ours = Ours::new(class.scene.c, class.scene.width, class.scene.height);
+    check::alone(class, &mut ours);
+    let mut second = || {
+        let mut nanoseconds = 0;
+        for call in &class.timed {
+            if let Call::Redraw(_) = call {
+                ours.flush();
+            }
+            let start = Instant::now();
+            black_box(ours.call(black_box(call)));
+            nanoseconds += start.elapsed().as_nanos();
+        }
+        nanoseconds as f64 / class.parts as f64
+    };
+    let rounds = LEAST_COLD.max(LEAST_ROUNDS as usize / class.timed.len());
+    let ours = median((0..rounds).map(|_| second()).collect());
+    Measured { ours, theirs: f64::NAN, limit: f64::NAN, ratio: f64::NAN, speed: f64::NAN }
 }
 
 /// Who begins changes from round to round.

@@ -7,7 +7,7 @@ pub const INSTALLED: bool = false;
 pub enum Pixman {}
 
 impl Pixman {
-    pub fn new(_: u32, _: u32) -> Pixman {
+    pub fn new(_: u32, _: u32, _: bool) -> Pixman {
         unreachable!("pixman is not installed")
     }
 }

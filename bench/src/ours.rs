@@ -3,6 +3,7 @@ use crate::call::{Area, Call, Popped, Reply, Side, State};
 use crate::class::Class;
 use crate::plain::{Piece, Plain};
 use crate::station::{Event, Station, MOUSE_DOWN, MOUSE_MOVE, MOUSE_UP, RESIZE};
+use std::arch::x86_64::{_mm_clflush, _mm_mfence};
 
 pub struct Ours {
     station: Station,
@@ -35,6 +36,17 @@ impl Ours {
             Some([_, _, w, h]) => self.store[start..start + (w * h) as usize].to_vec(),
             None => Vec::new(),
         }
+    }
+
+    /// Takes all pixels of store and screen out of the caches.
+    pub fn flush(&self) {
+        const LINE: usize = 16;
+        for line in self.store.chunks(LINE).chain(self.screen.chunks(LINE)) {
+            // SAFETY: the address of a pixel that there is.
+            unsafe { _mm_clflush(line.as_ptr().cast()) };
+        }
+        // SAFETY: it waits until all are out.
+        unsafe { _mm_mfence() };
     }
 
     /// What the redraws among the calls draw, drawn by `memcpy`.

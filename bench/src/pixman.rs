@@ -24,10 +24,12 @@ struct Region {
 type Image = c_void;
 const OP_SRC: i32 = 1;
 const A8R8G8B8: u32 = 0x2002_8888;
+const NOWHERE: Area = Area(0, 0, 0, 0);
 
 extern "C" {
     fn pixman_region32_init(region: *mut Region);
     fn pixman_region32_init_rect(region: *mut Region, x: i32, y: i32, w: u32, h: u32);
+    fn pixman_region32_init_rects(region: *mut Region, boxes: *const Box32, count: i32) -> i32;
     fn pixman_region32_fini(region: *mut Region);
     fn pixman_region32_subtract(to: *mut Region, from: *const Region, what: *const Region) -> i32;
     fn pixman_region32_union(to: *mut Region, a: *const Region, b: *const Region) -> i32;
@@ -51,18 +53,24 @@ extern "C" {
     );
 }
 
-// SAFETY of the calls below: a region was begun by one of the first two functions and is ended once, by `drop`; an image's bits live as long
+// SAFETY of the calls below: a region was begun by one of the first three functions and is ended once, by `drop`; an image's bits live as long
 // as the image.
 impl Region {
-    fn empty() -> Region {
+    fn new(begin: impl FnOnce(*mut Region)) -> Region {
         let mut region = Region { extents: Box32 { x1: 0, y1: 0, x2: 0, y2: 0 }, data: null_mut() };
-        unsafe { pixman_region32_init(&mut region) };
+        begin(&mut region);
         region
     }
+    fn empty() -> Region {
+        Region::new(|region| unsafe { pixman_region32_init(region) })
+    }
     fn of(a: Area) -> Region {
-        let mut region = Region { extents: Box32 { x1: 0, y1: 0, x2: 0, y2: 0 }, data: null_mut() };
-        unsafe { pixman_region32_init_rect(&mut region, a.0 as i32, a.1 as i32, a.2, a.3) };
-        region
+        Region::new(|region| unsafe { pixman_region32_init_rect(region, a.0 as i32, a.1 as i32, a.2, a.3) })
+    }
+    fn of_all(boxes: &[Box32]) -> Region {
+        Region::new(|region| unsafe {
+            pixman_region32_init_rects(region, boxes.as_ptr(), boxes.len() as i32);
+        })
     }
     fn subtract(&mut self, what: &Region) {
         let this: *mut Region = self;
@@ -124,16 +132,28 @@ pub struct Pixman {
     /// In the order of their ids, in which they are shown.
     windows: Vec<Window>,
     screen: Picture,
+    /// Whether a visible list makes one region of the windows above, and subtracts that.
+    at_once: bool,
+}
+
+fn corners(a: Area) -> Box32 {
+    Box32 { x1: a.0 as i32, y1: a.1 as i32, x2: (a.0 + a.2) as i32, y2: (a.1 + a.3) as i32 }
 }
 
 impl Pixman {
-    pub fn new(width: u32, height: u32) -> Pixman {
-        Pixman { windows: Vec::new(), screen: Picture::new(width, height) }
+    pub fn new(width: u32, height: u32, at_once: bool) -> Pixman {
+        Pixman { windows: Vec::new(), screen: Picture::new(width, height), at_once }
     }
 
     /// A window without those above it.
     fn seen(&self, id: usize) -> Region {
         let mut seen = Region::of(self.windows[id].at);
+        if self.at_once {
+            let above: [Box32; 16] =
+                std::array::from_fn(|k| corners(self.windows.get(id + 1 + k).map_or(NOWHERE, |w| w.at)));
+            seen.subtract(&Region::of_all(&above[..self.windows.len() - id - 1]));
+            return seen;
+        }
         for above in &self.windows[id + 1..] {
             seen.subtract(&Region::of(above.at));
         }
@@ -169,7 +189,7 @@ impl Side for Pixman {
     fn call(&mut self, call: &Call) -> Reply {
         match *call {
             Call::Create => {
-                self.windows.push(Window { at: Area(0, 0, 0, 0), picture: Picture::new(1, 1) });
+                self.windows.push(Window { at: NOWHERE, picture: Picture::new(1, 1) });
                 return Reply::Id(self.windows.len() as u32 - 1);
             }
             Call::Resize(id, w, h) => {

@@ -6,20 +6,24 @@ use crate::measure::{median, Measured};
 pub fn table(beside: Beside, classes: &[Class], results: &[Measured], runs: &[Vec<Measured>]) -> String {
     let (theirs, limit) = match beside {
         Beside::Original => ("original", true),
-        Beside::Pixman => ("pixman", true),
+        Beside::Pixman | Beside::PixmanAtOnce => ("pixman", true),
         Beside::Loops => ("Rust", false),
     };
     let (title, line) = if limit { (" same rows |", "---:|") } else { ("", "") };
     let head =
         format!("| class | ours ns | {theirs} ns | ratio | from - to |{title}\n|---|---:|---:|---:|---|{line}\n");
     let mut text = head;
-    for (i, (class, m)) in classes.iter().zip(results).enumerate().filter(|(_, (class, _))| class.beside == beside) {
+    for (i, (class, m)) in classes.iter().zip(results).enumerate().filter(|(_, (class, _))| belongs(class, beside)) {
         let ratios: Vec<f64> = runs.iter().map(|run| run[i].ratio).collect();
         let (ours, theirs) = (nanoseconds(m.ours), nanoseconds(m.theirs));
         text += &format!("| {} | {ours} | {theirs} | {} | {} |", class.name, ratio(m.ratio), range(&ratios));
         text += &if limit { format!(" {} |\n", ratio(m.speed)) } else { "\n".to_string() };
     }
     text
+}
+
+fn belongs(class: &Class, beside: Beside) -> bool {
+    class.beside == beside || class.beside.is_pixman() && beside.is_pixman()
 }
 
 /// Our times with this archive and with another one, whose runs took turns.

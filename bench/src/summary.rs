@@ -1,5 +1,5 @@
 //! What a station's engineer wants to know, and what each exported call takes.
-use crate::class::Class;
+use crate::class::{Class, COLD};
 use crate::classes::{MIX, MIX_OF_EIGHT};
 use crate::measure::Measured;
 use crate::report::{nanoseconds, whole};
@@ -43,11 +43,12 @@ fn longest<'a>(classes: &'a [Class], results: &[Measured], width: u32) -> Vec<Lo
 
 /// The first table: one display, and eight.
 pub fn station(classes: &[Class], results: &[Measured], stack: &Numbers) -> String {
-    let share = |name: &str| {
+    let share = |name: String| {
         let of_mix = |(class, m): (&Class, &Measured)| (class.name == name).then_some(m.ours);
         let second = classes.iter().zip(results).find_map(of_mix).expect("a class of this name");
         format!("{:.2} %", second / 1e9 * 100.0)
     };
+    let shares = |end: &str| (share(format!("{MIX}{end}")), share(format!("{MIX_OF_EIGHT}{end}")));
     let call = |width: u32| {
         let longest = longest(classes, results, width).into_iter().max_by(|a, b| a.time.total_cmp(&b.time));
         let Longest { function, time, class } = longest.expect("a class");
@@ -59,7 +60,8 @@ pub fn station(classes: &[Class], results: &[Measured], stack: &Numbers) -> Stri
     let deepest = stack.iter().max_by(|a, b| a.1.total_cmp(b.1));
     let deepest = deepest.map_or(String::new(), |(function, bytes)| format!("{} bytes, `{function}`", whole(*bytes)));
     let rows = [
-        ("share of a core at 200 events and 30 full redraws a second", (share(MIX), share(MIX_OF_EIGHT))),
+        ("share of a core at 200 events and 30 full redraws a second", shares("")),
+        ("the same, no pixel in a cache at a redraw", shares(COLD)),
         ("longest call", (call(WIDTH), call(8 * WIDTH))),
         ("session", both(format!("{} bytes", whole(size_of::<Station>() as f64)))),
         ("store of 16 windows, C = 384,000 (800 by 480)", both(format!("{} bytes", whole(f64::from(16 * c * 4))))),

@@ -54,14 +54,14 @@ const TARGETS: [Target; 18] = [
 
 impl Target {
     fn has(&self, class: &Class) -> bool {
-        self.beside == class.beside && self.classes.iter().any(|name| class.name.starts_with(name))
+        self.beside == class.beside && !class.is_cold && self.classes.iter().any(|name| class.name.starts_with(name))
     }
     fn beside(&self) -> &'static str {
         match (self.bound, self.beside) {
             (Speed(_), _) if self.what == "resize" => "`memset` of C, speed",
             (Speed(_), _) => "`memcpy` of the same rows, speed",
             (_, Beside::Original) => "the original, time",
-            (_, Beside::Pixman) => "pixman, time",
+            (_, Beside::Pixman | Beside::PixmanAtOnce) => "pixman, time",
             (_, Beside::Loops) => "a loop in Rust, time",
         }
     }
