@@ -1,9 +1,9 @@
 """How often each exported call copies the session: copies.py ARCHIVE RECORDED [--record]
 
 It reads the object code. A copy is a call of memcpy or memmove, or a `rep movs`, whose length is a constant as large as the session; so are
-sixteen copies of a window. A function that is called counts at each place where it is called. Printed is a line `call copies` for each exported
-call. It fails where a call has more copies than the file RECORDED says; a call that is not listed there may have none. With --record it
-writes that file instead.
+sixteen copies of a window. A loop of single words is not seen; the compiler makes such loops into calls. A function that is called counts
+at each place where it is called. Printed is a line `call copies` for each exported call. It fails where a call has more copies than the
+file RECORDED says; a call that is not listed there may have none. With --record it writes that file instead.
 """
 import re
 import subprocess

@@ -18,6 +18,13 @@ pub enum Beside {
 }
 
 impl Beside {
+    pub fn name(self) -> &'static str {
+        match self {
+            Beside::Original => "original",
+            Beside::Pixman | Beside::PixmanAtOnce => "pixman",
+            Beside::Loops => "Rust",
+        }
+    }
     pub fn is_pixman(self) -> bool {
         self == Beside::Pixman || self == Beside::PixmanAtOnce
     }

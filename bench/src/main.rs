@@ -35,7 +35,6 @@ use std::process::Command;
 const PROCESSES: usize = 5;
 /// The word that makes a process measure.
 const ONCE: &str = "--once";
-const NO_PIXMAN: &str = "pixman is not installed: its rows are left out.\n";
 
 fn main() {
     let words: Vec<String> = std::env::args().skip(1).collect();
@@ -65,7 +64,7 @@ fn tables(folder: &Path, copies: &str, stack: &str) {
     let (of_windows, of_pixels) = of_plots.split_at(windows.len());
     let short = [
         ("station", summary::station(&table, of_table, &stack)),
-        ("targets", format!("{}{}", targets::table(&table, of_table), if pixman::INSTALLED { "" } else { NO_PIXMAN })),
+        ("targets", targets::table(&table, of_table)),
         ("calls", summary::calls(&table, of_table, &copies, &stack)),
     ];
     let long = tell(&table, of_table, &runs);
@@ -84,7 +83,7 @@ fn of_class(runs: &[Vec<Measured>], class: usize) -> Vec<Measured> {
 fn tell(classes: &[Class], results: &[Measured], runs: &[Vec<Measured>]) -> String {
     let table = |beside| report::table(beside, classes, results, runs);
     let (original, loops) = (table(Beside::Original), table(Beside::Loops));
-    let pixman = if pixman::INSTALLED { table(Beside::Pixman) } else { NO_PIXMAN.to_string() };
+    let pixman = if pixman::INSTALLED { table(Beside::Pixman) } else { report::NO_PIXMAN.to_string() };
     format!(
         "# Speed table\n\nWritten by `bash bench/run`. [SPEED.md](SPEED.md) says what is measured.\n\n\
          ## Beside the original\n\n{original}\n{}\n## Beside pixman\n\n{pixman}\n\

@@ -1,25 +1,24 @@
-//! Where pixman is not installed.
+//! Where pixman is not installed: there are no classes beside it.
 use crate::call::{Call, Reply, Side, State};
 
 pub const INSTALLED: bool = false;
 
-/// There is none.
-pub enum Pixman {}
+pub struct Pixman;
 
 impl Pixman {
     pub fn new(_: u32, _: u32, _: bool) -> Pixman {
-        unreachable!("pixman is not installed")
+        Pixman
     }
 }
 
 impl Side for Pixman {
     fn call(&mut self, _: &Call) -> Reply {
-        match *self {}
+        unreachable!()
     }
     fn is_screen(&self, _: &dyn Fn(&[u32]) -> bool) -> bool {
-        match *self {}
+        unreachable!()
     }
     fn state(&mut self) -> State {
-        match *self {}
+        unreachable!()
     }
 }

@@ -2,13 +2,11 @@
 use crate::class::{Beside, Class};
 use crate::measure::{median, Measured};
 
+pub const NO_PIXMAN: &str = "pixman is not installed: its rows are left out.\n";
+
 /// Of the classes that are played beside one side: the medians of each, and the results of the single processes.
 pub fn table(beside: Beside, classes: &[Class], results: &[Measured], runs: &[Vec<Measured>]) -> String {
-    let (theirs, limit) = match beside {
-        Beside::Original => ("original", true),
-        Beside::Pixman | Beside::PixmanAtOnce => ("pixman", true),
-        Beside::Loops => ("Rust", false),
-    };
+    let (theirs, limit) = (beside.name(), beside != Beside::Loops);
     let (title, line) = if limit { (" same rows |", "---:|") } else { ("", "") };
     let head =
         format!("| class | ours ns | {theirs} ns | ratio | from - to |{title}\n|---|---:|---:|---:|---|{line}\n");
@@ -26,27 +24,19 @@ fn belongs(class: &Class, beside: Beside) -> bool {
     class.beside == beside || class.beside.is_pixman() && beside.is_pixman()
 }
 
-/// Our times with this archive and with another one, whose runs took turns.
+/// Our times with this archive and with another one, whose runs took turns; and the ratios of both to the other side.
 pub fn archives(classes: &[Class], ours: &[Vec<Measured>], others: &[Vec<Measured>]) -> String {
     let mut text =
-        "| class | other ns | ours ns | ours by other | from - to | other by its side | ours by its side |\n\
-                    |---|---:|---:|---:|---|---:|---:|\n"
-            .to_string();
+        String::from("| class | other ns | ours ns | ours by other | from - to | beside | other ratio | our ratio |\n");
+    text += "|---|---:|---:|---:|---|---|---:|---:|\n";
     for (i, class) in classes.iter().enumerate() {
-        let all = |runs: &[Vec<Measured>], number: fn(&Measured) -> f64| -> Vec<f64> {
-            runs.iter().map(|run| number(&run[i])).collect()
-        };
-        let (a, b) = (all(others, |m| m.ours), all(ours, |m| m.ours));
-        let change: Vec<f64> = a.iter().zip(&b).map(|(a, b)| b / a).collect();
-        let (before, after) = (median(all(others, |m| m.ratio)), median(all(ours, |m| m.ratio)));
-        text += &format!("| {} | {} | {} |", class.name, nanoseconds(median(a)), nanoseconds(median(b)));
-        text += &format!(
-            " {} | {} | {} | {} |\n",
-            ratio(median(change.clone())),
-            range(&change),
-            ratio(before),
-            ratio(after)
-        );
+        let times = |runs: &[Vec<Measured>]| -> Vec<f64> { runs.iter().map(|run| run[i].ours).collect() };
+        let beside = |runs: &[Vec<Measured>]| ratio(median(runs.iter().map(|run| run[i].ratio).collect()));
+        let (before, now) = (times(others), times(ours));
+        let change: Vec<f64> = before.iter().zip(&now).map(|(before, now)| now / before).collect();
+        text += &format!("| {} | {} | {} |", class.name, nanoseconds(median(before)), nanoseconds(median(now)));
+        text += &format!(" {} | {} |", ratio(median(change.clone())), range(&change));
+        text += &format!(" {} | {} | {} |\n", class.beside.name(), beside(others), beside(ours));
     }
     text
 }

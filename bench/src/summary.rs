@@ -5,7 +5,7 @@ use crate::measure::Measured;
 use crate::report::{nanoseconds, whole};
 use crate::scene::{HEIGHT, WIDTH};
 use crate::station::Station;
-use std::collections::BTreeMap;
+use std::collections::{BTreeMap, BTreeSet};
 
 /// A number for each exported function, from lines `function number`.
 pub type Numbers = BTreeMap<String, f64>;
@@ -51,8 +51,8 @@ pub fn station(classes: &[Class], results: &[Measured], stack: &Numbers) -> Stri
     let shares = |end: &str| (share(format!("{MIX}{end}")), share(format!("{MIX_OF_EIGHT}{end}")));
     let call = |width: u32| {
         let longest = longest(classes, results, width).into_iter().max_by(|a, b| a.time.total_cmp(&b.time));
-        let Longest { function, time, class } = longest.expect("a class");
-        format!("{:.2} ms, `{function}`, {}", time / 1e6, class.name)
+        let Longest { function, time, .. } = longest.expect("a class");
+        format!("{:.2} ms, `{function}`", time / 1e6)
     };
     let both = |what: String| (what.clone(), what);
     let c = WIDTH * HEIGHT;
@@ -82,6 +82,7 @@ pub fn calls(classes: &[Class], results: &[Measured], copies: &Numbers, stack: &
         let (copies, stack) = (number(copies, function), number(stack, function));
         format!("| `{function}` | {copies} | {stack} | {time} | {class} |\n")
     };
-    let rows: String = stack.keys().map(row).collect();
+    let functions: BTreeSet<&String> = copies.keys().chain(stack.keys()).collect();
+    let rows: String = functions.into_iter().map(row).collect();
     format!("| call | copies of the session | stack, bytes | longest, ns | in |\n|---|---:|---:|---:|---|\n{rows}")
 }
