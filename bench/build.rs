@@ -13,8 +13,8 @@ fn main() {
     fs::copy(&archive, out.join("libstation.a")).unwrap_or_else(|e| panic!("{}: {e}", archive.display()));
     println!("cargo:rustc-link-search=native={}", out.display());
     println!("cargo:rustc-link-lib=static=station");
-    println!("cargo:rerun-if-changed={}", archive.display());
-    println!("cargo:rerun-if-env-changed=ROQSHYN_ARCHIVE");
+    // A file that there is not: cargo asks anew each time, also whether pixman is installed.
+    println!("cargo:rerun-if-changed=none");
     pixman();
 }
 
