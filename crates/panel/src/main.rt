@@ -6,10 +6,10 @@ ghost use Rattle.windows.specs.View.{eventIn};
 ghost use Rattle.panel.specs.Press.{isPress};
 use geom::Dims;
 use geom::Rect;
+use order::WinId;
 use window::Event;
 use windows::NextEvent;
 use windows::Session;
-use windows::WinId;
 
 fn main() {
     // 4 pixels for each of the 16 windows, and those of the screen.

@@ -85,7 +85,7 @@ fn started(mut p: Player, c: u32, out: &mut [u8; 65536]) -> Player
 {
     let done = Session::start(c);
     let session = done.session;
-    p.lent = 16 * session.c as usize;
+    p.lent = 16 * session.shared.c as usize;
     p.answered(done, out)
 }
 

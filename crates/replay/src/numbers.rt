@@ -5,7 +5,7 @@ ghost use Rattle.replay.specs.Numbers.{num, idOf, rectAt};
 use geom::Dims;
 use geom::Pos;
 use geom::Rect;
-use windows::WinId;
+use order::WinId;
 
 // The number of a window: one above 15 is no window's, and becomes 16.
 pub fn id(ns: &[u32; 4102]) -> WinId

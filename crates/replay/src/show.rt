@@ -62,7 +62,7 @@ pub fn pixels(
 {
     let id = numbers::id(ns);
     let placed = s.rect_of(id);
-    let c = s.c as usize;
+    let c = s.shared.c as usize;
     if placed.answer == 0 {
         if 16 * c <= lent {
             let rect = placed.rect;

@@ -1,12 +1,23 @@
--- A call that takes the session behind a pointer: it copies the session out, passes the copy to the call by value, and puts back the session that
--- it gets. One walk of MIR for each shape, over any plain types; a call's own proof names the shape, the types and the promise.
+-- A call that takes the session behind a pointer: one walk of MIR for each shape, over any plain types. A call's own proof names the shape, the
+-- types and the promise. `Place` and `Seek` change one window and what the windows share in place; `Settle` looks at the session and then
+-- settles it; `One` puts another session there; the rest read it.
 pub mod Types
+pub mod Item
+pub mod Slots
+pub mod Locals
+pub mod Steps
+pub mod Frame
+pub mod Args
+pub mod Passing
+pub mod Call
+pub mod Find
+pub mod Lend
+pub mod InPlace
 pub mod Parameters
-pub mod None
+pub mod Place
+pub mod Seek
+pub mod Settle
 pub mod One
-pub mod Three
-pub mod ThreeLent
-pub mod ThreeBoth
 pub mod ReadNone
 pub mod ReadOne
 pub mod ReadOneLent

@@ -3,3 +3,4 @@ pub mod Answers
 pub mod Events
 pub mod Parts
 pub mod Rects
+pub mod Inner

@@ -1,4 +1,5 @@
-// The calls of a session, which lies behind a pointer. Each copies it out, makes the call by value, and puts back the session that it gets.
+// The calls of a session, which lies behind a pointer. A call that touches one window works on that window and on what the windows share, and
+// puts both back in their place: the session is not copied.
 //
 // Before `roq_start` the memory holds zeros or a session; before any other call, a session that `roq_start` and later calls left.
 ghost use mathlib.Core.Path.{_≡_};
@@ -11,10 +12,14 @@ use crate::values;
 use crate::values::RoqCreated;
 use crate::values::RoqPopped;
 use geom::Rect;
+use order::WinId;
 use windows::Listing;
 use windows::Placed;
 use windows::Session;
-use windows::WinId;
+use windows::events::tell;
+use windows::one;
+use windows::one::slot;
+use windows::store;
 
 #[no_mangle]
 pub extern "C" fn roq_start(s: &mut Session, c: u32) -> u32
@@ -31,9 +36,13 @@ pub extern "C" fn roq_create(s: &mut Session) -> RoqCreated
     requires { ⌜ Given (now s) ⌝ }
     ensures { λ r. ⌜ Creates (now (s .entry)) (now (s .exit)) r ⌝ }
 {
-    let d = values::create(*s);
-    let t = d.session;
-    *s = t;
+    let free = (*s).free_slot();
+    let at = free.at;
+    let d = values::create((*s).windows[at], (*s).shared, free.id);
+    let w = d.window;
+    (*s).windows[at] = w;
+    let k = d.shared;
+    (*s).shared = k;
     d.created
 }
 
@@ -42,9 +51,12 @@ pub extern "C" fn roq_show(s: &mut Session, id: WinId) -> u32
     requires { ⌜ Given (now s) ⌝ }
     ensures { λ r. ⌜ Meets (Call.Show (id .0)) (now (s .entry)) (done (now (s .exit)) r) ⌝ }
 {
-    let d = (*s).show(id);
-    let t = d.session;
-    *s = t;
+    let at = slot(id);
+    let d = one::show((*s).windows[at], (*s).shared, id);
+    let w = d.window;
+    (*s).windows[at] = w;
+    let k = d.shared;
+    (*s).shared = k;
     d.answer
 }
 
@@ -53,9 +65,12 @@ pub extern "C" fn roq_hide(s: &mut Session, id: WinId) -> u32
     requires { ⌜ Given (now s) ⌝ }
     ensures { λ r. ⌜ Meets (Call.Hide (id .0)) (now (s .entry)) (done (now (s .exit)) r) ⌝ }
 {
-    let d = (*s).hide(id);
-    let t = d.session;
-    *s = t;
+    let at = slot(id);
+    let d = one::hide((*s).windows[at], (*s).shared, id);
+    let w = d.window;
+    (*s).windows[at] = w;
+    let k = d.shared;
+    (*s).shared = k;
     d.answer
 }
 
@@ -64,9 +79,12 @@ pub extern "C" fn roq_drop(s: &mut Session, id: WinId) -> u32
     requires { ⌜ Given (now s) ⌝ }
     ensures { λ r. ⌜ Meets (Call.Drop (id .0)) (now (s .entry)) (done (now (s .exit)) r) ⌝ }
 {
-    let d = (*s).drop(id);
-    let t = d.session;
-    *s = t;
+    let at = slot(id);
+    let d = one::drop((*s).windows[at], (*s).shared, id);
+    let w = d.window;
+    (*s).windows[at] = w;
+    let k = d.shared;
+    (*s).shared = k;
     d.answer
 }
 
@@ -75,9 +93,12 @@ pub extern "C" fn roq_mark(s: &mut Session, id: WinId) -> u32
     requires { ⌜ Given (now s) ⌝ }
     ensures { λ r. ⌜ Meets (Call.Mark (id .0)) (now (s .entry)) (done (now (s .exit)) r) ⌝ }
 {
-    let d = (*s).mark(id);
-    let t = d.session;
-    *s = t;
+    let at = slot(id);
+    let d = one::mark((*s).windows[at], (*s).shared, id);
+    let w = d.window;
+    (*s).windows[at] = w;
+    let k = d.shared;
+    (*s).shared = k;
     d.answer
 }
 
@@ -86,9 +107,12 @@ pub extern "C" fn roq_move(s: &mut Session, id: WinId, x: u32, y: u32) -> u32
     requires { ⌜ Given (now s) ⌝ }
     ensures { λ r. ⌜ Meets (Call.Move (id .0) x y) (now (s .entry)) (done (now (s .exit)) r) ⌝ }
 {
-    let d = values::move_window(*s, id, x, y);
-    let t = d.session;
-    *s = t;
+    let at = slot(id);
+    let d = one::move_window((*s).windows[at], (*s).shared, id, x, y);
+    let w = d.window;
+    (*s).windows[at] = w;
+    let k = d.shared;
+    (*s).shared = k;
     d.answer
 }
 
@@ -97,9 +121,12 @@ pub extern "C" fn roq_resize(s: &mut Session, id: WinId, w: u32, h: u32, store: 
     requires { ⌜ Given (now s) ⌝ }
     ensures { λ r. ⌜ MeetsStore (Call.Resize (id .0) w h (now (store .entry))) (now (s .entry)) (done (now (s .exit)) r) (now (store .exit)) ⌝ }
 {
-    let d = values::resize(*s, id, w, h, store);
-    let t = d.session;
-    *s = t;
+    let at = slot(id);
+    let d = store::resize((*s).windows[at], (*s).shared, id, w, h, store);
+    let win = d.window;
+    (*s).windows[at] = win;
+    let k = d.shared;
+    (*s).shared = k;
     d.answer
 }
 
@@ -114,9 +141,12 @@ pub extern "C" fn roq_fill(
     requires { ⌜ Given (now s) ⌝ }
     ensures { λ r. ⌜ MeetsStore (Call.Fill (id .0) area colour (now (store .entry))) (now (s .entry)) (done (now (s .exit)) r) (now (store .exit)) ⌝ }
 {
-    let d = (*s).fill(id, area, colour, store);
-    let t = d.session;
-    *s = t;
+    let at = slot(id);
+    let d = store::fill((*s).windows[at], (*s).shared, id, area, colour, store);
+    let w = d.window;
+    (*s).windows[at] = w;
+    let k = d.shared;
+    (*s).shared = k;
     d.answer
 }
 
@@ -132,9 +162,12 @@ pub extern "C" fn roq_blit(
     requires { ⌜ Given (now s) ⌝ }
     ensures { λ r. ⌜ MeetsStore (Call.Blit (id .0) area (now («data» .entry)) stride (now (store .entry))) (now (s .entry)) (done (now (s .exit)) r) (now (store .exit)) ⌝ }
 {
-    let d = values::blit(*s, id, area, stride, data, store);
-    let t = d.session;
-    *s = t;
+    let at = slot(id);
+    let d = store::blit((*s).windows[at], (*s).shared, id, area, stride, data, store);
+    let w = d.window;
+    (*s).windows[at] = w;
+    let k = d.shared;
+    (*s).shared = k;
     d.answer
 }
 
@@ -143,9 +176,13 @@ pub extern "C" fn roq_route(s: &mut Session, e: RoqEvent) -> u32
     requires { ⌜ Given (now s) ⌝ }
     ensures { λ r. ⌜ Routes (eventOf e) (now (s .entry)) (done (now (s .exit)) r) ⌝ }
 {
-    let d = values::route(*s, e);
-    let t = d.session;
-    *s = t;
+    let aim = values::aim(*s, e);
+    let at = aim.at;
+    let d = tell((*s).windows[at], (*s).shared, aim.what);
+    let w = d.window;
+    (*s).windows[at] = w;
+    let k = d.shared;
+    (*s).shared = k;
     d.answer
 }
 
@@ -154,9 +191,12 @@ pub extern "C" fn roq_pop(s: &mut Session, id: WinId) -> RoqPopped
     requires { ⌜ Given (now s) ⌝ }
     ensures { λ r. ⌜ Pops (id .0) (now (s .entry)) (now (s .exit)) r ⌝ }
 {
-    let d = values::pop(*s, id);
-    let t = d.session;
-    *s = t;
+    let at = slot(id);
+    let d = values::pop((*s).windows[at], (*s).shared, id);
+    let w = d.window;
+    (*s).windows[at] = w;
+    let k = d.shared;
+    (*s).shared = k;
     d.popped
 }
 
@@ -172,10 +212,11 @@ pub extern "C" fn roq_redraw(
     requires { ⌜ Given (now s) ⌝ }
     ensures { λ r. ⌜ MeetsScreen (Call.Redraw told width height (now (store .entry)) (now (screen .entry))) (now (s .entry)) (done (now (s .exit)) r) (now (screen .exit)) ⌝ }
 {
-    let d = values::redraw(*s, told, width, height, store, screen);
-    let t = d.session;
+    let d = (*s).draw(told, width, height, store, screen);
+    let e = (*s).settled(d);
+    let t = e.session;
     *s = t;
-    d.answer
+    e.answer
 }
 
 #[no_mangle]

@@ -1,20 +1,24 @@
-// The calls of a session by value where the exported call differs from the session's own: enums become numbers, and slices come last.
+// The functions of one window where the exported call hands back something else: enums become numbers.
 ghost use mathlib.Core.Path.{_≡_};
+ghost use Prim.Native.Nat.{_<_};
+ghost use Rattle.window.specs.Held.{RepWindow};
 ghost use Rattle.rules.specs.Group.{idOr};
-ghost use Rattle.rules.specs.Calls.{Call};
-ghost use Rattle.windows.specs.View.{Given, Meets, MeetsStore, MeetsScreen, Starts, idOf};
+ghost use Rattle.windows.specs.View.{Given, Starts, idOf};
+ghost use Rattle.windows.specs.Aimed.{Aims};
 ghost use Rattle.station.specs.Events.{eventOf, Routes};
-ghost use Rattle.station.specs.Answers.{Creates, Pops};
+ghost use Rattle.station.specs.Inner.{MakesAt, TakesAt};
 use crate::events;
 use crate::events::RoqEvent;
-use geom::Dims;
-use geom::Pos;
-use geom::Rect;
+use order::WinId;
+use window::Window;
 use windows::Done;
 use windows::NewId;
 use windows::NextEvent;
 use windows::Session;
-use windows::WinId;
+use windows::Shared;
+use windows::events::Aim;
+use windows::events::nobody;
+use windows::one;
 
 // The answer and the id: 65,535 where the call was refused.
 #[repr(C)]
@@ -30,17 +34,19 @@ pub struct RoqPopped {
     pub event: RoqEvent,
 }
 
-// What a create hands back, and the session.
+// What a create makes of one window, and what it hands back.
 #[repr(C)]
 pub struct Made {
-    pub session: Session,
+    pub window: Window,
+    pub shared: Shared,
     pub created: RoqCreated,
 }
 
-// What a pop hands back, and the session.
+// What a pop makes of one window, and what it hands back.
 #[repr(C)]
 pub struct Taken {
-    pub session: Session,
+    pub window: Window,
+    pub shared: Shared,
     pub popped: RoqPopped,
 }
 
@@ -54,96 +60,60 @@ fn number_of(id: NewId) -> WinId
     }
 }
 
-// What the session was before makes no difference; it is a parameter because every exported call copies its session out first.
+// What the session was before makes no difference; it is a parameter because the exported call takes one.
 pub fn start(s: Session, c: u32) -> Done
     ensures { λ r. ⌜ Starts c r ⌝ }
 {
     Session::start(c)
 }
 
-pub fn move_window(s: Session, id: WinId, x: u32, y: u32) -> Done
-    requires { ⌜ Given s ⌝ }
-    ensures { λ r. ⌜ Meets (Call.Move (id .0) x y) s r ⌝ }
+pub fn create(win: Window, shared: Shared, id: WinId) -> Made
+    requires { ⌜ id .0 < 16 ⌝ }
+    ensures { λ r. ⌜ MakesAt (id .0) win shared r ⌝ }
 {
-    s.move_window(id, Pos { x, y })
-}
-
-pub fn resize(s: Session, id: WinId, w: u32, h: u32, store: &mut [u32]) -> Done
-    requires { ⌜ Given s ⌝ }
-    ensures { λ r. ⌜ MeetsStore (Call.Resize (id .0) w h (now (store .entry))) s r (now (store .exit)) ⌝ }
-{
-    s.resize(id, Dims { w, h }, store)
-}
-
-pub fn blit(
-    s: Session,
-    id: WinId,
-    area: Rect,
-    stride: usize,
-    data: &[u32],
-    store: &mut [u32],
-) -> Done
-    requires { ⌜ Given s ⌝ }
-    ensures { λ r. ⌜ MeetsStore (Call.Blit (id .0) area (now («data» .entry)) stride (now (store .entry))) s r (now (store .exit)) ⌝ }
-{
-    s.blit(id, area, data, stride, store)
-}
-
-pub fn redraw(
-    s: Session,
-    told: bool,
-    width: u32,
-    height: u32,
-    store: &[u32],
-    screen: &mut [u32],
-) -> Done
-    requires { ⌜ Given s ⌝ }
-    ensures { λ r. ⌜ MeetsScreen (Call.Redraw told width height (now (store .entry)) (now (screen .entry))) s r (now (screen .exit)) ⌝ }
-{
-    s.redraw(told, store, screen, width, height)
-}
-
-pub fn create(s: Session) -> Made
-    requires { ⌜ Given s ⌝ }
-    ensures { λ r. ⌜ Creates s (r .session) (r .created) ⌝ }
-{
-    let made = s.create();
-    let id = made.id;
-    let number = number_of(id);
+    let made = one::create(win, shared, id);
+    let new = made.id;
+    let number = number_of(new);
     let created = RoqCreated {
         answer: made.answer,
         id: number,
     };
-    let session = made.session;
-    Made { session, created }
+    let window = made.window;
+    let same = made.shared;
+    Made {
+        window,
+        shared: same,
+        created,
+    }
 }
 
-pub fn pop(s: Session, id: WinId) -> Taken
-    requires { ⌜ Given s ⌝ }
-    ensures { λ r. ⌜ Pops (id .0) s (r .session) (r .popped) ⌝ }
+pub fn pop(win: Window, shared: Shared, id: WinId) -> Taken
+    requires { ⌜ RepWindow win ⌝ }
+    ensures { λ r. ⌜ TakesAt (id .0) win shared r ⌝ }
 {
-    let first = s.pop(id);
+    let first = windows::events::pop(win, id);
     let next = first.event;
     let event = events::numbers_of(next);
     let popped = RoqPopped {
         answer: first.answer,
         event,
     };
-    let session = first.session;
-    Taken { session, popped }
+    let window = first.window;
+    Taken {
+        window,
+        shared,
+        popped,
+    }
 }
 
-// Numbers that stand for no event find no window to take it: 11.
-pub fn route(s: Session, e: RoqEvent) -> Done
+// Where the event goes that numbers stand for. Numbers that stand for none find no window to take it: 11.
+pub fn aim(s: Session, e: RoqEvent) -> Aim
     requires { ⌜ Given s ⌝ }
-    ensures { λ r. ⌜ Routes (eventOf e) s r ⌝ }
+    ensures { λ r. ⌜ Aims (Routes (eventOf e) s) s r ⌝ }
 {
     let next = events::event_of(e);
     match next {
-        NextEvent::Event(told) => s.route(told),
-        NextEvent::Absent => Done {
-            session: s,
-            answer: 11,
-        },
+        NextEvent::Event(told) => s.aim(told),
+        NextEvent::Absent => nobody(11),
     }
 }

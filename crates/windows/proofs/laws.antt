@@ -1,8 +1,8 @@
 -- The view, the two ends of a call, and what each call does to the session.
 pub mod Session
-pub mod Order
+pub mod One
 pub mod Places
-pub mod Rects
+pub mod Frames
 pub mod Above
 pub mod Created
 pub mod Shown
@@ -11,9 +11,10 @@ pub mod Store
 pub mod Pixels
 pub mod Listed
 pub mod Full
+pub mod Cleaned
 pub mod Drawn
 pub mod Parts
 pub mod Popping
 pub mod Telling
-pub mod Topmost
 pub mod Routing
+pub mod Aimed

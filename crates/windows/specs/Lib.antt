@@ -1,8 +1,9 @@
 -- How a session holds a group, what its calls promise, and demand 3 of the program; then what our own functions say.
 pub mod View
 pub mod Run
-pub mod Order
-pub mod Rects
+pub mod One
+pub mod Frames
 pub mod Drawing
 pub mod Pixels
 pub mod Events
+pub mod Aimed

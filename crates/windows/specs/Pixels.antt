@@ -5,6 +5,7 @@ use mathlib.Core.Bool.{cond}
 use Rattle.geom.specs.declared.Rect.{Rect}
 use Rattle.geom.specs.Geom.{isEmpty, meets, common}
 use Rattle.window.specs.declared.Window.{Window}
+use Rattle.window.specs.declared.damage.Damage.{Damage}
 use Rattle.window.specs.Window.{Win}
 use Rattle.window.specs.Held.{winOf, RepWindow}
 use Rattle.rules.specs.Store.{dirtied, bounds}
@@ -14,6 +15,10 @@ pub record Becomes (w : Window) (rule : Win) (r : Window) : Type 0 where
   pub used : r .used ≡ w .used
   pub rep : RepWindow r
   pub is : winOf r ≡ rule
+
+-- the window with another damage
+abbrev pub setDamage : Damage → Window → Window
+setDamage d w = record { queue = w .queue; damage = d; at = w .at; cursor = w .cursor; used = w .used; marked = w .marked }
 
 -- the window's rows lie in a store of `len` pixels
 pub record Stored (len base : ℕ) (w : Window) : Type 0 where

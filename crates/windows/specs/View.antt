@@ -4,7 +4,7 @@ use mathlib.Core.Bool.{false, cond}
 use mathlib.Core.Path.{_≡_}
 use mathlib.Core.List.{List, [], _∷_, map}
 use mathlib.Core.Option.{Option, none, some}
-use lib.ListN.{length, getD, take}
+use lib.ListN.{length, getD}
 use Rattle.geom.specs.Questions.{_is_, asked}
 use Rattle.geom.specs.Geom.{rect}
 use Rattle.window.specs.declared.Window.{Window}
@@ -14,7 +14,7 @@ use Rattle.window.specs.Held.{winOf, RepWindow}
 use Rattle.rules.specs.Group.{Group, start, used, win}
 use Rattle.rules.specs.Visible.{visibleList}
 use Rattle.rules.specs.Calls.{Call, does, after}
-use Rattle.windows.specs.declared.WinId.{WinId}
+use Rattle.order.specs.Ids.{ids}
 use Rattle.windows.specs.declared.Session.{Session}
 use Rattle.windows.specs.declared.Done.{Done}
 use Rattle.windows.specs.declared.NewId.{NewId}
@@ -32,22 +32,15 @@ use Rattle.windows.specs.declared.Listing.{Listing}
 unfoldable pub cell : Window → Option Win
 cell w = cond (w .used) (some (winOf w)) none
 
-abbrev pub num : WinId → ℕ
-num i = i .0
-
--- the first n ids
-abbrev pub ids : ℕ → List WinId → List ℕ
-ids n l = map num (take n l)
-
 -- the group that a session holds
 unfoldable pub group : Session → Group
 group s =
     record {
-      c = s .c;
+      c = s .shared .c;
       windows = map cell (s .windows);
-      order = ids (s .shown) (s .order);
-      focus = s .focus .0;
-      owed = s .owed;
+      order = ids (s .shared .shown) (s .shared .order);
+      focus = s .shared .focus .0;
+      owed = s .shared .owed;
     }
 
 -- Which sessions there are ----------------------------------------------------------------------------------------------
@@ -70,8 +63,8 @@ windowAt s id = getD (s .windows) id blank
 -- the arrays and counts are in order
 pub record Rep (s : Session) : Type 0 where
   pub windows : length (s .windows) ≡ 16
-  pub order : length (s .order) ≡ 16
-  pub shown : s .shown ≤ 16
+  pub order : length (s .shared .order) ≡ 16
+  pub shown : s .shared .shown ≤ 16
   pub each : (id : ℕ) → id < 16 → RepWindow (windowAt s id)
 
 -- "A session is one that a start and later calls gave": the only premise of a call

@@ -1,21 +1,22 @@
 // The calls route and pop: document 01, "Events". Translated from WindowGroup::handle_input, get_win_at_pos and, of window.rs, WindowInput.
 ghost use mathlib.Core.Path.{_≡_};
-ghost use mathlib.Core.Bool.{_&&_};
-ghost use Rattle.geom.specs.Questions.{small};
+ghost use mathlib.Core.Bool.{true};
 ghost use Rattle.window.specs.Held.{RepWindow};
 ghost use Rattle.rules.specs.Calls.{Call};
-ghost use Rattle.windows.specs.View.{Given, Meets, MeetsEvent};
+ghost use Rattle.windows.specs.View.{Given, Meets};
 ghost use Rattle.windows.specs.Events.{targetOf, atPoint, Tellable, ToldTo};
-use crate::Done;
+ghost use Rattle.windows.specs.Aimed.{toNobody, toWindow, Heard, Aims, PopsAt};
+use crate::Changed;
 use crate::NextEvent;
-use crate::Place;
-use crate::Popped;
-use crate::RenderIdx;
 use crate::Session;
-use crate::WinId;
-use crate::order::get_render_idx;
-use crate::places::window_at;
-use geom::Pos;
+use crate::Shared;
+use crate::one::is_used;
+use crate::small::small_point;
+use order::RenderIdx;
+use order::WinId;
+use order::get_render_idx;
+use order::topmost::Hit;
+use order::topmost::topmost;
 use window::Event;
 use window::Window;
 
@@ -30,6 +31,26 @@ pub enum Target {
 pub struct Told {
     pub window: Window,
     pub answer: u32,
+}
+
+// What a window is told, if `told`; else the answer.
+pub struct Message {
+    pub told: bool,
+    pub answer: u32,
+    pub event: Event,
+}
+
+// The place of the window that an event goes to, and what it is told.
+pub struct Aim {
+    pub at: usize,
+    pub what: Message,
+}
+
+// A window without the event that was asked for, which is absent where the call was refused.
+pub struct PoppedOne {
+    pub window: Window,
+    pub answer: u32,
+    pub event: NextEvent,
 }
 
 fn target_of(e: Event) -> Target
@@ -76,16 +97,6 @@ fn at_point(e: Event, x: u32, y: u32) -> Event
     }
 }
 
-// Question 5 of a point.
-fn small_point(x: u32, y: u32) -> bool
-    ensures { λ b. ⌜ b ≡ small x && small y ⌝ }
-{
-    if x <= 32767 {
-        return y <= 32767;
-    }
-    false
-}
-
 // A move replaces the cursor's new point; any other event joins the queue.
 fn push_event(mut win: Window, e: Event) -> Told
     requires { ⌜ RepWindow win × Tellable e ⌝ }
@@ -114,121 +125,134 @@ fn push_event(mut win: Window, e: Event) -> Told
     }
 }
 
+// A window is told, or left as it is.
+pub fn tell(win: Window, shared: Shared, m: Message) -> Changed
+    requires { ⌜ RepWindow win × (m .told ≡ true → Tellable (m .event)) ⌝ }
+    ensures { λ r. ⌜ Heard win shared m r ⌝ }
+{
+    if m.told {
+        let e = m.event;
+        let told = push_event(win, e);
+        let window = told.window;
+        return Changed {
+            window,
+            shared,
+            answer: told.answer,
+        };
+    }
+    Changed {
+        window: win,
+        shared,
+        answer: m.answer,
+    }
+}
+
+// No window takes the event, and this is the answer.
+pub fn nobody(answer: u32) -> Aim
+    ensures { λ r. ⌜ r ≡ toNobody answer ⌝ }
+{
+    let what = Message {
+        told: false,
+        answer,
+        event: Event::Resize,
+    };
+    Aim { at: 0, what }
+}
+
+fn to_window(at: usize, event: Event) -> Aim
+    ensures { λ r. ⌜ r ≡ toWindow at event ⌝ }
+{
+    let what = Message {
+        told: true,
+        answer: 0,
+        event,
+    };
+    Aim { at, what }
+}
+
 impl Session {
-    pub fn route(self, e: Event) -> Done
+    // Where an event goes, and what the window there is told.
+    pub fn aim(self, e: Event) -> Aim
         requires { ⌜ Given self ⌝ }
-        ensures { λ r. ⌜ Meets (Call.Route e) self r ⌝ }
+        ensures { λ r. ⌜ Aims (Meets (Call.Route e) self) self r ⌝ }
     {
         let target = target_of(e);
         match target {
-            Target::Nobody => Done {
-                session: self,
-                answer: 0,
-            },
-            Target::Focus => self.route_key(e),
-            Target::Point { x, y } => self.route_pointer(e, x, y),
+            Target::Nobody => nobody(0),
+            Target::Focus => self.aim_key(e),
+            Target::Point { x, y } => self.aim_pointer(e, x, y),
         }
     }
 
-    // To the focus, if it is shown.
-    fn route_key(mut self, e: Event) -> Done
+    // At the focus, if it is shown.
+    fn aim_key(self, e: Event) -> Aim
         requires { ⌜ Given self × (targetOf e ≡ Target.Focus) ⌝ }
-        ensures { λ r. ⌜ Meets (Call.Route e) self r ⌝ }
+        ensures { λ r. ⌜ Aims (Meets (Call.Route e) self) self r ⌝ }
     {
-        let mut answer: u32 = 11;
-        let focus = self.focus;
-        let order = self.order;
-        let n = self.shown;
-        let idx = get_render_idx(order, n, focus);
-        if let RenderIdx::At(_) = idx {
-            let at = focus.0 as usize;
-            let win = self.windows[at];
-            let told = push_event(win, e);
-            let v = told.window;
-            self.windows[at] = v;
-            answer = told.answer;
-        }
-        Done {
-            session: self,
-            answer,
+        let focus = self.shared.focus;
+        let order = self.shared.order;
+        let idx = get_render_idx(order, self.shared.shown, focus);
+        match idx {
+            RenderIdx::At(_) => to_window(focus.0 as usize, e),
+            RenderIdx::Hidden => nobody(11),
         }
     }
 
-    // To the topmost window that contains the point: the order is searched from its top down, as far as the first hit.
-    fn route_pointer(mut self, e: Event, x: u32, y: u32) -> Done
+    // At the topmost window that contains the point.
+    fn aim_pointer(self, e: Event, x: u32, y: u32) -> Aim
         requires { ⌜ Given self × (targetOf e ≡ Target.Point x y) ⌝ }
-        ensures { λ r. ⌜ Meets (Call.Route e) self r ⌝ }
+        ensures { λ r. ⌜ Aims (Meets (Call.Route e) self) self r ⌝ }
     {
-        let mut answer: u32 = 5;
         if small_point(x, y) {
-            answer = 11;
-            let order = self.order;
-            let shown = self.shown;
-            // how many windows are left to look at: the lowest ones
-            let mut left = shown;
-            while 0 < left {
-                let p = Place(left - 1);
-                let id = window_at(order, p);
-                let at = id.0 as usize;
-                let win = self.windows[at];
-                let area = win.at;
-                let frame = area.rect();
-                let hit = frame.contains(Pos::new(x, y));
-                if hit.yes {
-                    let inside = at_point(e, x - frame.pos.x, y - frame.pos.y);
-                    let told = push_event(win, inside);
-                    let v = told.window;
-                    self.windows[at] = v;
-                    answer = told.answer;
-                    break;
+            let frames = self.frames();
+            let areas = frames.areas;
+            let order = self.shared.order;
+            let hit = topmost(areas, order, self.shared.shown, x, y);
+            match hit {
+                Hit::Window(id) => {
+                    let at = id.0 as usize;
+                    let area = areas[at];
+                    let inside = at_point(e, x - area.x as u32, y - area.y as u32);
+                    to_window(at, inside)
                 }
-                left -= 1;
+                Hit::Nobody => nobody(11),
             }
-        }
-        Done {
-            session: self,
-            answer,
+        } else {
+            nobody(5)
         }
     }
+}
 
-    // The queue first, then an unread move.
-    pub fn pop(mut self, id: WinId) -> Popped
-        requires { ⌜ Given self ⌝ }
-        ensures { λ r. ⌜ MeetsEvent (Call.Pop (id .0)) self r ⌝ }
-    {
-        let mut answer: u32 = 3;
-        let mut event = NextEvent::Absent;
-        let k = id.0;
-        if k < 16 {
-            let at = k as usize;
-            if self.windows[at].used {
-                answer = 10;
-                let mut win = self.windows[at];
-                let queue = win.queue;
-                let cursor = win.cursor;
-                if 0 < queue.len {
-                    let first = queue.pop();
-                    let rest = first.queue;
-                    let e = first.event;
-                    win.queue = rest;
-                    self.windows[at] = win;
-                    event = NextEvent::Event(e);
-                    answer = 0;
-                } else if cursor.is_dirty {
-                    let moved = cursor.take();
-                    let read = moved.cursor;
-                    let e = moved.event;
-                    win.cursor = read;
-                    self.windows[at] = win;
-                    event = NextEvent::Event(e);
-                    answer = 0;
-                }
-            }
+// The queue first, then an unread move.
+pub fn pop(mut win: Window, id: WinId) -> PoppedOne
+    requires { ⌜ RepWindow win ⌝ }
+    ensures { λ r. ⌜ PopsAt (id .0) win r ⌝ }
+{
+    let mut answer: u32 = 3;
+    let mut event = NextEvent::Absent;
+    if is_used(win, id) {
+        answer = 10;
+        let queue = win.queue;
+        let cursor = win.cursor;
+        if 0 < queue.len {
+            let first = queue.pop();
+            let rest = first.queue;
+            let e = first.event;
+            win.queue = rest;
+            event = NextEvent::Event(e);
+            answer = 0;
+        } else if cursor.is_dirty {
+            let moved = cursor.take();
+            let read = moved.cursor;
+            let e = moved.event;
+            win.cursor = read;
+            event = NextEvent::Event(e);
+            answer = 0;
         }
-        Popped {
-            session: self,
-            answer,
-            event,
-        }
+    }
+    PoppedOne {
+        window: win,
+        answer,
+        event,
     }
 }

@@ -1,16 +1,19 @@
-// The calls that change one window or none: start, create, move and mark; and what a station may ask of a session.
+// The calls that start a session and make a window, and what a station may ask of a session.
 ghost use mathlib.Core.Path.{_≡_};
 ghost use Rattle.rules.specs.Group.{fresh};
 ghost use Rattle.rules.specs.Calls.{Call};
-ghost use Rattle.windows.specs.View.{Rep, Given, Meets, MeetsId, Starts, group, placed};
+ghost use Rattle.windows.specs.View.{Rep, Given, MeetsId, Starts, group, placed};
+ghost use Rattle.windows.specs.One.{Free};
 use crate::Created;
 use crate::Done;
-use crate::NewId;
+use crate::FreeSlot;
 use crate::Placed;
 use crate::Session;
-use crate::WinId;
-use geom::Pos;
+use crate::Shared;
+use crate::one;
 use geom::Rect;
+use order::WinId;
+use order::frames::first_free;
 use window::Window;
 
 impl Session {
@@ -20,14 +23,14 @@ impl Session {
     {
         let windows = [Window::unused(); 16];
         let order = [WinId(0); 16];
-        Session {
-            windows,
+        let shared = Shared {
             order,
             shown: 0,
             c,
             focus: WinId(0),
             owed: true,
-        }
+        };
+        Session { windows, shared }
     }
 
     pub fn start(c: u32) -> Done
@@ -51,78 +54,37 @@ impl Session {
         }
     }
 
+    // A place for the next window: that of the smallest unused id. Where none is left, any place: its window is in use.
+    pub fn free_slot(self) -> FreeSlot
+        requires { ⌜ Given self ⌝ }
+        ensures { λ r. ⌜ Free self r ⌝ }
+    {
+        let frames = self.frames();
+        let used = frames.used;
+        let at = first_free(used);
+        FreeSlot {
+            at,
+            id: WinId(at as u16),
+        }
+    }
+
     // A window that is not shown and has no pixels, with the smallest unused id.
     pub fn create(mut self) -> Created
         requires { ⌜ Given self ⌝ }
         ensures { λ r. ⌜ MeetsId Call.Create self r ⌝ }
     {
-        let mut at: usize = 0;
-        while at < 16 {
-            if self.windows[at].used {
-                at += 1;
-            } else {
-                let w = Window::fresh();
-                self.windows[at] = w;
-                return Created {
-                    session: self,
-                    answer: 0,
-                    id: NewId::Id(WinId(at as u16)),
-                };
-            }
-        }
+        let free = self.free_slot();
+        let at = free.at;
+        let d = one::create(self.windows[at], self.shared, free.id);
+        let window = d.window;
+        self.windows[at] = window;
+        let shared = d.shared;
+        self.shared = shared;
+        let id = d.id;
         Created {
             session: self,
-            answer: 4,
-            id: NewId::Absent,
-        }
-    }
-
-    pub fn move_window(mut self, id: WinId, pos: Pos) -> Done
-        requires { ⌜ Given self ⌝ }
-        ensures { λ r. ⌜ Meets (Call.Move (id .0) (pos .x) (pos .y)) self r ⌝ }
-    {
-        let mut answer: u32 = 3;
-        let k = id.0;
-        if k < 16 {
-            let at = k as usize;
-            if self.windows[at].used {
-                answer = 5;
-                if pos.x <= 32767 {
-                    if pos.y <= 32767 {
-                        let mut w = self.windows[at];
-                        let mut area = w.at;
-                        area.x = pos.x as u16;
-                        area.y = pos.y as u16;
-                        w.at = area;
-                        self.windows[at] = w;
-                        self.owed = true;
-                        answer = 0;
-                    }
-                }
-            }
-        }
-        Done {
-            session: self,
-            answer,
-        }
-    }
-
-    pub fn mark(mut self, id: WinId) -> Done
-        requires { ⌜ Given self ⌝ }
-        ensures { λ r. ⌜ Meets (Call.Mark (id .0)) self r ⌝ }
-    {
-        let mut answer: u32 = 3;
-        let k = id.0;
-        if k < 16 {
-            let at = k as usize;
-            if self.windows[at].used {
-                self.windows[at].marked = true;
-                answer = 0;
-            }
-        }
-        Done {
-            session: self,
-            answer,
+            answer: d.answer,
+            id,
         }
     }
 
@@ -130,7 +92,7 @@ impl Session {
     pub fn focus(self) -> WinId
         ensures { λ f. ⌜ f .0 ≡ group self .focus ⌝ }
     {
-        self.focus
+        self.shared.focus
     }
 
     // Where a window is and how large.
@@ -140,12 +102,14 @@ impl Session {
     {
         let mut answer: u32 = 3;
         let mut rect = Rect::new(0, 0, 0, 0);
+        let frames = self.frames();
+        let used = frames.used;
+        let areas = frames.areas;
         let k = id.0;
         if k < 16 {
             let at = k as usize;
-            let w = self.windows[at];
-            if w.used {
-                let area = w.at;
+            if used[at] {
+                let area = areas[at];
                 rect = area.rect();
                 answer = 0;
             }

@@ -8,41 +8,43 @@
 //     the lent store             C     C     C     C     C  …   C     window i has the C pixels from i × C on, rows of its own width
 //     the lent screen            what a redraw writes, window by window in the order, each under those above it
 use geom::Rect;
+use order::WinId;
 use window::Event;
 use window::Window;
 
-mod events;
+mod calls;
+pub mod events;
+mod frames;
 mod group;
 mod list;
-mod order;
-mod places;
-mod rects;
-mod redraw;
-mod store;
+pub mod one;
+pub mod redraw;
+mod small;
+pub mod store;
 
-// The number of a window, 0 to 15. Any other number is answered by 3.
+// What the windows share: the render order, which holds the shown ones in its first `shown` places, lowest first; C; the focus; and whether
+// a full redraw is owed.
 #[repr(C)]
-pub struct WinId(pub u16);
-
-// A place in the render order, 0 for the lowest window.
-#[repr(C)]
-pub struct Place(pub usize);
-
-// The place of a window in the render order, which a hidden window has not.
-pub enum RenderIdx {
-    At(Place),
-    Hidden,
-}
-
-// `order` holds the shown windows in its first `shown` places, lowest first.
-#[repr(C)]
-pub struct Session {
-    pub windows: [Window; 16],
+pub struct Shared {
     pub order: [WinId; 16],
     pub shown: usize,
     pub c: u32,
     pub focus: WinId,
     pub owed: bool,
+}
+
+#[repr(C)]
+pub struct Session {
+    pub windows: [Window; 16],
+    pub shared: Shared,
+}
+
+// What a call makes of one window and of what the windows share, and the answer.
+#[repr(C)]
+pub struct Changed {
+    pub window: Window,
+    pub shared: Shared,
+    pub answer: u32,
 }
 
 // What a call hands back: the session and the answer.
@@ -56,6 +58,21 @@ pub struct Done {
 pub enum NewId {
     Id(WinId),
     Absent,
+}
+
+// A place for the next window, and the number that it would have.
+#[repr(C)]
+pub struct FreeSlot {
+    pub at: usize,
+    pub id: WinId,
+}
+
+// What a create makes of one window, and the id.
+pub struct CreatedOne {
+    pub window: Window,
+    pub shared: Shared,
+    pub answer: u32,
+    pub id: NewId,
 }
 
 pub struct Created {

@@ -1,27 +1,30 @@
 // The visible list of a window: document 01, "Visible list, relative to the window".
 ghost use mathlib.Core.Path.{_≡_};
 ghost use mathlib.Core.Option.{some};
-ghost use Rattle.windows.specs.View.{group, ids, Given, Lists};
-ghost use Rattle.windows.specs.Order.{renderIdx};
+ghost use Rattle.windows.specs.View.{group, Given, Lists};
+ghost use Rattle.order.specs.Ids.{ids};
+ghost use Rattle.order.specs.Order.{renderIdx};
 use crate::Listing;
-use crate::Place;
-use crate::RenderIdx;
 use crate::Session;
-use crate::WinId;
-use crate::order::get_render_idx;
-use crate::rects;
+use order::Place;
+use order::RenderIdx;
+use order::WinId;
+use order::get_render_idx;
+use order::rects;
 
 impl Session {
     // The list of a window in use, which stands at a place of the order.
     fn list_shown(self, id: WinId, p: Place, list: &mut [u32]) -> Listing
-        requires { ⌜ Given self × (some (p .0) ≡ renderIdx (id .0) (ids (self .shown) (self .order))) ⌝ }
+        requires { ⌜ Given self × (some (p .0) ≡ renderIdx (id .0) (ids (self .shared .shown) (self .shared .order))) ⌝ }
         ensures { λ r. ⌜ Lists (group self) (id .0) (now (list .entry)) r (now (list .exit)) ⌝ }
     {
+        let frames = self.frames();
+        let areas = frames.areas;
+        let order = self.shared.order;
         let at = id.0 as usize;
-        let w = self.windows[at];
-        let area = w.at;
+        let area = areas[at];
         let r = area.rect();
-        let above = rects::from(self, p.next());
+        let above = rects::from(areas, order, self.shared.shown, p.next());
         let numbers = above.numbers;
         let n = above.len;
         if visible::list::has_room(r, &numbers, n, list.len()) {
@@ -43,9 +46,11 @@ impl Session {
         let k = id.0;
         if k < 16 {
             let at = k as usize;
-            if self.windows[at].used {
-                let n = self.shown;
-                let order = self.order;
+            let frames = self.frames();
+            let used = frames.used;
+            if used[at] {
+                let n = self.shared.shown;
+                let order = self.shared.order;
                 let idx = get_render_idx(order, n, id);
                 if let RenderIdx::At(p) = idx {
                     return self.list_shown(id, p, list);

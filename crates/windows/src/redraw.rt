@@ -1,26 +1,38 @@
 // The call redraw: document 01, "Redraw, lowest window first".
 ghost use mathlib.Core.Path.{_≡_};
 ghost use mathlib.Core.Bool.{true, cond, _&&_, _||_};
+ghost use mathlib.Core.List.{[]};
 ghost use Prim.Native.Nat.{_+_, _*_, _≤_};
 ghost use lib.Dec.{leb, eqb};
 ghost use lib.ListN.{length};
 ghost use Rattle.geom.specs.Questions.{small};
 ghost use Rattle.window.specs.Held.{rects, RepDamage, RepWindow};
 ghost use Rattle.rules.specs.Visible.{rectsOf};
-ghost use Rattle.rules.specs.Redraw.{drawAll, cleanAll};
+ghost use Rattle.rules.specs.Redraw.{drawAll};
 ghost use Rattle.rules.specs.Calls.{Call};
 ghost use Rattle.visible.specs.Lent.{Lent};
-ghost use Rattle.windows.specs.View.{group, Rep, Given, MeetsScreen};
-ghost use Rattle.windows.specs.Drawing.{Drawable, painted};
-ghost use Rattle.windows.specs.Rects.{Holds, dirtyOf};
+ghost use Rattle.windows.specs.View.{group, Given, MeetsScreen};
+ghost use Rattle.windows.specs.Drawing.{Drawable, painted, Ordered, Settles, Draws};
+ghost use Rattle.order.specs.Ids.{ids};
+ghost use Rattle.order.specs.Order.{Marks};
+ghost use Rattle.order.specs.Rects.{Holds, dirtyOf};
 use crate::Done;
-use crate::Place;
 use crate::Session;
-use crate::places::window_at;
-use crate::rects;
-use crate::rects::Rects;
+use crate::Shared;
+use order::Place;
+use order::places::window_at;
+use order::rects;
+use order::rects::Rects;
+use order::shown_ids;
 use window::Window;
 use window::damage::Damage;
+
+// What was drawn: in full or not; and the answer.
+#[repr(C)]
+pub struct Drawn {
+    pub full: bool,
+    pub answer: u32,
+}
 
 // Question 8.
 fn screen_fits(sw: u32, sh: u32, len: usize) -> bool
@@ -39,6 +51,19 @@ fn screen_fits(sw: u32, sh: u32, len: usize) -> bool
         return false;
     }
     len == sw as usize * sh as usize
+}
+
+// The windows that a redraw went through, by their numbers: those shown, or none where it was refused.
+fn drawn_ids(shared: Shared, answer: u32) -> [bool; 16]
+    requires { ⌜ Ordered shared ⌝ }
+    ensures { λ r. ⌜ Marks r (cond (eqb answer 0) (ids (shared .shown) (shared .order)) []) ⌝ }
+{
+    let mut n: usize = 0;
+    if answer == 0 {
+        n = shared.shown;
+    }
+    let order = shared.order;
+    shown_ids(order, n)
 }
 
 // What a redraw takes for dirty: the full rectangle where it is full or no entry is there, else the entries.
@@ -103,16 +128,18 @@ impl Session {
         requires { ⌜ Given self × Drawable self sw sh (now store) (now screen) ⌝ }
         ensures { λ _. ⌜ now (screen .exit) ≡ drawAll (group self) full (now (store .entry)) sw sh (group self .order) (now (screen .entry)) ⌝ }
     {
-        let n = self.shown;
-        let order = self.order;
-        let all = rects::from(self, Place::lowest());
+        let n = self.shared.shown;
+        let order = self.shared.order;
+        let frames = self.frames();
+        let areas = frames.areas;
+        let all = rects::from(areas, order, n, Place::lowest());
         let numbers = all.numbers;
         let mut p = Place::lowest();
         while p.0 < n {
             let id = window_at(order, p);
             let at = id.0 as usize;
             let w = self.windows[at];
-            let base = at * self.c as usize;
+            let base = at * self.shared.c as usize;
             let next = 4 * (p.0 + 1);
             draw_window(
                 w,
@@ -129,28 +156,59 @@ impl Session {
         }
     }
 
-    // Clears marks and damage of the windows that were drawn.
-    fn cleaned(mut self, full: bool) -> Session
+    // The first half of a redraw: asks the questions and draws. It leaves the session as it is.
+    pub fn draw(
+        self,
+        told: bool,
+        width: u32,
+        height: u32,
+        store: &[u32],
+        screen: &mut [u32],
+    ) -> Drawn
         requires { ⌜ Given self ⌝ }
-        ensures { λ s. ⌜ (group s ≡ cleanAll full (group self .order) (group self)) × Rep s ⌝ }
+        ensures { λ d. ⌜ Draws (Call.Redraw told width height (now (store .entry)) (now (screen .entry))) self d (now (screen .exit)) ⌝ }
     {
-        let n = self.shown;
-        let order = self.order;
-        let mut p = Place::lowest();
-        while p.0 < n {
-            let id = window_at(order, p);
-            let at = id.0 as usize;
-            if either(full, self.windows[at].marked) {
-                self.windows[at].marked = false;
-                self.windows[at].damage.len = 0;
+        let full = either(told, self.shared.owed);
+        let mut answer: u32 = 1;
+        let c = self.shared.c as usize;
+        if store.len() == 16 * c {
+            answer = 8;
+            if screen_fits(width, height, screen.len()) {
+                self.draw_all(full, store, screen, width, height);
+                answer = 0;
             }
-            p = p.next();
         }
-        self
+        Drawn { full, answer }
+    }
+
+    // The second half: marks and damage of the windows that were drawn are cleared, and the debt is paid. A refused redraw changes nothing.
+    // The windows are gone through by number, since a place that is known when compiling costs no copy of the session.
+    pub fn settled(mut self, d: Drawn) -> Done
+        requires { ⌜ Given self ⌝ }
+        ensures { λ r. ⌜ Settles self d r ⌝ }
+    {
+        let drawn = drawn_ids(self.shared, d.answer);
+        let mut i: usize = 0;
+        while i < 16 {
+            if drawn[i] {
+                if either(d.full, self.windows[i].marked) {
+                    self.windows[i].marked = false;
+                    self.windows[i].damage.len = 0;
+                }
+            }
+            i += 1;
+        }
+        if d.answer == 0 {
+            self.shared.owed = false;
+        }
+        Done {
+            session: self,
+            answer: d.answer,
+        }
     }
 
     pub fn redraw(
-        mut self,
+        self,
         told: bool,
         store: &[u32],
         screen: &mut [u32],
@@ -160,21 +218,7 @@ impl Session {
         requires { ⌜ Given self ⌝ }
         ensures { λ r. ⌜ MeetsScreen (Call.Redraw told width height (now (store .entry)) (now (screen .entry))) self r (now (screen .exit)) ⌝ }
     {
-        let mut answer: u32 = 1;
-        let c = self.c as usize;
-        if store.len() == 16 * c {
-            answer = 8;
-            if screen_fits(width, height, screen.len()) {
-                let full = either(told, self.owed);
-                self.draw_all(full, store, screen, width, height);
-                self = self.cleaned(full);
-                self.owed = false;
-                answer = 0;
-            }
-        }
-        Done {
-            session: self,
-            answer,
-        }
+        let d = self.draw(told, width, height, store, screen);
+        self.settled(d)
     }
 }

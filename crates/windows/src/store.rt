@@ -1,47 +1,36 @@
-// The calls that write the lent store: fill, blit and resize. Each asks its questions and leaves the rest to a function of one window, translated
-// from window.rs. There, `base` is the place in the store at which the window's pixels begin: its number times C.
+// The calls that write the lent store, as functions of one window and of what the windows share: fill, blit and resize. Each asks its questions
+// and leaves the rest to a function translated from window.rs. There, `base` is the place in the store at which the window's pixels begin: its
+// number times C.
 ghost use mathlib.Core.Path.{_≡_};
-ghost use mathlib.Core.Bool.{_&&_};
+ghost use Prim.Native.Nat.{_≤_};
 ghost use lib.ListN.{length};
-ghost use Rattle.geom.specs.Questions.{small};
-ghost use Rattle.geom.specs.Geom.{rect, smallRect};
+ghost use Rattle.geom.specs.Geom.{rect};
 ghost use Rattle.winbuf.specs.Pixels.{resizedAt};
-ghost use Rattle.window.specs.Held.{Small, RepWindow, winOf};
-ghost use Rattle.rules.specs.Store.{resizedWin, dirtied, filledAt, blitAt};
+ghost use Rattle.window.specs.Held.{Small, RepDamage, winOf};
+ghost use Rattle.window.specs.Inner.{Dirtied};
+ghost use Rattle.rules.specs.Store.{resizedWin, filledAt, blitAt};
 ghost use Rattle.rules.specs.Calls.{Call};
-ghost use Rattle.windows.specs.View.{Given, MeetsStore};
-ghost use Rattle.windows.specs.Pixels.{Becomes, Stored, Resizable, filledWin, blitWin};
-use crate::Done;
-use crate::Session;
-use crate::WinId;
+ghost use Rattle.windows.specs.One.{Held, MeetsStoreAt};
+ghost use Rattle.windows.specs.Pixels.{Becomes, Stored, Resizable, setDamage, filledWin, blitWin};
+use crate::Changed;
+use crate::Shared;
+use crate::one::is_used;
+use crate::small::is_small;
+use crate::small::is_small_size;
 use geom::Dims;
 use geom::Intersection;
 use geom::Pos;
 use geom::Rect;
 use geom::inner::is_empty;
+use order::WinId;
 use winbuf::inner::area::blit_area;
 use winbuf::inner::area::fill_area;
-use winbuf::inner::region::small_area;
 use winbuf::inner::resize::resize_store;
 use window::Event;
 use window::Window;
 use window::damage::Area;
 use window::damage::Damage;
 use window::damage::add_dirty;
-
-// Question 5 of a rectangle.
-pub fn is_small(r: Rect) -> bool
-    ensures { λ b. ⌜ b ≡ smallRect r ⌝ }
-{
-    small_area(r.pos.x, r.pos.y, r.dims.w, r.dims.h)
-}
-
-// Question 5 of a size.
-pub fn is_small_size(d: Dims) -> bool
-    ensures { λ b. ⌜ b ≡ small (d .w) && small (d .h) ⌝ }
-{
-    d.w <= 32767 && d.h <= 32767
-}
 
 // A window's own pixels, from its corner.
 fn bounds(at: Area) -> Rect
@@ -52,23 +41,21 @@ fn bounds(at: Area) -> Rect
     Rect::new_pd(pos, dims)
 }
 
-// The area is added to the window's damage.
-fn damaged(mut win: Window, area: Rect) -> Window
-    requires { ⌜ RepWindow win × Small area ⌝ }
-    ensures { λ r. ⌜ Becomes win (dirtied area (winOf win)) r ⌝ }
+// The area is added to the damage of a window of that size.
+fn damaged(old: Damage, size: Area, area: Rect) -> Damage
+    requires { ⌜ RepDamage old × Small area × (size .w ≤ 32767) × (size .h ≤ 32767) ⌝ }
+    ensures { λ r. ⌜ Dirtied (size .w) (size .h) old area r ⌝ }
 {
-    let old = win.damage;
-    let new = add_dirty(old, win.at.w as u32, win.at.h as u32, area);
-    win.damage = new;
-    win
+    add_dirty(old, size.w as u32, size.h as u32, area)
 }
 
-// The part of the area that lies in the window takes the colour.
-fn fill_rect(win: Window, base: usize, area: Rect, colour: u32, store: &mut [u32]) -> Window
+// The part of the area that lies in the window takes the colour; returns the window's damage.
+fn fill_rect(win: Window, base: usize, area: Rect, colour: u32, store: &mut [u32]) -> Damage
     requires { ⌜ Stored (length (now store)) base win × Small area ⌝ }
-    ensures { λ r. ⌜ Becomes win (filledWin area (winOf win)) r × (now (store .exit) ≡ filledAt base (winOf win) area colour (now (store .entry))) ⌝ }
+    ensures { λ r. ⌜ Becomes win (filledWin area (winOf win)) (setDamage r win) × (now (store .exit) ≡ filledAt base (winOf win) area colour (now (store .entry))) ⌝ }
 {
     let size = win.at;
+    let old = win.damage;
     let all = bounds(size);
     let cut = area.intersect(all);
     match cut {
@@ -83,15 +70,16 @@ fn fill_rect(win: Window, base: usize, area: Rect, colour: u32, store: &mut [u32
                 part.dims.h as usize,
                 colour,
             );
-            damaged(win, part)
+            damaged(old, size, part)
         }
-        Intersection::Apart => win,
+        Intersection::Apart => old,
         // never: question 14 holds of both
-        Intersection::Refused => win,
+        Intersection::Refused => old,
     }
 }
 
-// Rows of the area take successive chunks of `stride` data, where they lie in the window. An empty area is left alone.
+// Rows of the area take successive chunks of `stride` data, where they lie in the window; returns the window's
+// damage. An empty area is left alone.
 fn blit_rect(
     win: Window,
     base: usize,
@@ -99,16 +87,17 @@ fn blit_rect(
     data: &[u32],
     stride: usize,
     store: &mut [u32],
-) -> Window
+) -> Damage
     requires { ⌜ Stored (length (now store)) base win × Small area ⌝ }
-    ensures { λ r. ⌜ Becomes win (blitWin area (winOf win)) r × (now (store .exit) ≡ blitAt base (winOf win) area (now («data» .entry)) stride (now (store .entry))) ⌝ }
+    ensures { λ r. ⌜ Becomes win (blitWin area (winOf win)) (setDamage r win) × (now (store .exit) ≡ blitAt base (winOf win) area (now («data» .entry)) stride (now (store .entry))) ⌝ }
 {
+    let size = win.at;
+    let old = win.damage;
     if is_empty(area) {
-        return win;
+        return old;
     }
     // the area is added uncut
-    let new = damaged(win, area);
-    let size = win.at;
+    let new = damaged(old, size, area);
     let all = bounds(size);
     let cut = area.intersect(all);
     match cut {
@@ -133,7 +122,7 @@ fn blit_rect(
 }
 
 // The window at a new size, with all of it damaged and Resize queued.
-fn resize(mut win: Window, base: usize, c: usize, size: Dims, store: &mut [u32]) -> Window
+fn resized(mut win: Window, base: usize, c: usize, size: Dims, store: &mut [u32]) -> Window
     requires { ⌜ Resizable (length (now store)) base c (size .w) (size .h) win ⌝ }
     ensures { λ r. ⌜ Becomes win (resizedWin (size .w) (size .h) (winOf win)) r × (now (store .exit) ≡ resizedAt base c (win .at .w) (win .at .h) (size .w) (size .h) (now (store .entry))) ⌝ }
 {
@@ -162,102 +151,106 @@ fn resize(mut win: Window, base: usize, c: usize, size: Dims, store: &mut [u32])
     win
 }
 
-impl Session {
-    pub fn fill(mut self, id: WinId, area: Rect, colour: u32, store: &mut [u32]) -> Done
-        requires { ⌜ Given self ⌝ }
-        ensures { λ r. ⌜ MeetsStore (Call.Fill (id .0) area colour (now (store .entry))) self r (now (store .exit)) ⌝ }
-    {
-        let mut answer: u32 = 1;
-        let c = self.c as usize;
-        if store.len() == 16 * c {
-            answer = 3;
-            let k = id.0;
-            if k < 16 {
-                let at = k as usize;
-                if self.windows[at].used {
-                    answer = 5;
-                    if is_small(area) {
-                        answer = 0;
-                        let win = self.windows[at];
-                        let new = fill_rect(win, at * c, area, colour, store);
-                        self.windows[at] = new;
-                    }
-                }
+pub fn fill(
+    win: Window,
+    shared: Shared,
+    id: WinId,
+    area: Rect,
+    colour: u32,
+    store: &mut [u32],
+) -> Changed
+    requires { ⌜ Held (id .0) win shared ⌝ }
+    ensures { λ r. ⌜ MeetsStoreAt (Call.Fill (id .0) area colour (now (store .entry))) (id .0) win shared r (now (store .exit)) ⌝ }
+{
+    let mut window = win;
+    let mut answer: u32 = 1;
+    let c = shared.c as usize;
+    if store.len() == 16 * c {
+        answer = 3;
+        if is_used(win, id) {
+            answer = 5;
+            if is_small(area) {
+                answer = 0;
+                let damage = fill_rect(win, id.0 as usize * c, area, colour, store);
+                window.damage = damage;
             }
-        }
-        Done {
-            session: self,
-            answer,
         }
     }
+    Changed {
+        window,
+        shared,
+        answer,
+    }
+}
 
-    pub fn blit(
-        mut self,
-        id: WinId,
-        area: Rect,
-        data: &[u32],
-        stride: usize,
-        store: &mut [u32],
-    ) -> Done
-        requires { ⌜ Given self ⌝ }
-        ensures { λ r. ⌜ MeetsStore (Call.Blit (id .0) area (now («data» .entry)) stride (now (store .entry))) self r (now (store .exit)) ⌝ }
-    {
-        let mut answer: u32 = 1;
-        let c = self.c as usize;
-        if store.len() == 16 * c {
-            answer = 3;
-            let k = id.0;
-            if k < 16 {
-                let at = k as usize;
-                if self.windows[at].used {
-                    answer = 5;
-                    if is_small(area) {
-                        answer = 7;
-                        if 1 <= stride {
-                            answer = 0;
-                            let win = self.windows[at];
-                            let new = blit_rect(win, at * c, area, data, stride, store);
-                            self.windows[at] = new;
-                        }
-                    }
+pub fn blit(
+    win: Window,
+    shared: Shared,
+    id: WinId,
+    area: Rect,
+    stride: usize,
+    data: &[u32],
+    store: &mut [u32],
+) -> Changed
+    requires { ⌜ Held (id .0) win shared ⌝ }
+    ensures { λ r. ⌜ MeetsStoreAt (Call.Blit (id .0) area (now («data» .entry)) stride (now (store .entry))) (id .0) win shared r (now (store .exit)) ⌝ }
+{
+    let mut window = win;
+    let mut answer: u32 = 1;
+    let c = shared.c as usize;
+    if store.len() == 16 * c {
+        answer = 3;
+        if is_used(win, id) {
+            answer = 5;
+            if is_small(area) {
+                answer = 7;
+                if 1 <= stride {
+                    answer = 0;
+                    let damage = blit_rect(win, id.0 as usize * c, area, data, stride, store);
+                    window.damage = damage;
                 }
             }
-        }
-        Done {
-            session: self,
-            answer,
         }
     }
+    Changed {
+        window,
+        shared,
+        answer,
+    }
+}
 
-    pub fn resize(mut self, id: WinId, size: Dims, store: &mut [u32]) -> Done
-        requires { ⌜ Given self ⌝ }
-        ensures { λ r. ⌜ MeetsStore (Call.Resize (id .0) (size .w) (size .h) (now (store .entry))) self r (now (store .exit)) ⌝ }
-    {
-        let mut answer: u32 = 1;
-        let c = self.c as usize;
-        if store.len() == 16 * c {
-            answer = 3;
-            let k = id.0;
-            if k < 16 {
-                let at = k as usize;
-                if self.windows[at].used {
-                    answer = 5;
-                    if is_small_size(size) {
-                        answer = 6;
-                        if size.w * size.h <= self.c {
-                            answer = 0;
-                            let win = self.windows[at];
-                            let new = resize(win, at * c, c, size, store);
-                            self.windows[at] = new;
-                            self.owed = true;
-                        }
-                    }
+pub fn resize(
+    win: Window,
+    mut shared: Shared,
+    id: WinId,
+    w: u32,
+    h: u32,
+    store: &mut [u32],
+) -> Changed
+    requires { ⌜ Held (id .0) win shared ⌝ }
+    ensures { λ r. ⌜ MeetsStoreAt (Call.Resize (id .0) w h (now (store .entry))) (id .0) win shared r (now (store .exit)) ⌝ }
+{
+    let mut window = win;
+    let mut answer: u32 = 1;
+    let c = shared.c as usize;
+    if store.len() == 16 * c {
+        answer = 3;
+        if is_used(win, id) {
+            answer = 5;
+            let size = Dims { w, h };
+            if is_small_size(size) {
+                answer = 6;
+                if w * h <= shared.c {
+                    answer = 0;
+                    window = resized(win, id.0 as usize * c, c, size, store);
+                    shared.owed = true;
                 }
             }
         }
-        Done {
-            session: self,
-            answer,
-        }
+    }
+    Changed {
+        window,
+        shared,
+        answer,
     }
 }

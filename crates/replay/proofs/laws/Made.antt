@@ -8,7 +8,6 @@ use lib.ListN.{length, take, drop}
 use lib.Seq.{length-take-le}
 use Rattle.script.specs.declared.shape.Line.{Line}
 use Rattle.rules.specs.Group.{Group, sessionC}
-use Rattle.rules.specs.Visible.{visibleList}
 use Rattle.rules.specs.Calls.{Call}
 use Rattle.windows.specs.declared.Session.{Session}
 use Rattle.windows.specs.declared.Done.{Done}
@@ -30,11 +29,11 @@ pub makes : (k : Call) (p r : Player) (d : Done) → Meets k (p .session) d → 
 makes k p r d m n =
     record { next = own n; after = ap group (n .session) ∙ m .after; refused = λ f. n .session ∙ m .same (λ e. f (sym (m .answer) ∙ e)) }
 
-c-of : (c : ℕ) (d : Done) → Starts c d → d .session .c ≡ sessionC c
+c-of : (c : ℕ) (d : Done) → Starts c d → d .session .shared .c ≡ sessionC c
 unfolding group
 c-of c d h = ap (λ (g : Group). g .c) (h .after)
 
-pub begins : (c : ℕ) (p r : Player) (d : Done) → Starts c d → Next (lendStore (16 * d .session .c) p) (d .session) r → Begins c p r
+pub begins : (c : ℕ) (p r : Player) (d : Done) → Starts c d → Next (lendStore (16 * d .session .shared .c) p) (d .session) r → Begins c p r
 begins c p r d h n =
     record {
       next = record { ready = n .ready; session = refl; lent = n .lent ∙ ap (λ (k : ℕ). 16 * k) (c-of c d h); set = n .set; screen = n .screen; list = n .list; lines = n .lines };

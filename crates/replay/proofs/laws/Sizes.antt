@@ -27,14 +27,14 @@ is-used true e = refl
 is-used false e = absurd (omega arith)
 
 pub in-store : (s : Session) (id : ℕ) (r : Placed) → Given s → r ≡ placed (group s) id → r .answer ≡ 0
-    → id * s .c + r .rect .dims .w * r .rect .dims .h ≤ 16 * s .c
+    → id * s .shared .c + r .rect .dims .w * r .rect .dims .h ≤ 16 * s .shared .c
 unfolding group
 in-store s id r h e a =
     let u : used (group s) id ≡ true = is-used (used (group s) id) (sym (ap (λ (p : Placed). p .answer) e) ∙ a) in
     let at : r .rect ≡ win (group s) id .at =
     ap (λ (p : Placed). p .rect) e ∙ ap (λ (t : Bool). cond t (win (group s) id .at) (rect 0 0 0 0)) u in
-    let low : suc id * s .c ≤ 16 * s .c = mul-le-mul-right (s .c) (used-small (group s) id (given-ok s h) u) in
-    let area : r .rect .dims .w * r .rect .dims .h ≤ s .c = rw at (given-ok s h .fits id .area≤) in
+    let low : suc id * s .shared .c ≤ 16 * s .shared .c = mul-le-mul-right (s .shared .c) (used-small (group s) id (given-ok s h) u) in
+    let area : r .rect .dims .w * r .rect .dims .h ≤ s .shared .c = rw at (given-ok s h .fits id .area≤) in
     omega (arith, low, area)
 
 -- A visible list ------------------------------------------------------------------------------------------------------
@@ -50,9 +50,9 @@ counted g id l = few (used g id) (length (visible g id)) (length l)
 
 -- A start -------------------------------------------------------------------------------------------------------------
 
-pub begun-c : (c : ℕ) (r : Done) → Starts c r → 16 * sessionC c ≤ 1048576 → 16 * r .session .c ≤ 1048576
+pub begun-c : (c : ℕ) (r : Done) → Starts c r → 16 * sessionC c ≤ 1048576 → 16 * r .session .shared .c ≤ 1048576
 unfolding group
-begun-c c r h l = let e : r .session .c ≡ sessionC c = ap (λ (g : Group). g .c) (h .after) in rw e l
+begun-c c r h l = let e : r .session .shared .c ≡ sessionC c = ap (λ (g : Group). g .c) (h .after) in rw e l
 
 pub low-c : (c : ℕ) → c ≤ 65536 → 16 * sessionC c ≤ 1048576
 low-c c h = on-cond (λ (k : ℕ). 16 * k ≤ 1048576) (allowedC c) c 1 (λ t. omega arith) (λ t. omega arith)

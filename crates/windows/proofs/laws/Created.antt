@@ -1,60 +1,56 @@
 -- A window created: the search for the smallest unused id, and the two ends of the call.
-use Prim.Native.Nat.{ℕ, suc, _+_, _≤_, _<_}
+use Prim.Native.Nat.{ℕ, zero, suc, _≤_, _<_}
 use mathlib.Core.Path.{_≡_, refl, sym, ap, _∙_}
-use mathlib.Core.Bool.{true, false}
-use mathlib.Core.List.{List, [], _∷_, map}
-use mathlib.Core.Option.{Option, none, some}
+use mathlib.Core.Bool.{true}
+use mathlib.Core.List.{_∷_}
+use mathlib.Core.Option.{none, some}
 use native.Mathlib.Omega.{arith}
-use native.Mathlib.Numerals.{add-one}
-use lib.ListN.{length, getD, drop, length-map, List·getD-map}
-use lib.Seq.{drop-cons, drop-length}
+use lib.ListN.{length, drop, length-map, drop-of-length-le}
+use lib.Seq.{drop-cons}
 use Rattle.window.specs.declared.Window.{Window}
 use Rattle.window.specs.Window.{Win, newWin}
 use Rattle.window.specs.Held.{winOf, RepWindow}
+use Rattle.order.specs.declared.frames.Frames.{Frames}
+use Rattle.order.specs.Frames.{FirstFree}
 use Rattle.rules.specs.Group as Group
-use Rattle.rules.specs.Group.{firstFree, setWin}
+use Rattle.rules.specs.Group.{winAt, firstFree, setWin}
 use Rattle.rules.specs.Calls.{Create, does}
 use Rattle.windows.specs.declared.Session.{Session}
 use Rattle.windows.specs.declared.NewId.the-variants.{Id, Absent}
-use Rattle.windows.specs.View.{cell, group, blank, windowAt, Given, MeetsId}
-use Rattle.windows.proofs.laws.Session.{putWindow, refuses, puts}
+use Rattle.windows.specs.View.{cell, group, windowAt, Given, MeetsId}
+use Rattle.windows.specs.One.{Free}
+use Rattle.windows.specs.Frames.{Framed}
+use Rattle.windows.proofs.laws.Session.{cell-at, is-cell, no-cell, putWindow, refuses, puts}
 
--- the first i are in use
-pub record Freeing (s t : Session) (i : ℕ) : Type 0 where
-  pub given : Given s
-  pub same : t ≡ s
-  pub within : i ≤ 16
-  pub so-far : firstFree (group s .windows) 0 ≡ firstFree (drop i (group s .windows)) i
+-- The smallest unused number ----------------------------------------------------------------------------------------
 
-module _ {s t : Session} {i : ℕ} (q : Freeing s t i) where
+module _ (s : Session) (h : Given s) where
   count : length (group s .windows) ≡ 16
   unfolding group
-  count = length-map (s .windows) cell ∙ q .given .rep .windows
+  count = length-map (s .windows) cell ∙ h .rep .windows
 
-  next : i < 16 → drop i (group s .windows) ≡ cell (windowAt s i) ∷ drop (suc i) (group s .windows)
-  unfolding group cell
-  next h =
-      drop-cons (group s .windows) i none (omega (arith, count))
-      ∙ ap (λ (o : Option Win). o ∷ drop (suc i) (group s .windows)) (List·getD-map cell (s .windows) i blank)
+  next : (i : ℕ) → i < 16 → drop i (group s .windows) ≡ winAt (group s) i ∷ drop (suc i) (group s .windows)
+  next i l = drop-cons (group s .windows) i none (omega (arith, count))
 
-  is-free : windowAt s i .used ≡ false → cell (windowAt s i) ≡ none
-  unfolding cell
-  is-free e = rw e
+  -- the first n are in use
+  passed : (n : ℕ) → n ≤ 16 → ((j : ℕ) → j < n → windowAt s j .used ≡ true) → firstFree (group s .windows) 0 ≡ firstFree (drop n (group s .windows)) n
+  passed zero l u = refl
+  passed (suc n) l u =
+      passed n (omega (arith, l)) (λ j k. u j (omega (arith, k)))
+      ∙ rw (next n (omega (arith, l)), cell-at s n ∙ is-cell (windowAt s n) (u n (omega arith))) refl
 
-  is-taken : windowAt s i .used ≡ true → cell (windowAt s i) ≡ some (winOf (windowAt s i))
-  unfolding cell
-  is-taken e = rw e
+  pub is-free : {f : Frames} {at : ℕ} → Framed s 16 f → FirstFree (f .used) at → Free s (record { at = at; id = record { 0 = at } })
+  is-free {f} {at} framed q =
+      record {
+        inside = q .inside;
+        same = refl;
+        free = λ n. passed at (omega (arith, q .inside)) (λ j l. sym (framed .used j (omega (arith, l, q .inside))) ∙ q .before (framed .used at (q .inside) ∙ n) j l)
+            ∙ rw (next at (q .inside), cell-at s at ∙ no-cell (windowAt s at) n) refl;
+        full = λ u. passed 16 (omega arith) (λ j l. sym (framed .used j l) ∙ q .full (framed .used at (q .inside) ∙ u) j l)
+            ∙ rw (drop-of-length-le (group s .windows) {i = 16} (omega (arith, count))) refl;
+      }
 
-  pub free-hit : i < 16 → windowAt s i .used ≡ false → firstFree (group s .windows) 0 ≡ some i
-  free-hit h e = q .so-far ∙ rw (next h, is-free e) refl
-
-  pub free-miss : i < 16 → windowAt s i .used ≡ true → Freeing s t (i + 1)
-  free-miss h e = record { given = q .given; same = q .same; within = omega arith; so-far = q .so-far ∙ rw (next h, is-taken e, add-one) refl }
-
-  pub free-end : 16 ≤ i → firstFree (group s .windows) 0 ≡ none
-  free-end h =
-      let k : i ≡ length (group s .windows) = omega (arith, count, q .within) in
-      q .so-far ∙ rw (k, drop-length (group s .windows)) refl
+-- The ends of the call ----------------------------------------------------------------------------------------------
 
 pub full : (s : Session) → Given s → firstFree (group s .windows) 0 ≡ none → MeetsId Create s (record { session = s; answer = 4; id = Absent })
 unfolding does Group.create

@@ -8,33 +8,34 @@ use native.Mathlib.Omega.{arith}
 use lib.Dec.{eqb}
 use lib.ListN.{getD}
 use Rattle.rules.specs.Order.{shown, without, nextFocus, hidden}
-use Rattle.windows.specs.declared.WinId.{WinId}
+use Rattle.order.specs.declared.WinId.{WinId}
 use Rattle.windows.specs.declared.Session.{Session}
-use Rattle.windows.specs.View.{ids, group, Rep, Given}
-use Rattle.windows.specs.Order.{renderIdx, Closed}
-use Rattle.windows.proofs.laws.Order.{ids-closed}
+use Rattle.windows.specs.View.{group, Rep, Given}
+use Rattle.order.specs.Ids.{ids}
+use Rattle.order.specs.Order.{renderIdx, Closed}
+use Rattle.order.proofs.laws.Order.{ids-closed}
 use Rattle.windows.proofs.laws.Places.{has-place, is-shown, in-order, isnt-shown}
 
 -- the session with the order and the focus that the code made
 abbrev after : Session → List WinId → WinId → Session
-after s order focus = record { windows = s .windows; order = order; shown = s .shown - 1; c = s .c; focus = focus; owed = true }
+after s order focus = record { windows = s .windows; shared = record { order = order; shown = s .shared .shown - 1; c = s .shared .c; focus = focus; owed = true } }
 
 module _ (s : Session) (h : Given s) (id : ℕ) where
-  pub hidden-already : none ≡ renderIdx id (ids (s .shown) (s .order)) → (group s ≡ hidden id (group s)) × Rep s
+  pub hidden-already : none ≡ renderIdx id (ids (s .shared .shown) (s .shared .order)) → (group s ≡ hidden id (group s)) × Rep s
   hidden-already e =
       let n : shown (group s) id ≡ false = isnt-shown s h id e in
       (rw n, h .rep)
 
-  module _ (p : ℕ) (at : some p ≡ renderIdx id (ids (s .shown) (s .order))) (order : List WinId) (q : Closed (s .order) (s .shown) p order) where
-    closed : ids (s .shown - 1) order ≡ without id (ids (s .shown) (s .order))
-    closed = ids-closed id (s .shown) p (s .order) order (has-place s h id p at) (in-order s h id p at) q
+  module _ (p : ℕ) (at : some p ≡ renderIdx id (ids (s .shared .shown) (s .shared .order))) (order : List WinId) (q : Closed (s .shared .order) (s .shared .shown) p order) where
+    closed : ids (s .shared .shown - 1) order ≡ without id (ids (s .shared .shown) (s .shared .order))
+    closed = ids-closed id (s .shared .shown) p (s .shared .order) order (has-place s h id p at) (in-order s h id p at) q
 
-    pub hidden-now : (focus : WinId) → focus .0 ≡ cond (eqb (s .focus .0) id) (getD (ids (s .shown - 1) order) (p - 1) 0) (s .focus .0)
+    pub hidden-now : (focus : WinId) → focus .0 ≡ cond (eqb (s .shared .focus .0) id) (getD (ids (s .shared .shown - 1) order) (p - 1) 0) (s .shared .focus .0)
         → (group (after s order focus) ≡ hidden id (group s)) × Rep (after s order focus)
     unfolding group
     hidden-now focus e =
         let y : shown (group s) id ≡ true = is-shown s h id p at in
-        let f : focus .0 ≡ nextFocus id (ids (s .shown) (s .order)) (s .focus .0) = e ∙ rw (closed, has-place s h id p at) in (
-          (λ i. record { c = s .c; windows = group s .windows; order = closed i; focus = f i; owed = true }) ∙ rw y,
+        let f : focus .0 ≡ nextFocus id (ids (s .shared .shown) (s .shared .order)) (s .shared .focus .0) = e ∙ rw (closed, has-place s h id p at) in (
+          (λ i. record { c = s .shared .c; windows = group s .windows; order = closed i; focus = f i; owed = true }) ∙ rw y,
           record { windows = h .rep .windows; order = q .all; shown = omega (arith, h .rep .shown); each = h .rep .each },
         )

@@ -19,8 +19,9 @@ use Rattle.rules.specs.Visible.{visible, visibleList}
 use Rattle.rules.proofs.group.Invariant.{used-small}
 use Rattle.windows.specs.declared.Session.{Session}
 use Rattle.windows.specs.declared.Listing.{Listing}
-use Rattle.windows.specs.View.{ids, group, windowAt, Given, Lists}
-use Rattle.windows.specs.Order.{renderIdx}
+use Rattle.windows.specs.View.{group, windowAt, Given, Lists}
+use Rattle.order.specs.Ids.{ids}
+use Rattle.order.specs.Order.{renderIdx}
 use Rattle.windows.proofs.laws.Session.{used-at, win-at, given-ok}
 use Rattle.windows.proofs.laws.Places.{has-place, is-shown, isnt-shown, above-place}
 use Rattle.windows.proofs.laws.Above.{higher}
@@ -38,7 +39,7 @@ visible-is s id p r y u a e =
     let w : win (group s) id .at ≡ r = ap (λ (v : Win). v .at) (win-at s id u) ∙ sym e in
     rw (y, a, w)
 
-module _ (s : Session) (h : Given s) (id p : ℕ) (at : some p ≡ renderIdx id (ids (s .shown) (s .order))) where
+module _ (s : Session) (h : Given s) (id p : ℕ) (at : some p ≡ renderIdx id (ids (s .shared .shown) (s .shared .order))) where
   in-use : used (group s) id ≡ true
   in-use = given-ok s h .shown-used id (is-shown s h id p at)
 
@@ -87,7 +88,7 @@ module _ (s : Session) (h : Given s) (id p : ℕ) (at : some p ≡ renderIdx id 
 
 -- Any other window -----------------------------------------------------------------------------------------------------
 
-pub hidden-list : (s : Session) (id : ℕ) (before : List ℕ) → Given s → windowAt s id .used ≡ true → none ≡ renderIdx id (ids (s .shown) (s .order))
+pub hidden-list : (s : Session) (id : ℕ) (before : List ℕ) → Given s → windowAt s id .used ≡ true → none ≡ renderIdx id (ids (s .shared .shown) (s .shared .order))
     → Lists (group s) id before (listing 0 0) before
 unfolding visibleList visible
 hidden-list s id before h u e =

@@ -17,14 +17,25 @@ use Rattle.geom.proofs.geometry.Facts.{Meet, says-meet, solid, common-within}
 use Rattle.winbuf.specs.Pixels.{writeRows, part}
 use Rattle.winbuf.specs.Rows.{Inside}
 use Rattle.window.specs.declared.Window.{Window}
+use Rattle.window.specs.declared.damage.Damage.{Damage}
 use Rattle.window.specs.Window.{Win}
-use Rattle.window.specs.Held.{winOf, Small}
-use Rattle.rules.specs.Store.{dirtied, bounds, filledPart, filledAt, blitRows, blitAt}
-use Rattle.windows.specs.Pixels.{Becomes, Stored, filledWin, blitWin}
+use Rattle.window.specs.Held.{winOf, Small, RepWindow}
+use Rattle.window.specs.Inner.{Dirtied}
+use Rattle.rules.specs.Store.{withDamage, dirtied, bounds, filledPart, filledAt, blitRows, blitAt}
+use Rattle.windows.specs.Pixels.{Becomes, Stored, setDamage, filledWin, blitWin}
 
 -- the same window by a rule that gives the same
 becomes : {w r : Window} {v v′ : Win} → Becomes w v r → v ≡ v′ → Becomes w v′ r
 becomes b e = record { used = b .used; rep = b .rep; is = b .is ∙ e }
+
+-- of the window only the damage changes
+pub dirty-win : (w : Window) (a : Rect) (d : Damage) → RepWindow w → Dirtied (w .at .w) (w .at .h) (w .damage) a d → Becomes w (dirtied a (winOf w)) (setDamage d w)
+dirty-win w a d r q =
+    record {
+      used = refl;
+      rep = record { at = r .at; damage = q .rep; queue = r .queue; cursor = r .cursor };
+      is = ap (λ (l : List Rect). withDamage l (winOf w)) (q .is);
+    }
 
 -- a window left as it was
 kept : {w : Window} {len base : ℕ} {v : Win} → Stored len base w → winOf w ≡ v → Becomes w v w

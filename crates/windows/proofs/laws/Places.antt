@@ -15,12 +15,13 @@ use Rattle.rules.specs.Group.{used, win}
 use Rattle.rules.specs.Order.{isIn, placeOf, above, shown}
 use Rattle.rules.proofs.group.Order.{Distinct, isIn-here}
 use Rattle.rules.proofs.group.Invariant.{used-small}
-use Rattle.windows.specs.declared.WinId.{WinId}
+use Rattle.order.specs.declared.WinId.{WinId}
 use Rattle.windows.specs.declared.Session.{Session}
-use Rattle.windows.specs.View.{num, ids, group, windowAt, Given}
-use Rattle.windows.specs.Order.{noId, renderIdx}
+use Rattle.windows.specs.View.{group, windowAt, Given}
+use Rattle.order.specs.Ids.{num, ids}
+use Rattle.order.specs.Order.{noId, renderIdx}
 use Rattle.windows.proofs.laws.Session.{used-at, win-at, given-ok}
-use Rattle.windows.proofs.laws.Order.{ids-length, ids-at, is-at, is-nowhere, place-low}
+use Rattle.order.proofs.laws.Order.{ids-length, ids-at, is-at, is-nowhere, place-low}
 
 -- Orders of ids ------------------------------------------------------------------------------------------------------
 
@@ -50,32 +51,32 @@ above-place id (x ∷ o) = go (eqb x id) (above-place id o)
 -- In a session -------------------------------------------------------------------------------------------------------
 
 module _ (s : Session) (h : Given s) where
-  pub order-length : length (group s .order) ≡ s .shown
+  pub order-length : length (group s .order) ≡ s .shared .shown
   unfolding group
-  order-length = ids-length (s .shown) (s .order) (omega (arith, h .rep .order, h .rep .shown))
+  order-length = ids-length (s .shared .shown) (s .shared .order) (omega (arith, h .rep .order, h .rep .shown))
 
   -- a window that has a place is shown and stands there
-  module _ (id p : ℕ) (e : some p ≡ renderIdx id (ids (s .shown) (s .order))) where
-    pub has-place : p ≡ placeOf id (ids (s .shown) (s .order))
-    has-place = is-at id p (ids (s .shown) (s .order)) e .1
+  module _ (id p : ℕ) (e : some p ≡ renderIdx id (ids (s .shared .shown) (s .shared .order))) where
+    pub has-place : p ≡ placeOf id (ids (s .shared .shown) (s .shared .order))
+    has-place = is-at id p (ids (s .shared .shown) (s .shared .order)) e .1
 
     pub is-shown : shown (group s) id ≡ true
     unfolding group
-    is-shown = is-at id p (ids (s .shown) (s .order)) e .0
+    is-shown = is-at id p (ids (s .shared .shown) (s .shared .order)) e .0
 
-    pub in-order : p < s .shown
+    pub in-order : p < s .shared .shown
     unfolding group
     in-order = omega (arith, has-place, order-length, place-low id (group s .order) is-shown)
 
-  pub isnt-shown : (id : ℕ) → none ≡ renderIdx id (ids (s .shown) (s .order)) → shown (group s) id ≡ false
+  pub isnt-shown : (id : ℕ) → none ≡ renderIdx id (ids (s .shared .shown) (s .shared .order)) → shown (group s) id ≡ false
   unfolding group
-  isnt-shown id e = is-nowhere id (ids (s .shown) (s .order)) e
+  isnt-shown id e = is-nowhere id (ids (s .shared .shown) (s .shared .order)) e
 
   -- the id v that was read at place i
-  module _ (i : ℕ) (l : i < s .shown) (v : WinId) (read : v ≡ getD (s .order) i noId) where
+  module _ (i : ℕ) (l : i < s .shared .shown) (v : WinId) (read : v ≡ getD (s .shared .order) i noId) where
     pub id-at : getD (group s .order) i 0 ≡ v .0
     unfolding group
-    id-at = ids-at (s .shown) i (s .order) l ∙ ap num (sym read)
+    id-at = ids-at (s .shared .shown) i (s .shared .order) l ∙ ap num (sym read)
 
     pub shown-at : shown (group s) (v .0) ≡ true
     shown-at = ap (λ (k : ℕ). isIn k (group s .order)) (sym id-at) ∙ is-in-at (group s .order) i (omega (arith, order-length))

@@ -1,8 +1,11 @@
--- An event popped: the queue first, then an unread move; and the call's two ends.
+-- An event popped: the queue first, then an unread move; the call's two ends; and the same of every session that holds the window.
 use Prim.Native.Nat.{ℕ, _≤_, _<_}
-use mathlib.Core.Path.{_≡_, sym, ap, _∙_}
-use mathlib.Core.Bool.{true, false}
+use mathlib.Core.Path.{_≡_, refl, sym, ap, _∙_}
+use mathlib.Core.Bool.{true, false, _&&_}
 use mathlib.Core.Option.{Option, none, some}
+use lib.Dec.{ltb}
+use borrow.Author.Tests.{ltb-true}
+use Rattle.geom.proofs.basics.Tests.{fst, snd}
 use Rattle.window.specs.declared.Event.{Event}
 use Rattle.window.specs.declared.CursorPos.{CursorPos}
 use Rattle.window.specs.declared.Window.{Window}
@@ -15,9 +18,14 @@ use Rattle.rules.specs.Events as Rule
 use Rattle.rules.specs.Events.{popped, afterPop}
 use Rattle.rules.specs.Calls.{Pop, does}
 use Rattle.windows.specs.declared.Session.{Session}
+use Rattle.windows.specs.declared.Shared.{Shared}
+use Rattle.windows.specs.declared.NextEvent as Next
 use Rattle.windows.specs.declared.NextEvent.the-variants as NextEvent
 use Rattle.windows.specs.View.{group, windowAt, Given, MeetsEvent}
+use Rattle.windows.specs.One.{At, Holds, put}
+use Rattle.windows.specs.Aimed.{PopsAt}
 use Rattle.windows.proofs.laws.Session.{used-at, win-at, putWindow, refuses, puts}
+use Rattle.windows.proofs.laws.One.{stays, changes, asks-used}
 use Rattle.windows.proofs.laws.Parts.{setQueue, setCursor, queue-rep, cursor-rep, no-events}
 
 -- what a window gives, and what is left of it
@@ -71,3 +79,42 @@ module _ (s : Session) (id : ℕ) (h : Given s) where
     pub pops-none : windowAt s id .queue .len ≤ 0 → windowAt s id .cursor .«is_dirty» ≡ false
         → MeetsEvent (Pop id) s (record { session = s; answer = 10; event = NextEvent.Absent })
     pops-none n d = gives-none (rw (no-events (windowAt s id .queue) n, d))
+
+-- In every session that holds the window -------------------------------------------------------------------------------
+
+abbrev Leaves : ℕ → ℕ → Next.NextEvent → Session → Session → Type 0
+Leaves id answer event s t = MeetsEvent (Pop id) s (record { session = t; answer = answer; event = event })
+
+module _ (id : ℕ) (w : Window) where
+  held : (s : Session) (at : ℕ) → Given s → At id at → windowAt s at ≡ w → Holds id w (s .shared) s at
+  held s at g a e = record { given = g; place = a; window = e; shared = refl }
+
+  pub refused-at : ltb id 16 && w .used ≡ false → PopsAt id w (record { window = w; answer = 3; event = NextEvent.Absent })
+  refused-at n s at g a e =
+      let h = held s at g a e in
+      stays (λ (r t : Session). used (group r) id ≡ false → Leaves id 3 NextEvent.Absent r t) (λ r k. not-used r id k) s at h (asks-used s at h ∙ n)
+
+  module _ (y : ltb id 16 && w .used ≡ true) where
+    low : id < 16
+    low = ltb-true id 16 (fst (ltb id 16) (w .used) y)
+
+    in-use : w .used ≡ true
+    in-use = snd (ltb id 16) (w .used) y
+
+    pub first-at : (p : Queue.Popped) → PoppedFrom (w .queue) p
+        → PopsAt id w (record { window = setQueue (p .queue) w; answer = 0; event = NextEvent.Event (p .event) })
+    first-at p is s at g a e =
+        changes (λ (r : Session) (i : ℕ) (v : Window) (k : Shared). Leaves id 0 (NextEvent.Event (p .event)) r (put i (setQueue (p .queue) v) k r)) low
+        (λ r h q _. pops-first r id h (rw q in-use) low p (rw q is)) s at (held s at g a e)
+
+    pub move-at : w .queue .len ≤ 0 → w .cursor .«is_dirty» ≡ true → (o : Event) (p : CursorPos)
+        → o ≡ moveOf (w .cursor) → p ≡ cursorRead (w .cursor) → RepCursor p
+        → PopsAt id w (record { window = setCursor p w; answer = 0; event = NextEvent.Event o })
+    move-at n d o p is read rep s at g a e =
+        changes (λ (r : Session) (i : ℕ) (v : Window) (k : Shared). Leaves id 0 (NextEvent.Event o) r (put i (setCursor p v) k r)) low
+        (λ r h q _. pops-move r id h (rw q in-use) low (rw q n) (rw q d) o p (rw q is) (rw q read) rep) s at (held s at g a e)
+
+    pub none-at : w .queue .len ≤ 0 → w .cursor .«is_dirty» ≡ false → PopsAt id w (record { window = w; answer = 10; event = NextEvent.Absent })
+    none-at n d s at g a e =
+        stays (λ (r t : Session). windowAt r id ≡ w → Leaves id 10 NextEvent.Absent r t)
+        (λ r h q. pops-none r id h (rw q in-use) (rw q n) (rw q d)) s at (held s at g a e) (ap (windowAt s) (sym (a .same low)) ∙ e)

@@ -106,16 +106,16 @@ module _ (s : Session) (e : Event) (h : Given s) where
   nobody k = gives (Route e) s s h (h .rep) (ap (λ (o : Outcome). o .answer) (aimed k)) (sym (ap (λ (o : Outcome). o .group) (aimed k)))
 
   module _ (k : targetOf e ≡ Focus) where
-    to-focus : does (group s) (Route e) ≡ keyed (group s) e (s .focus .0)
+    to-focus : does (group s) (Route e) ≡ keyed (group s) e (s .shared .focus .0)
     unfolding group
     to-focus = aimed k
 
-    pub no-focus : shown (group s) (s .focus .0) ≡ false → Meets (Route e) s (done s 11)
+    pub no-focus : shown (group s) (s .shared .focus .0) ≡ false → Meets (Route e) s (done s 11)
     no-focus n = refuses (Route e) s 10 h (ap (λ (o : Outcome). o .answer) to-focus ∙ rw n)
 
-    pub focus-told : shown (group s) (s .focus .0) ≡ true → windowAt s (s .focus .0) .used ≡ true → (t : Told)
-        → ToldTo (windowAt s (s .focus .0)) e t → Meets (Route e) s (done (putWindow (s .focus .0) (t .window) s) (t .answer))
-    focus-told n u t to = tells (Route e) s (s .focus .0) e t h u to (keyAsks (group s) e (s .focus .0)) to-focus (rw n)
+    pub focus-told : shown (group s) (s .shared .focus .0) ≡ true → windowAt s (s .shared .focus .0) .used ≡ true → (t : Told)
+        → ToldTo (windowAt s (s .shared .focus .0)) e t → Meets (Route e) s (done (putWindow (s .shared .focus .0) (t .window) s) (t .answer))
+    focus-told n u t to = tells (Route e) s (s .shared .focus .0) e t h u to (keyAsks (group s) e (s .shared .focus .0)) to-focus (rw n)
 
   module _ {x y : ℕ} (k : targetOf e ≡ Point x y) where
     pub too-far : small x && small y ≡ false → Meets (Route e) s (done s 5)

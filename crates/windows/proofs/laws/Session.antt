@@ -1,12 +1,12 @@
 -- What the proofs of the session's calls share: the view at an id, a window put back, and the two ends of a call.
-use Prim.Native.Nat.{ℕ, suc, _*_, _≤_, _<_}
+use Prim.Native.Nat.{ℕ, suc, _*_, _≤_}
 use mathlib.Core.Path.{_≡_, refl, sym, ap, subst, _∙_}
 use mathlib.Core.Bool.{Bool, true, false, cond}
 use mathlib.Core.List.{List, [], _∷_, _++_, map}
 use mathlib.Core.Option.{Option, none, some}
 use native.Mathlib.Omega.{arith}
 use lib.Dec.{eqb, eqb·suc-zero}
-use lib.ListN.{length, getD, set, length-set, List·getD-map, List·getD-eq-default}
+use lib.ListN.{length, set, length-set, List·getD-map, List·getD-eq-default}
 use borrow.Author.Tests.{eq-eqb, ne-eqb}
 use Rattle.geom.proofs.basics.Lists.{map-set, set-case}
 use Rattle.window.specs.declared.Window.{Window}
@@ -19,12 +19,13 @@ use Rattle.rules.proofs.group.Refused.{refused-group}
 use Rattle.rules.proofs.group.Invariant.{Ok}
 use Rattle.rules.proofs.group.Kept.{ok-after}
 use Rattle.rules.proofs.group.Runs.{after-snoc}
+use Rattle.windows.specs.declared.Shared.{Shared}
 use Rattle.windows.specs.declared.Session.{Session}
 use Rattle.windows.specs.View.{cell, group, blank, windowAt, Rep, Given, Meets, done}
 
 -- The view at an id --------------------------------------------------------------------------------------------------
 
-cell-at : (s : Session) (id : ℕ) → winAt (group s) id ≡ cell (windowAt s id)
+pub cell-at : (s : Session) (id : ℕ) → winAt (group s) id ≡ cell (windowAt s id)
 unfolding group cell
 cell-at s id = List·getD-map cell (s .windows) id blank
 
@@ -36,11 +37,11 @@ cell-used w = go (w .used)
     go true = refl
     go false = refl
 
-is-cell : (w : Window) → w .used ≡ true → cell w ≡ some (winOf w)
+pub is-cell : (w : Window) → w .used ≡ true → cell w ≡ some (winOf w)
 unfolding cell
 is-cell w e = rw e
 
-no-cell : (w : Window) → w .used ≡ false → cell w ≡ none
+pub no-cell : (w : Window) → w .used ≡ false → cell w ≡ none
 unfolding cell
 no-cell w e = rw e
 
@@ -58,23 +59,23 @@ pub win-at : (s : Session) (id : ℕ) → windowAt s id .used ≡ true → win (
 win-at s id e = ap theWin (cell-at s id) ∙ cell-win (windowAt s id) e
 
 -- question 1
-pub is-whole : (s : Session) (store : List ℕ) → length store ≡ 16 * s .c → whole (group s) store ≡ true
+pub is-whole : (s : Session) (store : List ℕ) → length store ≡ 16 * s .shared .c → whole (group s) store ≡ true
 unfolding group
-is-whole s store e = eq-eqb (length store) (16 * s .c) e
+is-whole s store e = eq-eqb (length store) (16 * s .shared .c) e
 
-pub isnt-whole : (s : Session) (store : List ℕ) → (length store ≡ 16 * s .c → ⊥) → whole (group s) store ≡ false
+pub isnt-whole : (s : Session) (store : List ℕ) → (length store ≡ 16 * s .shared .c → ⊥) → whole (group s) store ≡ false
 unfolding group
-isnt-whole s store n = ne-eqb (length store) (16 * s .c) n
+isnt-whole s store n = ne-eqb (length store) (16 * s .shared .c) n
 
 -- A window put back --------------------------------------------------------------------------------------------------
 
 abbrev pub putWindow : ℕ → Window → Session → Session
-putWindow id v s = record { windows = set (s .windows) id v; order = s .order; shown = s .shown; c = s .c; focus = s .focus; owed = s .owed }
+putWindow id v s = record { windows = set (s .windows) id v; shared = s .shared }
 
 put-cell : (s : Session) (id : ℕ) (v : Window) (o : Option Win) → cell v ≡ o → group (putWindow id v s) ≡ setWin id o (group s)
 unfolding group
 put-cell s id v o e =
-    ap (λ (l : List (Option Win)). record { c = s .c; windows = l; order = group s .order; focus = s .focus .0; owed = s .owed })
+    ap (λ (l : List (Option Win)). record { c = s .shared .c; windows = l; order = group s .order; focus = s .shared .focus .0; owed = s .shared .owed })
     (map-set cell (s .windows) id v ∙ ap (set (map cell (s .windows)) id) e)
 
 pub put-group : (s : Session) (id : ℕ) (v : Window) → v .used ≡ true → group (putWindow id v s) ≡ setWin id (some (winOf v)) (group s)
@@ -95,8 +96,11 @@ put-rep s id v r h =
 
 -- A full redraw owed ------------------------------------------------------------------------------------------------
 
+abbrev pub indebted : Shared → Shared
+indebted k = record { order = k .order; shown = k .shown; c = k .c; focus = k .focus; owed = true }
+
 abbrev pub withDebt : Session → Session
-withDebt s = record { windows = s .windows; order = s .order; shown = s .shown; c = s .c; focus = s .focus; owed = true }
+withDebt s = record { windows = s .windows; shared = indebted (s .shared) }
 
 pub debt-group : (s : Session) → group (withDebt s) ≡ owing (group s)
 unfolding group

@@ -13,10 +13,11 @@ use Rattle.rules.specs.Order as Order
 use Rattle.rules.specs.Order.{shown, setOrder}
 use Rattle.rules.specs.Calls.{Show, does}
 use Rattle.rules.proofs.group.Room.{room}
-use Rattle.windows.specs.declared.WinId.{WinId}
+use Rattle.order.specs.declared.WinId.{WinId}
 use Rattle.windows.specs.declared.Session.{Session}
-use Rattle.windows.specs.View.{num, ids, group, windowAt, Given, Meets, done}
-use Rattle.windows.specs.Order.{renderIdx}
+use Rattle.windows.specs.View.{group, windowAt, Given, Meets, done}
+use Rattle.order.specs.Ids.{num, ids}
+use Rattle.order.specs.Order.{renderIdx}
 use Rattle.windows.proofs.laws.Session.{used-at, given-ok, refuses, gives}
 use Rattle.windows.proofs.laws.Places.{order-length, isnt-shown}
 use Rattle.windows.proofs.laws.Places as Places
@@ -25,29 +26,29 @@ module _ (s : Session) (id : ℕ) (h : Given s) (u : windowAt s id .used ≡ tru
   is-used : used (group s) id ≡ true
   is-used = used-at s id ∙ u
 
-  pub is-shown : (p : ℕ) → some p ≡ renderIdx id (ids (s .shown) (s .order)) → Meets (Show id) s (done s 0)
+  pub is-shown : (p : ℕ) → some p ≡ renderIdx id (ids (s .shared .shown) (s .shared .order)) → Meets (Show id) s (done s 0)
   unfolding does Order.show
   is-shown p e =
       let y : shown (group s) id ≡ true = Places.is-shown s h id p e in
       gives (Show id) s s h (h .rep) (rw is-used) (rw (is-used, y))
 
-  module _ (e : none ≡ renderIdx id (ids (s .shown) (s .order))) where
-    pub has-room : s .shown < 16
+  module _ (e : none ≡ renderIdx id (ids (s .shared .shown) (s .shared .order))) where
+    pub has-room : s .shared .shown < 16
     has-room = omega (arith, room (group s) id (given-ok s h) is-used (isnt-shown s h id e), order-length s h)
 
     module _ (v : WinId) (is : v .0 ≡ id) where
       abbrev after : List WinId → Session
-      after order = record { windows = s .windows; order = order; shown = s .shown + 1; c = s .c; focus = v; owed = true }
+      after order = record { windows = s .windows; shared = record { order = order; shown = s .shared .shown + 1; c = s .shared .c; focus = v; owed = true } }
 
       abbrev longer : List WinId
-      longer = set (s .order) (s .shown) v
+      longer = set (s .shared .order) (s .shared .shown) v
 
       after-group : group (after longer) ≡ setOrder (group s .order ++ (id ∷ [])) id (group s)
       unfolding group
       after-group =
-          let o : ids (s .shown + 1) longer ≡ ids (s .shown) (s .order) ++ (v .0 ∷ []) =
-          rw (add-one, take-suc-set (s .order) (s .shown) v (omega (arith, h .rep .order, has-room))) (map-append num (take (s .shown) (s .order)) (v ∷ [])) in
-          (λ i. record { c = s .c; windows = group s .windows; order = o i; focus = v .0; owed = true })
+          let o : ids (s .shared .shown + 1) longer ≡ ids (s .shared .shown) (s .shared .order) ++ (v .0 ∷ []) =
+          rw (add-one, take-suc-set (s .shared .order) (s .shared .shown) v (omega (arith, h .rep .order, has-room))) (map-append num (take (s .shared .shown) (s .shared .order)) (v ∷ [])) in
+          (λ i. record { c = s .shared .c; windows = group s .windows; order = o i; focus = v .0; owed = true })
           ∙ ap (λ (k : ℕ). setOrder (group s .order ++ (k ∷ [])) k (group s)) is
 
       pub is-hidden : (order : List WinId) → order ≡ longer → Meets (Show id) s (done (after order) 0)
@@ -56,9 +57,9 @@ module _ (s : Session) (id : ℕ) (h : Given s) (u : windowAt s id .used ≡ tru
           let y : shown (group s) id ≡ false = isnt-shown s h id e in
           rw l
           (gives (Show id) s (after longer) h
-          (record { windows = h .rep .windows; order = length-set (s .order) (s .shown) v ∙ h .rep .order; shown = omega (arith, has-room); each = h .rep .each })
+          (record { windows = h .rep .windows; order = length-set (s .shared .order) (s .shared .shown) v ∙ h .rep .order; shown = omega (arith, has-room); each = h .rep .each })
           (rw is-used) (after-group ∙ rw (is-used, y)))
 
-pub not-used : (s : Session) (id : ℕ) → Given s → used (group s) id ≡ false → Meets (Show id) s (done s 3)
+pub no-window : (s : Session) (id : ℕ) → Given s → used (group s) id ≡ false → Meets (Show id) s (done s 3)
 unfolding does Order.show
-not-used s id h u = refuses (Show id) s 2 h (rw u)
+no-window s id h u = refuses (Show id) s 2 h (rw u)

@@ -1,4 +1,4 @@
--- The calls that are lent the store: their first two questions, and where the pixels of their window lie.
+-- The calls that are lent the store, as functions of one window: their first two questions, their two ends, and where the window's pixels lie.
 use Prim.Native.Nat.{ℕ, suc, _+_, _*_, _≤_, _<_}
 use mathlib.Core.Path.{_≡_, refl, sym, ap, subst, _∙_}
 use mathlib.Core.Bool.{Bool, true, false, cond, _&&_}
@@ -6,27 +6,30 @@ use mathlib.Core.List.{List, _∷_}
 use mathlib.Core.Option.{Option, none, some}
 use native.Mathlib.Nat.{mul-le-mul-right}
 use native.Mathlib.Omega.{arith}
-use lib.Dec.{eqb, eqb·suc-zero}
+use lib.Dec.{ltb, eqb, eqb·suc-zero}
 use lib.ListN.{length, set}
 use lib.Seq.{set-getD}
-use borrow.Author.Tests.{leb-true}
+use borrow.Author.Tests.{leb-true, ltb-true, lt-ltb, eq-eqb, ne-eqb}
 use Rattle.geom.specs.declared.Rect.{Rect}
 use Rattle.geom.specs.Questions.{Question, _is_, asked, small}
 use Rattle.geom.specs.Geom.{smallRect}
 use Rattle.geom.proofs.basics.Tests.{clash, fst, snd}
 use Rattle.window.specs.declared.Window.{Window}
 use Rattle.window.specs.Window.{Win}
-use Rattle.window.specs.Held.{winOf, Small}
-use Rattle.rules.specs.Group.{Group, used, win, winAt, theWin, someWin, setWin}
+use Rattle.window.specs.Held.{winOf, Small, RepWindow}
+use Rattle.rules.specs.Group.{Group, used, win, winAt, theWin, someWin, setWin, owing}
 use Rattle.rules.specs.Store.{whole}
 use Rattle.rules.specs.Calls.{Call, does, accepted}
 use Rattle.rules.specs.Conditions.{lentStore}
 use Rattle.rules.proofs.group.Refused.{refused-store}
 use Rattle.rules.proofs.group.Invariant.{WinOk}
+use Rattle.windows.specs.declared.Shared.{Shared}
 use Rattle.windows.specs.declared.Session.{Session}
-use Rattle.windows.specs.View.{group, windowAt, Given, MeetsStore, done}
+use Rattle.windows.specs.View.{group, windowAt, Rep, Given, MeetsStore, done}
+use Rattle.windows.specs.One.{Holds, Held, put, MeetsStoreAt}
 use Rattle.windows.specs.Pixels.{Becomes, Stored}
-use Rattle.windows.proofs.laws.Session.{used-at, win-at, is-whole, isnt-whole, putWindow, given-ok, refuses, puts}
+use Rattle.windows.proofs.laws.Session.{used-at, win-at, putWindow, put-group, put-rep, indebted, debt-group, debt-rep, given-ok, refuses, gives}
+use Rattle.windows.proofs.laws.One.{stays, changes, asks-used}
 
 -- Question 5 ---------------------------------------------------------------------------------------------------------
 
@@ -36,85 +39,146 @@ small-rect a h = search (fst, snd, leb-true)
 pub small-size : (w h : ℕ) → small w && small h ≡ true → (w ≤ 32767) × (h ≤ 32767)
 small-size w h e = search (fst, snd, leb-true)
 
+-- What is shared -----------------------------------------------------------------------------------------------------
+
+-- where what the windows share changes by K, the group changes by G
+pub record Shares (K : Shared → Shared) (G : Group → Group) : Type 0 where
+  pub group : (s : Session) → group (record { windows = s .windows; shared = K (s .shared) }) ≡ G (group s)
+  pub rep : (s : Session) → Rep s → Rep (record { windows = s .windows; shared = K (s .shared) })
+
+pub same-shared : Shares (λ k. k) (λ g. g)
+same-shared = record { group = λ s. refl; rep = λ s r. r }
+
+pub debt-shared : Shares indebted owing
+debt-shared = record { group = debt-group; rep = debt-rep }
+
 -- Questions 1 and 3 --------------------------------------------------------------------------------------------------
 
--- the call k is lent the store and names the window id: it asks 1 and 3, and then the rest
-pub record Lent (k : Call) (s : Session) (id : ℕ) (rest : List Question) (store : List ℕ) : Type 0 where
-  pub given : Given s
-  pub lent : lentStore k ≡ some store
-  pub asks : does (group s) k .answer ≡ asked ((1 is whole (group s) store) ∷ (3 is used (group s) id) ∷ rest)
+-- the rule of a call that is lent the store and names the window id. It asks 1 and 3, and then the rest, which may ask about C. The window
+-- becomes f of it, the store F of C and the window, and the group G of the group with that window
+pub record Rule (call : Call) (id : ℕ) (store : List ℕ) (rest : ℕ → List Question) (f : Win → Win) (F : ℕ → Win → List ℕ) (G : Group → Group) :
+    Type 0 where
+  pub lent : lentStore call ≡ some store
+  pub asks : (g : Group) → does g call .answer ≡ asked ((1 is whole g store) ∷ (3 is used g id) ∷ rest (g .c))
+  pub after : (g : Group) → used g id ≡ true → does g call .group ≡ cond (accepted g call) (G (setWin id (some (f (win g id))) g)) g
+  pub stored : (g : Group) → does g call .store ≡ cond (accepted g call) (F (g .c) (win g id)) store
+
+-- its questions, as the code asks them of a window and of what is shared
+abbrev questions : ℕ → Window → Shared → List ℕ → List Question → List Question
+questions id w k store rest = (1 is eqb (length store) (16 * k .c)) ∷ (3 is (ltb id 16 && w .used)) ∷ rest
+
+-- the call is refused with the answer n
+abbrev Refused : Call → ℕ → Window → Shared → List ℕ → ℕ → Type 0
+Refused call id w k store n = MeetsStoreAt call id w k (record { window = w; shared = k; answer = n }) store
 
 -- 1 and 3 are answered yes
-pub record Writable (s : Session) (id : ℕ) (store : List ℕ) : Type 0 where
-  pub whole : length store ≡ 16 * s .c
+pub record Writable (id : ℕ) (w : Window) (k : Shared) (store : List ℕ) : Type 0 where
+  pub whole : length store ≡ 16 * k .c
   pub low : id < 16
-  pub used : windowAt s id .used ≡ true
+  pub used : w .used ≡ true
 
-module _ {k : Call} {s : Session} {id : ℕ} {rest : List Question} {store : List ℕ} (l : Lent k s id rest store) where
-  refused : (n : ℕ) → does (group s) k .answer ≡ suc n → MeetsStore k s (done s (suc n)) store
-  refused n e =
+-- as the code asks them
+pub writable : {id : ℕ} {w : Window} {k : Shared} {store : List ℕ} {b : Bool} → length store ≡ 16 * k .c → b ≡ ltb id 16 && w .used → b ≡ true
+    → Writable id w k store
+writable {id} {w} e u t =
+    let y : ltb id 16 && w .used ≡ true = sym u ∙ t in
+    record { whole = e; low = ltb-true id 16 (fst (ltb id 16) (w .used) y); used = snd (ltb id 16) (w .used) y }
+
+module _ {call : Call} {id : ℕ} {store : List ℕ} {rest : ℕ → List Question} {f : Win → Win} {F : ℕ → Win → List ℕ} {G : Group → Group}
+    (rule : Rule call id store rest f F G) where
+  -- a refused call
+  refuses-store : (n : ℕ) (s : Session) → Given s → does (group s) call .answer ≡ suc n → MeetsStore call s (done s (suc n)) store
+  refuses-store n s h e =
       record {
-        meets = refuses k s n (l .given) e;
-        stored = sym (refused-store (group s) k store (l .lent) (ap (λ (a : ℕ). eqb a 0) e ∙ eqb·suc-zero n));
+        meets = refuses call s n h e;
+        stored = sym (refused-store (group s) call store (rule .lent) (ap (λ (a : ℕ). eqb a 0) e ∙ eqb·suc-zero n));
       }
 
-  pub not-whole : (length store ≡ 16 * s .c → ⊥) → MeetsStore k s (done s 1) store
-  not-whole n = refused 0 (l .asks ∙ rw (isnt-whole s store n))
-
-  pub not-used : length store ≡ 16 * s .c → used (group s) id ≡ false → MeetsStore k s (done s 3) store
-  not-used e u = refused 2 (l .asks ∙ rw (is-whole s store e, u))
-
-  rest-asked : Writable s id store → does (group s) k .answer ≡ asked rest
-  rest-asked o =
-      let u : used (group s) id ≡ true = used-at s id ∙ o .used in
-      l .asks ∙ rw (is-whole s store (o .whole), u)
-
-  -- a later question is answered no
-  pub no : Writable s id store → (n : ℕ) → asked rest ≡ suc n → MeetsStore k s (done s (suc n)) store
-  no o n e = refused n (rest-asked o ∙ e)
-
-  pub yes : Writable s id store → asked rest ≡ 0 → does (group s) k .answer ≡ 0
-  yes o e = rest-asked o ∙ e
-
-  -- all are answered yes: the window is put back as f makes it, and the store is F of C and the window
-  pub puts-store : (f : Win → Win) (F : ℕ → Win → List ℕ) (r : Window) (t : List ℕ) → Writable s id store → asked rest ≡ 0
-      → Becomes (windowAt s id) (f (winOf (windowAt s id))) r × (t ≡ F (s .c) (winOf (windowAt s id)))
-      → (accepted (group s) k ≡ true → setWin id (some (f (win (group s) id))) (group s) ≡ does (group s) k .group)
-      → (accepted (group s) k ≡ true → F (group s .c) (win (group s) id) ≡ does (group s) k .store)
-      → MeetsStore k s (done (putWindow id r s) 0) t
+  -- an accepted one
+  puts-store : {K : Shared → Shared} → Shares K G → (r : Window) (t : List ℕ) (s : Session) → Given s → windowAt s id .used ≡ true
+      → does (group s) call .answer ≡ 0 → Becomes (windowAt s id) (f (winOf (windowAt s id))) r × (t ≡ F (s .shared .c) (winOf (windowAt s id)))
+      → MeetsStore call s (done (put id r (K (s .shared)) s) 0) t
   unfolding group
-  puts-store f F r t o e b p q =
-      let z : does (group s) k .answer ≡ 0 = yes o e in
-      let y : accepted (group s) k ≡ true = ap (λ (n : ℕ). eqb n 0) z in
-      let w : winOf (windowAt s id) ≡ win (group s) id = sym (win-at s id (o .used)) in
+  puts-store {K} shares r t s h u z b =
+      let y : accepted (group s) call ≡ true = ap (λ (n : ℕ). eqb n 0) z in
+      let v : winOf (windowAt s id) ≡ win (group s) id = sym (win-at s id u) in
       record {
         meets =
-            puts k s id r (l .given) (b .0 .used ∙ o .used) (b .0 .rep) z
-            (ap (λ (x : Win). setWin id (some x) (group s)) (b .0 .is ∙ ap f w) ∙ p y);
-        stored = b .1 ∙ ap (F (s .c)) w ∙ q y;
+            gives call s (put id r (K (s .shared)) s) h (shares .rep (putWindow id r s) (put-rep s id r (h .rep) (b .0 .rep))) z
+            (shares .group (putWindow id r s)
+            ∙ ap G (put-group s id r (b .0 .used ∙ u) ∙ ap (λ (x : Win). setWin id (some x) (group s)) (b .0 .is ∙ ap f v))
+            ∙ sym (rule .after (group s) (used-at s id ∙ u) ∙ rw y));
+        stored = b .1 ∙ ap (F (s .shared .c)) v ∙ sym (rule .stored (group s) ∙ rw y);
       }
+
+  -- Of a window that a session holds
+
+  module _ {w : Window} {k : Shared} where
+    answers : (s : Session) (at : ℕ) → Holds id w k s at → does (group s) call .answer ≡ asked (questions id w k store (rest (k .c)))
+    unfolding group
+    answers s at h =
+        rule .asks (group s)
+        ∙ (λ i. asked ((1 is eqb (length store) (16 * h .shared i .c)) ∷ (3 is asks-used s at h i) ∷ rest (h .shared i .c)))
+
+    refused : (n : ℕ) → asked (questions id w k store (rest (k .c))) ≡ suc n → Refused call id w k store (suc n)
+    refused n e s at h =
+        stays (λ (s t : Session). does (group s) call .answer ≡ suc n → MeetsStore call s (done t (suc n)) store) (refuses-store n) s at h
+        (answers s at h ∙ e)
+
+    pub not-whole : (length store ≡ 16 * k .c → ⊥) → Refused call id w k store 1
+    not-whole n = refused 0 (rw (ne-eqb (length store) (16 * k .c) n))
+
+    pub not-used : {b : Bool} → length store ≡ 16 * k .c → b ≡ ltb id 16 && w .used → b ≡ false → Refused call id w k store 3
+    not-used e u t =
+        let n : ltb id 16 && w .used ≡ false = sym u ∙ t in
+        refused 2 (rw (eq-eqb (length store) (16 * k .c) e, n))
+
+    module _ (o : Writable id w k store) where
+      rest-asked : asked (questions id w k store (rest (k .c))) ≡ asked (rest (k .c))
+      rest-asked = rw (eq-eqb (length store) (16 * k .c) (o .whole), lt-ltb id 16 (o .low), o .used)
+
+      -- a later question is answered no
+      pub no : (n : ℕ) → asked (rest (k .c)) ≡ suc n → Refused call id w k store (suc n)
+      no n e = refused n (rest-asked ∙ e)
+
+      -- all are answered yes
+      pub yes : {K : Shared → Shared} → Shares K G → (r : Window) (t : List ℕ) → asked (rest (k .c)) ≡ 0
+          → Becomes w (f (winOf w)) r × (t ≡ F (k .c) (winOf w)) → MeetsStoreAt call id w k (record { window = r; shared = K k; answer = 0 }) t
+      yes {K} shares r t e b s at h =
+          changes
+          (λ (s : Session) (at : ℕ) (w : Window) (k : Shared). w .used ≡ true → does (group s) call .answer ≡ 0
+          → Becomes w (f (winOf w)) r × (t ≡ F (k .c) (winOf w)) → MeetsStore call s (done (put at r (K k) s) 0) t)
+          (o .low) (λ s g _ _. puts-store shares r t s g) s at h (o .used) (answers s at h ∙ rest-asked ∙ e) b
 
 -- The window's pixels ------------------------------------------------------------------------------------------------
 
-module _ {s : Session} {id : ℕ} {store : List ℕ} (h : Given s) (o : Writable s id store) where
-  pub size : WinOk (s .c) (winOf (windowAt s id))
-  unfolding group
-  size = subst (λ (w : Win). WinOk (s .c) w) (win-at s id (o .used)) (given-ok s h .fits id)
+module _ {id : ℕ} {w : Window} {k : Shared} {store : List ℕ} (held : Held id w k) (o : Writable id w k store) where
+  pub rep : RepWindow w
+  rep = let h = held .holds in subst RepWindow (h .window) (h .given .rep .each (held .at) (h .place .inside))
 
-  pub c-high : s .c ≤ 1048576
+  pub size : WinOk (k .c) (winOf w)
   unfolding group
-  c-high = given-ok s h .c-high
+  size =
+      let h = held .holds in
+      let s = held .session in
+      let u : windowAt s (held .at) .used ≡ true = ap (λ (v : Window). v .used) (h .window) ∙ o .used in
+      let v : win (group s) (held .at) ≡ winOf w = win-at s (held .at) u ∙ ap winOf (h .window) in
+      subst (λ (j : Shared). WinOk (j .c) (winOf w)) (h .shared) (subst (WinOk (s .shared .c)) v (given-ok s (h .given) .fits (held .at)))
+
+  c-high : k .c ≤ 1048576
+  unfolding group
+  c-high = let h = held .holds in subst (λ (j : Shared). j .c ≤ 1048576) (h .shared) (given-ok (held .session) (h .given) .c-high)
 
   -- its C pixels lie in the store
-  pub ends : id * s .c + s .c ≤ length store
-  ends = let m : suc id * s .c ≤ 16 * s .c = mul-le-mul-right (s .c) (o .low) in omega (arith, o .whole)
+  pub ends : id * k .c + k .c ≤ length store
+  ends = let m : suc id * k .c ≤ 16 * k .c = mul-le-mul-right (k .c) (o .low) in omega (arith, o .whole)
 
   -- its place is a number of 64 bits
-  pub place : id * s .c ≤ 16777216
+  pub place : id * k .c ≤ 16777216
   place = omega (arith, ends, o .whole, c-high)
 
-  pub stored : Stored (length store) (id * s .c) (windowAt s id)
-  stored = record { rep = h .rep .each id (o .low); room = omega (arith, ends, size .area≤) }
+  pub stored : Stored (length store) (id * k .c) w
+  stored = record { rep = rep; room = omega (arith, ends, size .area≤) }
 
 -- A window put back --------------------------------------------------------------------------------------------------
 
@@ -128,7 +192,14 @@ set-same g id u =
     ap (λ (ws : List (Option Win)). record { c = g .c; windows = ws; order = g .order; focus = g .focus; owed = g .owed })
     (ap (set (g .windows) id) (some-win (winAt g id) u) ∙ set-getD (g .windows) id none)
 
--- one of two
-pub set-cond : (g : Group) (id : ℕ) (t : Bool) (v w : Win) → setWin id (some (cond t v w)) g ≡ cond t (setWin id (some v) g) (setWin id (some w) g)
-set-cond g id true v w = refl
-set-cond g id false v w = refl
+-- changed where a test passes
+pub set-if : (g : Group) (id : ℕ) (t : Bool) (v : Win) → used g id ≡ true
+    → cond t (setWin id (some v) g) g ≡ setWin id (some (cond t v (win g id))) g
+set-if g id true v u = refl
+set-if g id false v u = sym (set-same g id u)
+
+-- where it fails
+pub set-unless : (g : Group) (id : ℕ) (t : Bool) (v : Win) → used g id ≡ true
+    → cond t g (setWin id (some v) g) ≡ setWin id (some (cond t (win g id) v)) g
+set-unless g id true v u = sym (set-same g id u)
+set-unless g id false v u = refl

@@ -104,7 +104,7 @@ module _ (w : Window) (r : RepWindow w) (e : Event) where
 
 put-same : (s : Session) (id : ℕ) → putWindow id (windowAt s id) s ≡ s
 put-same s id =
-    ap (λ (l : List Window). record { windows = l; order = s .order; shown = s .shown; c = s .c; focus = s .focus; owed = s .owed })
+    ap (λ (l : List Window). record { windows = l; shared = s .shared })
     (set-getD (s .windows) id blank)
 
 -- a call whose last question is 12, and which tells one window

@@ -7,8 +7,14 @@ use Rattle.replay.proofs.show.pixels.Statement.{statement}
 use Rattle.replay.proofs.show.pixels.Tie as tie
 
 -- the window's pixels lie in the store that the session wants
-inside : (c : tie.Then2) → c .before .before .before .before .before .id .result .0 * c .before .before .before .before .before .before .args .s .c + c .before .before .before .before .rect-of .result .rect .dims .w * c .before .before .before .before .rect-of .result .rect .dims .h ≤ 16 * c .before .before .before .before .before .before .args .s .c
-inside c = in-store (c .before .before .before .before .before .before .args .s) (c .before .before .before .before .before .id .result .0) (c .before .before .before .before .rect-of .result) (c .before .before .before .before .before .before .pre .0) (c .before .before .before .before .rect-of .ensures) (c .before .if1 .taken)
+inside : (c : tie.Then2) →
+    let p = c .before .before .before .before in
+    let s = p .before .before .args .s in
+    p .before .id .result .0 * s .shared .c + p .rect-of .result .rect .dims .w * p .rect-of .result .rect .dims .h ≤ 16 * s .shared .c
+inside c =
+    let p = c .before .before .before .before in
+    let s = p .before .before in
+    in-store (s .args .s) (p .before .id .result .0) (p .rect-of .result) (s .pre .0) (p .rect-of .ensures) (c .before .if1 .taken)
 
 id-requires : tie.Need-id-requires
 id-requires c κs = search needs

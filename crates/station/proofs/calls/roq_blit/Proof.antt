@@ -1,14 +1,21 @@
--- `roq_blit` is `values::blit` behind a pointer.
+-- `roq_blit` is `store::blit` at the window's place.
+use mathlib.Core.List.{[], _∷_}
 use contract.Running.{tables}
+use denote.Ref.{now}
 use denote.Triple.Spec.{tripleOf}
 use denote.Triple.Table.{entered}
 use Rattle.rules.specs.Calls.{Blit}
-use Rattle.windows.specs.View.{MeetsStore}
+use Rattle.windows.specs.View.{Given, MeetsStore}
 use Rattle.windows.specs.View as View
-use Rattle.station.proofs.values.blit.Symbol as value
-use Rattle.station.proofs.values.blit.Met as value′
-use Rattle.station.proofs.shims.ThreeBoth as shim
-use Rattle.station.proofs.shims.Parameters.{session, winId, rect, size, number, done, given}
+use Rattle.windows.specs.One.{At, Held, MeetsStoreAt}
+use Rattle.windows.proofs.laws.One.{own, held}
+use Rattle.windows.proofs.one.slot.Symbol as find
+use Rattle.windows.proofs.one.slot.Met as find′
+use Rattle.windows.proofs.store.blit.Symbol as value
+use Rattle.windows.proofs.store.blit.Met as value′
+use Rattle.station.proofs.shims.Place as shim
+use Rattle.station.proofs.shims.Args.{value, reads, writes}
+use Rattle.station.proofs.shims.Parameters.{window, shared, winId, rect, size, number, windows, changed}
 use Rattle.station.proofs.calls.roq_blit as f
 use Rattle.station.proofs.calls.roq_blit.Key as key
 use Rattle.station.proofs.calls.roq_blit.Statement.{statement}
@@ -19,6 +26,10 @@ unfolding code.routine
 roq-blit-spec 𝓤 H 𝓜 𝓖 𝓡 =
     entered 𝓤 H (tripleOf 𝓤 H (𝓖 .A) f.signature (f.spec 𝓤 H (𝓖 .A) (𝓜 .mem) (𝓡 .run)))
     (tables 𝓤 H 𝓜 𝓡 code.env .C) (tables 𝓤 H 𝓜 𝓡 code.env .Λ) key.name code.function (code.unfolded 𝓤 H 𝓜 𝓡)
-    (shim.meets session winId rect size number done given
-    (λ s id area stride datum store a t left. MeetsStore (Blit (id .0) area datum stride store) s (View.done t a) left)
-    𝓤 H 𝓜 𝓖 𝓡 code.env value.name value.routine code.calls-station·values·blit (value′.met 𝓤 H 𝓜 𝓖 𝓡))
+    (shim.meets window shared winId number 2 (value rect ∷ value size ∷ reads 0 tt ∷ writes 1 tt ∷ []) windows changed
+    Given (λ id at. At (id .0) at) (λ w k κs a. Held (a .0 .0) w k)
+    (λ w k κs a r e. MeetsStoreAt (Blit (a .0 .0) (a .1 .0) (now (a .1 .1 .1 .0)) (a .1 .1 .0) (now (a .1 .1 .1 .1 .0))) (a .0 .0) w k r (now (e .1 .1 .1 .1 .0)))
+    (λ κs s a n t e. MeetsStore (Blit (a .0 .0) (a .1 .0) (now (a .1 .1 .1 .0)) (a .1 .1 .0) (now (a .1 .1 .1 .1 .0))) s (View.done t n) (now (e .1 .1 .1 .1 .0)))
+    (λ id at p. p .inside) (λ κs s a at h p. held h p) (λ κs s a at r ws h p d. d s at (own h p))
+    𝓤 H 𝓜 𝓖 𝓡 code.env find.name find.routine code.calls-windows·one·slot (find′.met 𝓤 H 𝓜 𝓖 𝓡)
+    value.name value.routine code.calls-windows·store·blit (value′.met 𝓤 H 𝓜 𝓖 𝓡))

@@ -1,12 +1,21 @@
--- `roq_create` is `values::create` behind a pointer.
+-- `roq_create` is `values::create` at the place for the next window.
+use mathlib.Core.List.{[]}
 use contract.Running.{tables}
 use denote.Triple.Spec.{tripleOf}
 use denote.Triple.Table.{entered}
+use mathlib.Core.Path.{refl}
+use Prim.Native.Nat.{_<_}
+use native.Mathlib.Omega.{arith}
+use Rattle.windows.specs.View.{Given}
+use Rattle.windows.specs.One.{Free}
 use Rattle.station.specs.Answers.{Creates}
+use Rattle.station.specs.Inner.{MakesAt}
+use Rattle.windows.proofs.Session.free_slot.Symbol as find
+use Rattle.windows.proofs.Session.free_slot.Met as find′
 use Rattle.station.proofs.values.create.Symbol as value
 use Rattle.station.proofs.values.create.Met as value′
-use Rattle.station.proofs.shims.None as shim
-use Rattle.station.proofs.shims.Parameters.{session, created, made, given}
+use Rattle.station.proofs.shims.Seek as shim
+use Rattle.station.proofs.shims.Parameters.{window, shared, winId, created, windows, free, made}
 use Rattle.station.proofs.calls.roq_create as f
 use Rattle.station.proofs.calls.roq_create.Key as key
 use Rattle.station.proofs.calls.roq_create.Statement.{statement}
@@ -17,6 +26,8 @@ unfolding code.routine
 roq-create-spec 𝓤 H 𝓜 𝓖 𝓡 =
     entered 𝓤 H (tripleOf 𝓤 H (𝓖 .A) f.signature (f.spec 𝓤 H (𝓖 .A) (𝓜 .mem) (𝓡 .run)))
     (tables 𝓤 H 𝓜 𝓡 code.env .C) (tables 𝓤 H 𝓜 𝓡 code.env .Λ) key.name code.function (code.unfolded 𝓤 H 𝓜 𝓡)
-    (shim.meets session created made given
-    (λ s r t. Creates s t r)
-    𝓤 H 𝓜 𝓖 𝓡 code.env value.name value.routine code.calls-station·values·create (value′.met 𝓤 H 𝓜 𝓖 𝓡))
+    (shim.meets window shared winId created 0 [] windows free made
+    Given (λ s κs a f e. Free s f) (λ w k id. id .0 < 16) (λ w k id r. MakesAt (id .0) w k r) (λ κs s a r t e. Creates s t r)
+    (λ κs s a f ws h q. q .inside) (λ κs s a f ws h q. omega (arith, q .inside, q .same)) (λ κs s a f ws r h q d. d s f h q refl refl refl)
+    𝓤 H 𝓜 𝓖 𝓡 code.env find.name find.routine code.calls-windows·Session·free-slot (find′.met 𝓤 H 𝓜 𝓖 𝓡)
+    value.name value.routine code.calls-station·values·create (value′.met 𝓤 H 𝓜 𝓖 𝓡))

@@ -1,14 +1,20 @@
--- `roq_redraw` is `values::redraw` behind a pointer.
+-- `roq_redraw` draws, and then settles the session.
+use mathlib.Core.List.{[], _∷_}
 use contract.Running.{tables}
+use denote.Ref.{now}
 use denote.Triple.Spec.{tripleOf}
 use denote.Triple.Table.{entered}
 use Rattle.rules.specs.Calls.{Redraw}
-use Rattle.windows.specs.View.{MeetsScreen}
+use Rattle.windows.specs.View.{Given, MeetsScreen}
 use Rattle.windows.specs.View as View
-use Rattle.station.proofs.values.redraw.Symbol as value
-use Rattle.station.proofs.values.redraw.Met as value′
-use Rattle.station.proofs.shims.ThreeBoth as shim
-use Rattle.station.proofs.shims.Parameters.{session, flag, number, done, given}
+use Rattle.windows.specs.Drawing.{Draws, Settles}
+use Rattle.windows.proofs.Session.draw.Symbol as find
+use Rattle.windows.proofs.Session.draw.Met as find′
+use Rattle.windows.proofs.Session.settled.Symbol as value
+use Rattle.windows.proofs.Session.settled.Met as value′
+use Rattle.station.proofs.shims.Settle as shim
+use Rattle.station.proofs.shims.Args.{value, reads, writes}
+use Rattle.station.proofs.shims.Parameters.{session, flag, number, drawn, done}
 use Rattle.station.proofs.calls.roq_redraw as f
 use Rattle.station.proofs.calls.roq_redraw.Key as key
 use Rattle.station.proofs.calls.roq_redraw.Statement.{statement}
@@ -19,6 +25,10 @@ unfolding code.routine
 roq-redraw-spec 𝓤 H 𝓜 𝓖 𝓡 =
     entered 𝓤 H (tripleOf 𝓤 H (𝓖 .A) f.signature (f.spec 𝓤 H (𝓖 .A) (𝓜 .mem) (𝓡 .run)))
     (tables 𝓤 H 𝓜 𝓡 code.env .C) (tables 𝓤 H 𝓜 𝓡 code.env .Λ) key.name code.function (code.unfolded 𝓤 H 𝓜 𝓡)
-    (shim.meets session flag number number number done given
-    (λ s told w h store screen a t left. MeetsScreen (Redraw told w h store screen) s (View.done t a) left)
-    𝓤 H 𝓜 𝓖 𝓡 code.env value.name value.routine code.calls-station·values·redraw (value′.met 𝓤 H 𝓜 𝓖 𝓡))
+    (shim.meets session drawn number 2 (value flag ∷ value number ∷ value number ∷ reads 0 tt ∷ writes 1 tt ∷ []) done
+    Given (λ s κs a d e. Draws (Redraw (a .0) (a .1 .0) (a .1 .1 .0) (now (a .1 .1 .1 .0)) (now (a .1 .1 .1 .1 .0))) s d (now (e .1 .1 .1 .1 .0)))
+    (λ s d. Given s) Settles
+    (λ κs s a n t e. MeetsScreen (Redraw (a .0) (a .1 .0) (a .1 .1 .0) (now (a .1 .1 .1 .0)) (now (a .1 .1 .1 .1 .0))) s (View.done t n) (now (e .1 .1 .1 .1 .0)))
+    (λ κs s a d ws h q. h) (λ κs s a d ws r h q m. q r m)
+    𝓤 H 𝓜 𝓖 𝓡 code.env find.name find.routine code.calls-windows·Session·draw (find′.met 𝓤 H 𝓜 𝓖 𝓡)
+    value.name value.routine code.calls-windows·Session·settled (value′.met 𝓤 H 𝓜 𝓖 𝓡))

@@ -3,77 +3,118 @@ use Prim.Native.Nat.{suc}
 use mathlib.Core.Path.{_≡_, sym, ap, _∙_}
 use native.Mathlib.Omega.{arith}
 use borrow.Author.Tests.{leb-true}
-use Rattle.windows.proofs.laws.Rects.{lends}
-use Rattle.windows.proofs.laws.Places.{in-order}
-use Rattle.windows.proofs.laws.Above.{higher, higher-next}
-use Rattle.windows.proofs.laws.Listed.{id-low, frame-fits, listed, no-room}
+use Rattle.window.specs.Held.{rectOf}
 use Rattle.rules.specs.Visible.{rectsOf}
+use Rattle.order.proofs.laws.Rects.{lends}
+use Rattle.windows.specs.View.{windowAt}
+use Rattle.windows.proofs.laws.Places.{in-order}
+use Rattle.windows.proofs.laws.Frames.{order-lies}
+use Rattle.windows.proofs.laws.Above.{higher, higher-next, frames-higher}
+use Rattle.windows.proofs.laws.Listed.{id-low, frame-fits, listed, no-room}
 use borrow.Author.Needs.{needs}
 use Rattle.windows.proofs.Session.list_shown.Statement.{statement}
 use Rattle.windows.proofs.Session.list_shown.Tie as tie
 
+-- the rectangle is the window's
+frame : (c : tie.After-rect)
+    → let a = c .before .before .before .before .before .before .before .args in
+    c .rect .result ≡ rectOf (windowAt (a .self) (a .id .0) .at)
+frame c =
+    let f = c .before .before .before .before .before in
+    let s = f .before .before in
+    c .rect .ensures ∙ ap rectOf (f .frames .ensures .at _ (id-low _ (s .pre .0) _ _ (s .pre .1)))
+
 -- the rectangles that are lent are those of the windows above p
-lent : (c : tie.After-from) → let s = c .before .before .before .before .before .before .before .args in rectsOf (c .from .result .len) (c .from .result .numbers) ≡ higher (s .t1) (suc (s .p .0))
+lent : (c : tie.After-from)
+    → let a = c .before .before .before .before .before .before .before .before .before .args in
+    rectsOf (c .from .result .len) (c .from .result .numbers) ≡ higher (a .self) (suc (a .p .0))
 lent c =
-    let s = c .before .before .before .before .before .before .before .args in
-    c .from .ensures .list ∙ ap (higher (s .t1)) (c .before .next .ensures) ∙ higher-next (s .t1) (s .p .0)
+    let f = c .before .before .before .before .before .before .before in
+    let s = f .before .before in
+    let a = s .args in
+    c .from .ensures .list
+    ∙ frames-higher (a .self) (s .pre .0) (f .frames .result) (f .frames .ensures) (c .before .next .result .0)
+    ∙ ap (higher (a .self)) (c .before .next .ensures)
+    ∙ higher-next (a .self) (a .p .0)
+
+frames-requires : tie.Need-frames-requires
+frames-requires c κs = search needs
 
 cast-at : tie.Need-cast-at
 cast-at c = search needs
 
-mul-w : tie.Need-mul-w
-mul-w c = search needs
+mul-area : tie.Need-mul-area
+mul-area c = search needs
 
-element-copy-out-w : tie.Need-element-copy-out-w
-element-copy-out-w c = id-low _ (c .before .before .pre .0) _ _ (c .before .before .pre .1)
+array-copy-out-area : tie.Need-array-copy-out-area
+array-copy-out-area c = let s = c .before .before .before .before .before in id-low _ (s .pre .0) _ _ (s .pre .1)
 
 rect-requires : tie.Need-rect-requires
 rect-requires c κs = search needs
 
 next-requires : tie.Need-next-requires
-next-requires c κs = omega (arith, in-order _ (c .before .before .before .before .before .pre .0) _ _ (c .before .before .before .before .before .pre .1), c .before .before .before .before .before .pre .0 .rep .shown)
+next-requires c κs =
+    let s = c .before .before .before .before .before .before .before in
+    omega (arith, in-order _ (s .pre .0) _ _ (s .pre .1), s .pre .0 .rep .shown)
 
 from-requires : tie.Need-from-requires
-from-requires c κs = (c .before .before .before .before .before .before .pre .0, omega (arith, c .next .ensures, in-order _ (c .before .before .before .before .before .before .pre .0) _ _ (c .before .before .before .before .before .before .pre .1)))
+from-requires c κs =
+    let f = c .before .before .before .before .before .before in
+    let s = f .before .before in
+    (order-lies _ (s .pre .0) _ (f .frames .ensures), omega (arith, c .next .ensures, in-order _ (s .pre .0) _ _ (s .pre .1)))
 
 slice-aggregate-has-room : tie.Need-slice-aggregate-has-room
 slice-aggregate-has-room c = search needs
 
 has-room-requires : tie.Need-has-room-requires
 has-room-requires c κs =
-    let s = c .before .before .before .before .before .before .before .before .before in
-    let f = c .before .before .from .ensures in
-    (frame-fits _ (s .pre .0) _ _ (s .pre .1) _ (c .before .before .before .before .rect .ensures), lends _ _ f, omega (arith, f .few, f .count))
+    let f = c .before .before in
+    let r = f .before .before in
+    let s = r .before .before .before .before .before .before .before in
+    let l = f .from .ensures in
+    (frame-fits _ (s .pre .0) _ _ (s .pre .1) _ (frame r), lends _ _ l, omega (arith, l .few, l .count))
 
 slice-aggregate-list : tie.Need-slice-aggregate-list
 slice-aggregate-list c = search needs
 
 list-requires : tie.Need-list-requires
 list-requires c κs =
-    let s = c .before .before .before .before .before .before .before .before .before .before .before .before .before in
-    ((frame-fits _ (s .pre .0) _ _ (s .pre .1) _ (c .before .before .before .before .before .before .before .before .rect .ensures), lends _ _ (c .before .before .before .before .before .before .from .ensures)), leb-true _ _ (sym (c .before .before .before .has-room .ensures) ∙ c .before .before .if1 .taken))
+    let n = c .before .before .before in
+    let f = n .before .before .before in
+    let r = f .before .before in
+    let s = r .before .before .before .before .before .before .before in (
+      (frame-fits _ (s .pre .0) _ _ (s .pre .1) _ (frame r), lends _ _ (f .from .ensures)),
+      leb-true _ _ (sym (n .has-room .ensures) ∙ c .before .before .if1 .taken),
+    )
 
 same-length : tie.Need-same-length
 same-length c = search needs
 
 returns : tie.Need-returns
 returns c =
-    let s = c .before .before .before .before .before .before .before .before .before .before .before .before .before .before .before .before in
-    let l = c .before .before .list .ensures in
-    listed _ (s .pre .0) _ _ (s .pre .1) _ (c .before .before .before .before .before .before .before .before .before .before .before .rect .ensures) _ (lent (c .before .before .before .before .before .before .before .before .before)) _ _ _ (sym (c .before .before .before .before .before .if1 .taken) ∙ c .before .before .before .before .before .before .has-room .ensures) (l .0) (l .1)
+    let l = c .before .before in
+    let n = l .before .before .before .before in
+    let f = n .before .before .before in
+    let r = f .before .before in
+    let s = r .before .before .before .before .before .before .before in
+    listed _ (s .pre .0) _ _ (s .pre .1) _ (frame r) _ (lent f) _ _ _ (sym (l .before .before .before .if1 .taken) ∙ n .has-room .ensures) (l .list .ensures .0) (l .list .ensures .1)
 
 returns-2 : tie.Need-returns-2
 returns-2 c =
-    let s = c .before .before .before .before .before .before .before .before .before .before .before in
-    no-room _ (s .pre .0) _ _ (s .pre .1) _ (c .before .before .before .before .before .before .rect .ensures) _ (lent (c .before .before .before .before)) _ (sym (c .if1 .left) ∙ c .before .has-room .ensures)
+    let n = c .before in
+    let f = n .before .before .before in
+    let r = f .before .before in
+    let s = r .before .before .before .before .before .before .before in
+    no-room _ (s .pre .0) _ _ (s .pre .1) _ (frame r) _ (lent f) _ (sym (c .if1 .left) ∙ n .has-room .ensures)
 
 pub list-shown-spec : {M : Type 1} → statement M
 list-shown-spec =
     tie.close
     (tie.spec
+    frames-requires
     cast-at
-    mul-w
-    element-copy-out-w
+    mul-area
+    array-copy-out-area
     rect-requires
     next-requires
     from-requires

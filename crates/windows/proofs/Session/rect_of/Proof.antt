@@ -1,12 +1,12 @@
 -- The rectangle of a window in use, and (0,0,0,0) for any other id.
 use Prim.Native.Nat.{ℕ}
 use mathlib.Core.Path.{_≡_, sym, ap, _∙_}
-use mathlib.Core.Bool.{true, false, cond}
+use mathlib.Core.Bool.{true, false}
 use Rattle.geom.specs.declared.Rect.{Rect}
 use Rattle.geom.specs.Geom.{rect}
 use Rattle.window.specs.Window.{Win}
 use Rattle.window.specs.Held.{rectOf}
-use Rattle.rules.specs.Group.{Group, used, win}
+use Rattle.rules.specs.Group.{used}
 use Rattle.windows.specs.declared.Session.{Session}
 use Rattle.windows.specs.declared.Placed.{Placed}
 use Rattle.windows.specs.View.{group, windowAt, placed}
@@ -27,35 +27,55 @@ not-used s id r u e = rw u (ap (answered 3) e)
 new-requires : tie.Need-new-requires
 new-requires c κs = search needs
 
+frames-requires : tie.Need-frames-requires
+frames-requires c κs = search needs
+
 cast-at : tie.Need-cast-at
 cast-at c = search needs
 
-mul-w : tie.Need-mul-w
-mul-w c = search needs
+array-read-if2 : tie.Need-array-read-if2
+array-read-if2 c = search needs
 
-element-copy-out-w : tie.Need-element-copy-out-w
-element-copy-out-w c = search needs
+mul-area : tie.Need-mul-area
+mul-area c = search needs
+
+array-copy-out-area : tie.Need-array-copy-out-area
+array-copy-out-area c = search needs
 
 rect-requires : tie.Need-rect-requires
 rect-requires c κs = search needs
 
 returns : tie.Need-returns
-returns c = is-used (c .before .before .before .before .before .before .args .t1) (c .before .before .before .before .before .before .args .id .0) _ (c .before .before .if2 .taken) (c .rect .ensures)
+returns c =
+    let t = c .before .before .before in
+    let f = t .before .before .before .frames .ensures in
+    let a = t .before .before .before .before .before .args in
+    is-used (a .self) (a .id .0) _ (sym (f .used _ (t .if1 .taken)) ∙ c .before .before .if2 .taken) (c .rect .ensures ∙ ap rectOf (f .at _ (t .if1 .taken)))
 
 returns-2 : tie.Need-returns-2
-returns-2 c = not-used (c .before .before .before .before .args .t1) (c .before .before .before .before .args .id .0) _ (used-at (c .before .before .before .before .args .t1) (c .before .before .before .before .args .id .0) ∙ c .if2 .left) (c .before .before .before .new .ensures)
+returns-2 c =
+    let t = c .before in
+    let f = t .before .before .before .frames .ensures in
+    let s = t .before .before .before .before in
+    let a = s .before .args in
+    not-used (a .self) (a .id .0) _ (used-at (a .self) (a .id .0) ∙ sym (f .used _ (t .if1 .taken)) ∙ c .if2 .left) (s .new .ensures)
 
 returns-3 : tie.Need-returns-3
-returns-3 c = not-used (c .before .before .args .t1) (c .before .before .args .id .0) _ (used-past (c .before .before .args .t1) (c .before .before .args .id .0) (c .before .before .pre .rep) (c .if1 .left)) (c .before .new .ensures)
+returns-3 c =
+    let s = c .before .before .before .before in
+    let a = s .before .args in
+    not-used (a .self) (a .id .0) _ (used-past (a .self) (a .id .0) (s .before .pre .rep) (c .if1 .left)) (s .new .ensures)
 
 pub rect-of-spec : {M : Type 1} → statement M
 rect-of-spec =
     tie.close
     (tie.spec
     new-requires
+    frames-requires
     cast-at
-    mul-w
-    element-copy-out-w
+    array-read-if2
+    mul-area
+    array-copy-out-area
     rect-requires
     returns
     returns-2

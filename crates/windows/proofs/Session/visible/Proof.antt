@@ -1,6 +1,6 @@
 -- Question 3, then the list of a window that has a place; a hidden window has none.
 use mathlib.Core.Path.{sym, ap, _∙_}
-use Rattle.windows.specs.Order.{idxOf}
+use Rattle.order.specs.Order.{idxOf}
 use Rattle.windows.proofs.laws.Session.{used-at, used-past}
 use Rattle.windows.proofs.laws.Listed.{hidden-list, no-window}
 use borrow.Author.Needs.{needs}
@@ -10,11 +10,11 @@ use Rattle.windows.proofs.Session.visible.Tie as tie
 cast-at : tie.Need-cast-at
 cast-at c = search needs
 
-mul-if2 : tie.Need-mul-if2
-mul-if2 c = search needs
+frames-requires : tie.Need-frames-requires
+frames-requires c κs = search needs
 
-element-copy-out-if2 : tie.Need-element-copy-out-if2
-element-copy-out-if2 c = search needs
+array-read-if2 : tie.Need-array-read-if2
+array-read-if2 c = search needs
 
 get-render-idx-requires : tie.Need-get-render-idx-requires
 get-render-idx-requires c κs = search needs
@@ -23,7 +23,9 @@ enum-known-idx : tie.Need-enum-known-idx
 enum-known-idx c = search needs
 
 list-shown-requires : tie.Need-list-shown-requires
-list-shown-requires c κs = (c .before .before .before .before .before .before .before .before .before .pre, sym (ap idxOf (c .before .before .idx .given .1)) ∙ c .before .before .before .before .get-render-idx .ensures)
+list-shown-requires c κs =
+    let i = c .before .before .before .before in
+    (i .before .before .before .before .before .before .before .pre, sym (ap idxOf (c .before .before .idx .given .1)) ∙ i .get-render-idx .ensures)
 
 same-length : tie.Need-same-length
 same-length c = search needs
@@ -35,10 +37,17 @@ enum-told : tie.Need-enum-told
 enum-told c = search needs
 
 returns-2 : tie.Need-returns-2
-returns-2 c = hidden-list _ _ _ (c .before .before .before .before .before .before .before .pre) (c .before .before .before .before .if2 .taken) (sym (ap idxOf (c .enum-told .given .1)) ∙ c .before .before .get-render-idx .ensures)
+returns-2 c =
+    let i = c .before .before in
+    let u = i .before .before in
+    let f = u .before .before in
+    let s = f .before .before .before in
+    hidden-list _ _ _ (s .pre) (sym (f .frames .ensures .used _ (f .before .if1 .taken)) ∙ u .if2 .taken) (sym (ap idxOf (c .enum-told .given .1)) ∙ i .get-render-idx .ensures)
 
 returns-3 : tie.Need-returns-3
-returns-3 c = no-window _ _ _ (used-at _ _ ∙ c .if2 .left)
+returns-3 c =
+    let f = c .before .before in
+    no-window _ _ _ (used-at _ _ ∙ sym (f .frames .ensures .used _ (f .before .if1 .taken)) ∙ c .if2 .left)
 
 returns-4 : tie.Need-returns-4
 returns-4 c = no-window _ _ _ (used-past _ _ (c .before .before .pre .rep) (c .if1 .left))
@@ -48,8 +57,8 @@ visible-spec =
     tie.close
     (tie.spec
     cast-at
-    mul-if2
-    element-copy-out-if2
+    frames-requires
+    array-read-if2
     get-render-idx-requires
     enum-known-idx
     list-shown-requires

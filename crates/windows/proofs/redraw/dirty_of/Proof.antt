@@ -3,7 +3,7 @@ use mathlib.Core.Path.{_≡_, _∙_}
 use mathlib.Core.Bool.{_||_}
 use Rattle.window.specs.Held.{rects}
 use Rattle.rules.specs.Redraw.{none?}
-use Rattle.windows.proofs.laws.Above.{dirty-full}
+use Rattle.order.proofs.laws.Above.{dirty-full}
 use borrow.Author.Needs.{needs}
 use Rattle.windows.proofs.redraw.dirty_of.Statement.{statement}
 use Rattle.windows.proofs.redraw.dirty_of.Tie as tie

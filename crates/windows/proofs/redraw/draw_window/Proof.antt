@@ -1,8 +1,7 @@
 -- The window is drawn from its rectangle, those above it and its dirty entries, or the screen stays as it is.
 use mathlib.Core.Path.{sym, subst, _∙_}
-use native.Mathlib.Omega.{arith}
 use Rattle.window.specs.Held.{Small}
-use Rattle.windows.proofs.laws.Rects.{lends}
+use Rattle.order.proofs.laws.Rects.{lends}
 use Rattle.windows.proofs.laws.Full.{lent-drawn}
 use borrow.Author.Needs.{needs}
 use Rattle.windows.proofs.redraw.draw_window.Statement.{statement}

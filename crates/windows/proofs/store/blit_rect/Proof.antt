@@ -4,25 +4,25 @@ use mathlib.Core.Bool.{true, false}
 use lib.ListN.{length}
 use Rattle.geom.specs.Geom.{isEmpty, meets, common}
 use Rattle.geom.proofs.geometry.Answers.{common-is, apart-is, not-refused}
-use Rattle.windows.proofs.laws.Pixels.{Cut, fits, in-window, room, not-blit, blit-win, some-blit, no-blit}
+use Rattle.windows.proofs.laws.Pixels.{Cut, fits, in-window, room, dirty-win, not-blit, blit-win, some-blit, no-blit}
 use borrow.Author.Needs.{needs}
 use Rattle.windows.proofs.store.blit_rect.Statement.{statement}
 use Rattle.windows.proofs.store.blit_rect.Tie as tie
 
 -- the area has a pixel
-some : (c : tie.Else1) → isEmpty (c .before .before .before .before .args .area) ≡ false
+some : (c : tie.Else1) → isEmpty (c .before .before .before .before .before .before .args .area) ≡ false
 some c = sym (c .before .is-empty .ensures) ∙ c .if1 .left
 
 -- what is known once the window's own rectangle is there
-own : (c : tie.After-bounds) → let a = c .before .before .before .before .before .before .before .args in
+own : (c : tie.After-bounds) → let a = c .before .before .before .before .before .before .before .before .args in
     Cut (length (a .store .now)) (a .base) (a .win) (a .area) (c .bounds .result)
 own c =
-    let s = c .before .before .before .before .before .before .before in
+    let s = c .before .before .before .before .before .before .before .before in
     record { stored = s .pre .0; small = s .pre .1; is = c .bounds .ensures }
 
 -- the part that the area has in it
 met : (c : tie.After-cut) → let b = c .before .before .before in
-    let a = b .before .before .before .before .before .before .before .args in
+    let a = b .before .before .before .before .before .before .before .before .args in
     (meets (a .area) (b .bounds .result) ≡ true) × (c .cut .given .0 .0 ≡ common (a .area) (b .bounds .result))
 met c = let b = c .before .before in common-is (fits (own (b .before))) (b .intersect .ensures) (c .cut .given .1)
 
@@ -31,12 +31,15 @@ is-empty-requires c κs = search needs
 
 returns : tie.Need-returns
 returns c =
-    let s = c .before .before .before .before in
+    let s = c .before .before .before .before .before .before in
     let a = s .args in
     not-blit (a .area) (a .«data» .now) (a .stride) (a .store .now) (s .pre .0) (sym (c .before .is-empty .ensures) ∙ c .if1 .taken)
 
 damaged-requires : tie.Need-damaged-requires
-damaged-requires c κs = search needs
+damaged-requires c κs =
+    let s = c .before .before .before .before .before .before in
+    let r = s .pre .0 .rep in
+    (r .damage, s .pre .1, r .at .width≤, r .at .height≤)
 
 bounds-requires : tie.Need-bounds-requires
 bounds-requires c κs = search needs
@@ -81,9 +84,9 @@ returns-2 : tie.Need-returns-2
 returns-2 c =
     let k = c .before .before .before .before .before .before .before .before .before .before in
     let b = k .before .before .before in
-    let e = some (b .before .before .before) in
-    let a = b .before .before .before .before .before .before .before .args in (
-      blit-win (own b) e (b .before .before .damaged .ensures),
+    let e = some (b .before .before) in
+    let a = b .before .before .before .before .before .before .before .before .args in (
+      blit-win (own b) e (dirty-win (a .win) (a .area) (b .before .damaged .result) (own b .stored .rep) (b .before .damaged .ensures)),
       some-blit (own b) e (a .«data» .now) (a .stride) (a .store .now) (k .cut .given .0 .0) _ (met k .0) (met k .1)
           (c .before .before .blit-area .ensures),
     )
@@ -92,9 +95,9 @@ returns-3 : tie.Need-returns-3
 returns-3 c =
     let i = c .before .before in
     let b = i .before in
-    let e = some (b .before .before .before) in
-    let a = b .before .before .before .before .before .before .before .args in (
-      blit-win (own b) e (b .before .before .damaged .ensures),
+    let e = some (b .before .before) in
+    let a = b .before .before .before .before .before .before .before .before .args in (
+      blit-win (own b) e (dirty-win (a .win) (a .area) (b .before .damaged .result) (own b .stored .rep) (b .before .damaged .ensures)),
       no-blit (own b) e (a .«data» .now) (a .stride) (a .store .now) (apart-is (fits (own b)) (i .intersect .ensures) (c .enum-told .given .1)),
     )
 

@@ -4,19 +4,19 @@ use mathlib.Core.Bool.{true}
 use lib.ListN.{length}
 use Rattle.geom.specs.Geom.{meets, common}
 use Rattle.geom.proofs.geometry.Answers.{common-is, apart-is, not-refused}
-use Rattle.windows.proofs.laws.Pixels.{Cut, fits, in-window, room, part-small, filled, not-filled}
+use Rattle.windows.proofs.laws.Pixels.{Cut, fits, in-window, room, part-small, dirty-win, filled, not-filled}
 use borrow.Author.Needs.{needs}
 use Rattle.windows.proofs.store.fill_rect.Statement.{statement}
 use Rattle.windows.proofs.store.fill_rect.Tie as tie
 
 -- what is known once the window's own rectangle is there
-own : (c : tie.After-bounds) → let a = c .before .before .before .args in Cut (length (a .store .now)) (a .base) (a .win) (a .area) (c .bounds .result)
-own c = let s = c .before .before .before in record { stored = s .pre .0; small = s .pre .1; is = c .bounds .ensures }
+own : (c : tie.After-bounds) → let a = c .before .before .before .before .args in Cut (length (a .store .now)) (a .base) (a .win) (a .area) (c .bounds .result)
+own c = let s = c .before .before .before .before in record { stored = s .pre .0; small = s .pre .1; is = c .bounds .ensures }
 
 -- the part that the area has in it
 met : (c : tie.After-cut) → let b = c .before .before .before in
-    (meets (b .before .before .before .args .area) (b .bounds .result) ≡ true)
-    × (c .cut .given .0 .0 ≡ common (b .before .before .before .args .area) (b .bounds .result))
+    (meets (b .before .before .before .before .args .area) (b .bounds .result) ≡ true)
+    × (c .cut .given .0 .0 ≡ common (b .before .before .before .before .args .area) (b .bounds .result))
 met c = let b = c .before .before in common-is (fits (own (b .before))) (b .intersect .ensures) (c .cut .given .1)
 
 bounds-requires : tie.Need-bounds-requires
@@ -53,7 +53,8 @@ damaged-requires : tie.Need-damaged-requires
 damaged-requires c κs =
     let k = c .before .before .before .before .before .before .before .before .before .before in
     let q = own (k .before .before .before) in
-    (q .stored .rep, part-small q (in-window q (met k .0) (met k .1)))
+    let r = q .stored .rep in
+    (r .damage, part-small q (in-window q (met k .0) (met k .1)), r .at .width≤, r .at .height≤)
 
 enum-told : tie.Need-enum-told
 enum-told c = search needs
@@ -68,14 +69,14 @@ returns : tie.Need-returns
 returns c =
     let k = c .before .before .before .before .before .before .before .before .before .before .before in
     let b = k .before .before .before in
-    let a = b .before .before .before .args in
-    filled (own b) (k .cut .given .0 .0) (c .damaged .result) (a .colour) (a .store .now) _ (met k .0) (met k .1) (c .damaged .ensures)
-    (c .before .before .before .fill-area .ensures)
+    let a = b .before .before .before .before .args in
+    filled (own b) (k .cut .given .0 .0) _ (a .colour) (a .store .now) _ (met k .0) (met k .1)
+    (dirty-win (a .win) (k .cut .given .0 .0) (c .damaged .result) (own b .stored .rep) (c .damaged .ensures)) (c .before .before .before .fill-area .ensures)
 
 returns-2 : tie.Need-returns-2
 returns-2 c =
     let b = c .before .before in
-    let a = b .before .before .before .before .args in
+    let a = b .before .before .before .before .before .args in
     let q = own (b .before) in
     not-filled q (a .colour) (a .store .now) (apart-is (fits q) (b .intersect .ensures) (c .enum-told .given .1))
 

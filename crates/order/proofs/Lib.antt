@@ -1,0 +1,2 @@
+-- Lemmas of the render order in its array.
+pub mod laws

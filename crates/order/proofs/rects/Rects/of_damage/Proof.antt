@@ -1,0 +1,63 @@
+-- The first i entries are held.
+use Prim.Native.Nat.{_-_}
+use mathlib.Core.Path.{refl}
+use native.Mathlib.Omega.{arith}
+use Rattle.window.specs.Held.{rects}
+use Rattle.order.proofs.laws.Rects.{Filling, fill-end}
+use Rattle.order.proofs.laws.Above.{dirty-count, dirty-none, dirty-next}
+use borrow.Author.Needs.{needs}
+use Rattle.order.proofs.rects.Rects.of_damage.Statement.{statement}
+use Rattle.order.proofs.rects.Rects.of_damage.Tie as tie
+
+abbrev Inv-loop : tie.InvT-loop
+Inv-loop d n numbers₀ i₀ numbers i = Filling (rects d) numbers i
+
+abbrev μ-loop : tie.MeasureT-loop
+μ-loop d n numbers₀ i₀ numbers i = n - i
+
+cast-n : tie.Need-cast-n Inv-loop μ-loop
+cast-n c = search needs
+
+loop-holds : tie.Need-loop-holds Inv-loop μ-loop
+loop-holds c = dirty-none _ (c .pre) _ refl
+
+mul-area : tie.Need-mul-area Inv-loop μ-loop
+mul-area c = omega (arith, c .before .before .pre .len, c .loop-test .taken)
+
+element-copy-out-area : tie.Need-element-copy-out-area Inv-loop μ-loop
+element-copy-out-area c = omega (arith, c .before .before .pre .len, c .loop-test .taken)
+
+rect-requires : tie.Need-rect-requires Inv-loop μ-loop
+rect-requires c κs = search needs
+
+put-requires : tie.Need-put-requires Inv-loop μ-loop
+put-requires c κs = omega (arith, c .before .before .before .before .before .pre .len, c .before .before .before .loop-test .taken)
+
+add-i : tie.Need-add-i Inv-loop μ-loop
+add-i c = omega (arith, c .before .before .before .before .before .before .pre .len, c .before .before .before .before .loop-test .taken)
+
+loop-less : tie.Need-loop-less Inv-loop μ-loop
+loop-less c = omega arith
+
+loop-again : tie.Need-loop-again Inv-loop μ-loop
+loop-again c = dirty-next _ (c .before .before .before .before .before .before .pre) _ (c .before .before .before .before .before .loop .inv) (c .before .before .before .before .loop-test .taken) (rw (c .before .rect .ensures) at (c .put .ensures))
+
+returns : tie.Need-returns Inv-loop μ-loop
+returns c = fill-end (c .before .loop .inv) _ (c .loop-test .left) (dirty-count _ (c .before .before .pre))
+
+pub of-damage-spec : {M : Type 1} → statement M
+of-damage-spec =
+    tie.close
+    (tie.spec
+    Inv-loop
+    μ-loop
+    cast-n
+    loop-holds
+    mul-area
+    element-copy-out-area
+    rect-requires
+    put-requires
+    add-i
+    loop-less
+    loop-again
+    returns)

@@ -1,0 +1,5 @@
+-- The ids of an order; then what our own functions say of it, of where the windows are, and of rectangles held as numbers.
+pub mod Ids
+pub mod Order
+pub mod Frames
+pub mod Rects

@@ -1,0 +1,23 @@
+// Where the windows are by their numbers, and which numbers are in use.
+ghost use Rattle.order.specs.Frames.{FirstFree};
+use window::damage::Area;
+
+pub struct Frames {
+    pub areas: [Area; 16],
+    pub used: [bool; 16],
+}
+
+// The smallest number that is not in use; 0 where all are.
+pub fn first_free(used: [bool; 16]) -> usize
+    ensures { λ at. ⌜ FirstFree used at ⌝ }
+{
+    let mut at: usize = 0;
+    while at < 16 {
+        if used[at] {
+            at += 1;
+        } else {
+            return at;
+        }
+    }
+    0
+}

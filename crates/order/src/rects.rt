@@ -1,0 +1,76 @@
+// Up to sixteen rectangles as numbers, four for each: what the crate `visible` is lent.
+ghost use mathlib.Core.List.{[], _∷_, map};
+ghost use Prim.Native.Nat.{_≤_, _<_};
+ghost use lib.ListN.{drop};
+ghost use Rattle.window.specs.Held.{rects, RepDamage};
+ghost use Rattle.order.specs.Ids.{ids};
+ghost use Rattle.order.specs.Frames.{frameAt, Shown};
+ghost use Rattle.order.specs.Rects.{Holds, Added, fullRect};
+use crate::Place;
+use crate::WinId;
+use geom::Rect;
+use window::damage::Area;
+use window::damage::Damage;
+
+pub struct Rects {
+    pub numbers: [u32; 64],
+    pub len: usize,
+}
+
+// Writes a rectangle at place i.
+fn put(numbers: &mut [u32; 64], i: usize, r: Rect)
+    requires { ⌜ i < 16 ⌝ }
+    ensures { λ _. ⌜ Added i (now (numbers .entry)) r (now (numbers .exit)) ⌝ }
+{
+    let at = 4 * i;
+    numbers[at] = r.pos.x;
+    numbers[at + 1] = r.pos.y;
+    numbers[at + 2] = r.dims.w;
+    numbers[at + 3] = r.dims.h;
+}
+
+impl Rects {
+    // The full rectangle alone.
+    pub fn full() -> Rects
+        ensures { λ r. ⌜ Holds r (fullRect ∷ []) ⌝ }
+    {
+        let mut numbers = [0u32; 64];
+        put(&mut numbers, 0, Rect::FULL);
+        Rects { numbers, len: 1 }
+    }
+
+    // The dirty entries of a window.
+    pub fn of_damage(d: Damage) -> Rects
+        requires { ⌜ RepDamage d ⌝ }
+        ensures { λ r. ⌜ Holds r (rects d) ⌝ }
+    {
+        let n = d.len as usize;
+        let mut numbers = [0u32; 64];
+        let mut i: usize = 0;
+        while i < n {
+            let area = d.areas[i];
+            put(&mut numbers, i, area.rect());
+            i += 1;
+        }
+        Rects { numbers, len: n }
+    }
+}
+
+// The rectangles of the windows from a place on, lowest first.
+pub fn from(areas: [Area; 16], order: [WinId; 16], shown: usize, p: Place) -> Rects
+    requires { ⌜ Shown areas order shown × (p .0 ≤ shown) ⌝ }
+    ensures { λ r. ⌜ Holds r (map (frameAt areas) (drop (p .0) (ids shown order))) ⌝ }
+{
+    let mut numbers = [0u32; 64];
+    let mut next = p.0;
+    let mut i: usize = 0;
+    while next < shown {
+        let id = order[next];
+        let at = id.0 as usize;
+        let area = areas[at];
+        put(&mut numbers, i, area.rect());
+        next += 1;
+        i += 1;
+    }
+    Rects { numbers, len: i }
+}

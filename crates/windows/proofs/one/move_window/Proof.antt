@@ -1,0 +1,108 @@
+-- The window of an id in use gets its new position, and a full redraw is owed.
+use Prim.Native.Nat.{ℕ, _≤_}
+use mathlib.Core.Path.{_≡_, sym, ap, _∙_}
+use mathlib.Core.Bool.{true, false, _&&_}
+use mathlib.Core.Option.{some}
+use native.Mathlib.Omega.{arith}
+use borrow.Author.Tests.{leb-true}
+use Rattle.geom.specs.Questions.{small}
+use Rattle.geom.proofs.basics.Tests.{fst, snd}
+use Rattle.window.specs.declared.Window.{Window}
+use Rattle.window.specs.Window.{Win}
+use Rattle.window.specs.Held.{RepWindow}
+use Rattle.rules.specs.Group as Group
+use Rattle.rules.specs.Group.{used, setWin, movedTo, owing}
+use Rattle.rules.specs.Calls.{Move, does}
+use Rattle.windows.specs.declared.Session.{Session}
+use Rattle.windows.specs.declared.Shared.{Shared}
+use Rattle.windows.specs.View.{group, windowAt, Given, Meets, done}
+use Rattle.windows.specs.One.{put}
+use Rattle.windows.proofs.laws.Session.{used-at, win-at, putWindow, put-group, put-rep, withDebt, debt-group, debt-rep, refuses, gives}
+use Rattle.windows.proofs.laws.One.{accepts, not-used, shares}
+use borrow.Author.Needs.{needs}
+use Rattle.windows.proofs.one.move_window.Statement.{statement}
+use Rattle.windows.proofs.one.move_window.Tie as tie
+
+abbrev moved : ℕ → ℕ → Window → Window
+moved x y w =
+    record {
+      queue = w .queue;
+      damage = w .damage;
+      at = record { x = x; y = y; w = w .at .w; h = w .at .h };
+      cursor = w .cursor;
+      used = w .used;
+      marked = w .marked;
+    }
+
+abbrev owes : Shared → Shared
+owes k = record { order = k .order; shown = k .shown; c = k .c; focus = k .focus; owed = true }
+
+module _ (s : Session) (id x y : ℕ) (h : Given s) (u : windowAt s id .used ≡ true) where
+  in-use : used (group s) id ≡ true
+  in-use = used-at s id ∙ u
+
+  move-yes : small x && small y ≡ true → RepWindow (moved x y (windowAt s id))
+      → Meets (Move id x y) s (done (put id (moved x y (windowAt s id)) (owes (s .shared)) s) 0)
+  unfolding does Group.move
+  move-yes l r =
+      gives (Move id x y) s (withDebt (putWindow id (moved x y (windowAt s id)) s)) h (debt-rep _ (put-rep s id _ (h .rep) r)) (rw (in-use, l))
+      (debt-group (putWindow id (moved x y (windowAt s id)) s) ∙ ap owing (put-group s id _ u)
+      ∙ ap (λ (w : Win). owing (setWin id (some (movedTo x y w)) (group s))) (sym (win-at s id u)) ∙ rw (in-use, l))
+
+  too-far : small x && small y ≡ false → Meets (Move id x y) s (done s 5)
+  unfolding does Group.move
+  too-far n = refuses (Move id x y) s 4 h (rw (in-use, n))
+
+no-window : (s : Session) (id x y : ℕ) → Given s → used (group s) id ≡ false → Meets (Move id x y) s (done s 3)
+unfolding does Group.move
+no-window s id x y h u = refuses (Move id x y) s 2 h (rw u)
+
+is-used-requires : tie.Need-is-used-requires
+is-used-requires c κs = search needs
+
+small-point-requires : tie.Need-small-point-requires
+small-point-requires c κs = search needs
+
+-- question 5 passed
+near : (c : tie.After-area) → let a = c .before .before .before .before .before .args in small (a .x) && small (a .y) ≡ true
+near c = sym (c .before .before .small-point .ensures) ∙ c .before .if2 .taken
+
+low : (c : tie.After-area) → let a = c .before .before .before .before .before .args in (a .x ≤ 32767) × (a .y ≤ 32767)
+low c =
+    let a = c .before .before .before .before .before .args in
+    (leb-true (a .x) 32767 (fst (small (a .x)) (small (a .y)) (near c)), leb-true (a .y) 32767 (snd (small (a .x)) (small (a .y)) (near c)))
+
+cast-area : tie.Need-cast-area
+cast-area c = omega (arith, low c)
+
+cast-area-2 : tie.Need-cast-area-2
+cast-area-2 c = omega (arith, low c)
+
+returns : tie.Need-returns
+returns c =
+    let a = c .before .before .before .before .before .args in
+    let id = a .id .0 in
+    accepts (λ s at w k. Meets (Move id (a .x) (a .y)) s (done (put at (moved (a .x) (a .y) w) (owes k) s) 0))
+    (sym (c .before .before .before .before .is-used .ensures) ∙ c .before .before .before .if1 .taken)
+    (λ s q.
+    let r = q .rep in
+    move-yes s id (a .x) (a .y) (q .given) (q .used) (near c)
+    (record { at = record { left≤ = low c .0; top≤ = low c .1; width≤ = r .at .width≤; height≤ = r .at .height≤ }; damage = r .damage; queue = r .queue; cursor = r .cursor }))
+
+returns-2 : tie.Need-returns-2
+returns-2 c =
+    let a = c .before .before .before .before .args in
+    let id = a .id .0 in
+    accepts (λ s at w k. Meets (Move id (a .x) (a .y)) s (done (put at w k s) 5)) (sym (c .before .before .before .is-used .ensures) ∙ c .before .before .if1 .taken)
+    (λ s q. shares (λ t. Meets (Move id (a .x) (a .y)) s (done t 5)) s id (s .shared)
+    (too-far s id (a .x) (a .y) (q .given) (q .used) (sym (c .before .small-point .ensures) ∙ c .if2 .left)))
+
+returns-3 : tie.Need-returns-3
+returns-3 c =
+    let a = c .before .before .args in
+    not-used (λ s t. Meets (Move (a .id .0) (a .x) (a .y)) s (done t 3)) (sym (c .before .is-used .ensures) ∙ c .if1 .left)
+    (λ s h u. no-window s (a .id .0) (a .x) (a .y) h u)
+
+pub move-window-spec : {M : Type 1} → statement M
+move-window-spec =
+    tie.close (tie.spec is-used-requires small-point-requires cast-area cast-area-2 returns returns-2 returns-3)

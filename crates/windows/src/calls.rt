@@ -1,0 +1,134 @@
+// The calls that touch one window, by value: the function of one window, and its results put in their place.
+ghost use mathlib.Core.Path.{_≡_};
+ghost use Prim.Native.Nat.{_<_};
+ghost use Rattle.rules.specs.Calls.{Call};
+ghost use Rattle.windows.specs.View.{done, Given, Meets, MeetsStore, MeetsEvent};
+ghost use Rattle.windows.specs.One.{put};
+use crate::Changed;
+use crate::Done;
+use crate::Popped;
+use crate::Session;
+use crate::events;
+use crate::one;
+use crate::one::slot;
+use crate::store;
+use geom::Dims;
+use geom::Pos;
+use geom::Rect;
+use order::WinId;
+use window::Event;
+
+impl Session {
+    // What a function of one window made, put in its place.
+    fn put(mut self, at: usize, d: Changed) -> Done
+        requires { ⌜ Given self × (at < 16) ⌝ }
+        ensures { λ r. ⌜ r ≡ done (put at (d .window) (d .shared) self) (d .answer) ⌝ }
+    {
+        let window = d.window;
+        self.windows[at] = window;
+        let shared = d.shared;
+        self.shared = shared;
+        Done {
+            session: self,
+            answer: d.answer,
+        }
+    }
+
+    pub fn show(self, id: WinId) -> Done
+        requires { ⌜ Given self ⌝ }
+        ensures { λ r. ⌜ Meets (Call.Show (id .0)) self r ⌝ }
+    {
+        let at = slot(id);
+        let d = one::show(self.windows[at], self.shared, id);
+        self.put(at, d)
+    }
+
+    pub fn hide(self, id: WinId) -> Done
+        requires { ⌜ Given self ⌝ }
+        ensures { λ r. ⌜ Meets (Call.Hide (id .0)) self r ⌝ }
+    {
+        let at = slot(id);
+        let d = one::hide(self.windows[at], self.shared, id);
+        self.put(at, d)
+    }
+
+    pub fn drop(self, id: WinId) -> Done
+        requires { ⌜ Given self ⌝ }
+        ensures { λ r. ⌜ Meets (Call.Drop (id .0)) self r ⌝ }
+    {
+        let at = slot(id);
+        let d = one::drop(self.windows[at], self.shared, id);
+        self.put(at, d)
+    }
+
+    pub fn mark(self, id: WinId) -> Done
+        requires { ⌜ Given self ⌝ }
+        ensures { λ r. ⌜ Meets (Call.Mark (id .0)) self r ⌝ }
+    {
+        let at = slot(id);
+        let d = one::mark(self.windows[at], self.shared, id);
+        self.put(at, d)
+    }
+
+    pub fn move_window(self, id: WinId, pos: Pos) -> Done
+        requires { ⌜ Given self ⌝ }
+        ensures { λ r. ⌜ Meets (Call.Move (id .0) (pos .x) (pos .y)) self r ⌝ }
+    {
+        let at = slot(id);
+        let d = one::move_window(self.windows[at], self.shared, id, pos.x, pos.y);
+        self.put(at, d)
+    }
+
+    pub fn resize(self, id: WinId, size: Dims, store: &mut [u32]) -> Done
+        requires { ⌜ Given self ⌝ }
+        ensures { λ r. ⌜ MeetsStore (Call.Resize (id .0) (size .w) (size .h) (now (store .entry))) self r (now (store .exit)) ⌝ }
+    {
+        let at = slot(id);
+        let d = store::resize(self.windows[at], self.shared, id, size.w, size.h, store);
+        self.put(at, d)
+    }
+
+    pub fn fill(self, id: WinId, area: Rect, colour: u32, store: &mut [u32]) -> Done
+        requires { ⌜ Given self ⌝ }
+        ensures { λ r. ⌜ MeetsStore (Call.Fill (id .0) area colour (now (store .entry))) self r (now (store .exit)) ⌝ }
+    {
+        let at = slot(id);
+        let d = store::fill(self.windows[at], self.shared, id, area, colour, store);
+        self.put(at, d)
+    }
+
+    pub fn blit(self, id: WinId, area: Rect, data: &[u32], stride: usize, store: &mut [u32]) -> Done
+        requires { ⌜ Given self ⌝ }
+        ensures { λ r. ⌜ MeetsStore (Call.Blit (id .0) area (now («data» .entry)) stride (now (store .entry))) self r (now (store .exit)) ⌝ }
+    {
+        let at = slot(id);
+        let d = store::blit(self.windows[at], self.shared, id, area, stride, data, store);
+        self.put(at, d)
+    }
+
+    pub fn route(self, e: Event) -> Done
+        requires { ⌜ Given self ⌝ }
+        ensures { λ r. ⌜ Meets (Call.Route e) self r ⌝ }
+    {
+        let aim = self.aim(e);
+        let at = aim.at;
+        let d = events::tell(self.windows[at], self.shared, aim.what);
+        self.put(at, d)
+    }
+
+    pub fn pop(mut self, id: WinId) -> Popped
+        requires { ⌜ Given self ⌝ }
+        ensures { λ r. ⌜ MeetsEvent (Call.Pop (id .0)) self r ⌝ }
+    {
+        let at = slot(id);
+        let d = events::pop(self.windows[at], id);
+        let window = d.window;
+        self.windows[at] = window;
+        let event = d.event;
+        Popped {
+            session: self,
+            answer: d.answer,
+            event,
+        }
+    }
+}

@@ -1,0 +1,166 @@
+// The calls that touch one window, as functions of that window and of what the windows share. A session by value and a session behind a
+// pointer both stand on them. A refused call hands back the window and what is shared as it got them.
+ghost use mathlib.Core.Path.{_≡_};
+ghost use mathlib.Core.Bool.{_&&_};
+ghost use lib.Dec.{ltb};
+ghost use Rattle.rules.specs.Calls.{Call};
+ghost use Rattle.windows.specs.One.{At, Held, MeetsAt, CreatesAt};
+use crate::Changed;
+use crate::CreatedOne;
+use crate::NewId;
+use crate::Shared;
+use crate::small::small_point;
+use order::Place;
+use order::RenderIdx;
+use order::WinId;
+use order::close_gap;
+use order::focus_after;
+use order::get_render_idx;
+use order::places::with_window;
+use window::Window;
+
+// Where the window of an id lies: at its number. For a number that no window has it is 0, and the call is refused, whatever lies there.
+pub fn slot(id: WinId) -> usize
+    ensures { λ at. ⌜ At (id .0) at ⌝ }
+{
+    let k = id.0;
+    if k < 16 {
+        return k as usize;
+    }
+    0
+}
+
+// Question 3, of the window that lies at the id's place.
+pub fn is_used(win: Window, id: WinId) -> bool
+    ensures { λ b. ⌜ b ≡ ltb (id .0) 16 && win .used ⌝ }
+{
+    if id.0 < 16 {
+        return win.used;
+    }
+    false
+}
+
+// A window that is not shown and has no pixels, if the place of this id is free.
+pub fn create(win: Window, shared: Shared, id: WinId) -> CreatedOne
+    ensures { λ r. ⌜ CreatesAt (id .0) win shared r ⌝ }
+{
+    if win.used {
+        return CreatedOne {
+            window: win,
+            shared,
+            answer: 4,
+            id: NewId::Absent,
+        };
+    }
+    let window = Window::fresh();
+    CreatedOne {
+        window,
+        shared,
+        answer: 0,
+        id: NewId::Id(id),
+    }
+}
+
+pub fn mark(mut win: Window, shared: Shared, id: WinId) -> Changed
+    requires { ⌜ Held (id .0) win shared ⌝ }
+    ensures { λ r. ⌜ MeetsAt (Call.Mark (id .0)) (id .0) win shared r ⌝ }
+{
+    let mut answer: u32 = 3;
+    if is_used(win, id) {
+        win.marked = true;
+        answer = 0;
+    }
+    Changed {
+        window: win,
+        shared,
+        answer,
+    }
+}
+
+pub fn move_window(mut win: Window, mut shared: Shared, id: WinId, x: u32, y: u32) -> Changed
+    requires { ⌜ Held (id .0) win shared ⌝ }
+    ensures { λ r. ⌜ MeetsAt (Call.Move (id .0) x y) (id .0) win shared r ⌝ }
+{
+    let mut answer: u32 = 3;
+    if is_used(win, id) {
+        answer = 5;
+        if small_point(x, y) {
+            let mut area = win.at;
+            area.x = x as u16;
+            area.y = y as u16;
+            win.at = area;
+            shared.owed = true; // where it was is uncovered
+            answer = 0;
+        }
+    }
+    Changed {
+        window: win,
+        shared,
+        answer,
+    }
+}
+
+// On top of the order, with the focus; nothing if shown already.
+pub fn show(win: Window, mut shared: Shared, id: WinId) -> Changed
+    requires { ⌜ Held (id .0) win shared ⌝ }
+    ensures { λ r. ⌜ MeetsAt (Call.Show (id .0)) (id .0) win shared r ⌝ }
+{
+    let mut answer: u32 = 3;
+    if is_used(win, id) {
+        answer = 0;
+        let n = shared.shown;
+        let order = shared.order;
+        let idx = get_render_idx(order, n, id);
+        if let RenderIdx::Hidden = idx {
+            let longer = with_window(order, Place(n), id);
+            shared.order = longer;
+            shared.shown = n + 1;
+            shared.focus = id;
+            shared.owed = true;
+        }
+    }
+    Changed {
+        window: win,
+        shared,
+        answer,
+    }
+}
+
+// Removed from the render order; nothing if hidden.
+pub fn hide(win: Window, mut shared: Shared, id: WinId) -> Changed
+    requires { ⌜ Held (id .0) win shared ⌝ }
+    ensures { λ r. ⌜ MeetsAt (Call.Hide (id .0)) (id .0) win shared r ⌝ }
+{
+    let mut answer: u32 = 3;
+    if is_used(win, id) {
+        answer = 0;
+        let n = shared.shown;
+        let order = shared.order;
+        let idx = get_render_idx(order, n, id);
+        if let RenderIdx::At(p) = idx {
+            let closed = close_gap(order, n, p);
+            let focus = focus_after(shared.focus, id, closed, n - 1, p);
+            shared.order = closed;
+            shared.shown = n - 1;
+            shared.focus = focus;
+            shared.owed = true;
+        }
+    }
+    Changed {
+        window: win,
+        shared,
+        answer,
+    }
+}
+
+// Hides the window and frees its id; its pixels stay in the store.
+pub fn drop(win: Window, shared: Shared, id: WinId) -> Changed
+    requires { ⌜ Held (id .0) win shared ⌝ }
+    ensures { λ r. ⌜ MeetsAt (Call.Drop (id .0)) (id .0) win shared r ⌝ }
+{
+    let mut hidden = hide(win, shared, id);
+    if hidden.answer == 0 {
+        hidden.window.used = false;
+    }
+    hidden
+}
