@@ -1,17 +1,18 @@
 """How often each exported call copies the session: copies.py ARCHIVE RECORDED [--record]
 
-It reads the object code. A copy is a call of memcpy or memmove, or a `rep movs`, whose length is a constant as large as the session; so are
-sixteen copies of a window. A loop of single words is not seen; the compiler makes such loops into calls. A function that is called counts
-at each place where it is called. Printed is a line `call copies` for each exported call. It fails where a call has more copies than the
-file RECORDED says; a call that is not listed there may have none. With --record it writes that file instead.
+It reads the object code: calls of memcpy and memmove, and `rep movs`, whose length is a constant. The compiler may copy a session in parts, a
+window at a time, so the count is how many sessions all of them are together, rounded down; lengths below a part of a window are left out. A
+loop of single words is not seen; the compiler makes such loops into calls. A function that is called counts at each place where it is
+called. Printed is a line `call copies` for each exported call. It fails where a call has more copies than the file RECORDED says; a call that
+is not listed there may have none. With --record it writes that file instead.
 """
 import re
 import subprocess
 import sys
 
-# From the 16 windows of 348 bytes to the session of 5,616, rounded up to whole vectors; and one window.
-SESSION = range(5568, 5632 + 1)
-WINDOW = range(340, 384 + 1)
+# The 16 windows of 348 bytes; and the shortest part of a window that counts, its damage.
+SESSION = 16 * 348
+PART = 130
 WIDTHS = {"b": 1, "w": 2, "l": 4, "q": 8}
 KEPT_BY_CALLS = {"bx", "bp", "sp", "r12", "r13", "r14", "r15"}
 
@@ -77,7 +78,7 @@ def lengths_of(name, code, path=()):
 
 
 def copies(lengths):
-    return sum(n in SESSION for n in lengths) + sum(n in WINDOW for n in lengths) // 16
+    return sum(n for n in lengths if n >= PART) // SESSION
 
 
 def read(path):
