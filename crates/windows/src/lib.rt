@@ -1,10 +1,12 @@
-// A session: sixteen windows, the render order and the focus. Document 01, "The group". Translated from windows/mod.rs.
+// A session: sixteen windows and what they share. Document 01, "The group". Translated from windows/mod.rs.
 //
-// Each call takes the session by value and hands it back, first in its answer. A refused call hands back the session that it got.
+// Each call takes the session by value and hands it back, first in its answer. A refused call hands back the session that it got. A call that
+// touches one window is a function of that window and of what is shared, in `one`, `store` or `events`.
 //
 //     windows: [Window; 16]      0     1     2     3     4  …  15     by number; a window that is not `used` is free
-//     order:   [WinId; 16]       3     0     1     -     -  …   -     the first `shown` places, lowest first: window 1 is on top
-//              place             0     1     2                        window 2 is hidden: it is used and has no place
+//     shared: the order          3     0     1     -     -  …   -     the first `shown` places, lowest first: window 1 is on top
+//             place              0     1     2                        window 2 is hidden: it is used and has no place
+//             C, the focus, and whether a full redraw is owed
 //     the lent store             C     C     C     C     C  …   C     window i has the C pixels from i × C on, rows of its own width
 //     the lent screen            what a redraw writes, window by window in the order, each under those above it
 use geom::Rect;
