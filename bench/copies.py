@@ -1,7 +1,7 @@
 """How often each exported call copies the session: copies.py ARCHIVE RECORDED [--record]
 
 It reads the object code: calls of memcpy and memmove, and `rep movs`, whose length is a constant. The compiler may copy a session in parts, a
-window at a time, so the count is how many sessions all of them are together, rounded down; lengths below a part of a window are left out. A
+window at a time, so the count is how many sessions all of them are together, to the nearest; lengths below a part of a window are left out. A
 loop of single words is not seen; the compiler makes such loops into calls. A function that is called counts at each place where it is
 called. Printed is a line `call copies` for each exported call. It fails where a call has more copies than the file RECORDED says; a call that
 is not listed there may have none. With --record it writes that file instead.
@@ -78,7 +78,7 @@ def lengths_of(name, code, path=()):
 
 
 def copies(lengths):
-    return sum(n for n in lengths if n >= PART) // SESSION
+    return round(sum(n for n in lengths if n >= PART) / SESSION)
 
 
 def read(path):
