@@ -1,7 +1,7 @@
 -- Demand 3: "a single statement over the list, not one for each call", for every list of calls from a fresh session on.
 use Prim.Native.Nat.{ℕ, _+_, _-_, _*_, _≤_, _<_}
 use mathlib.Core.Path.{_≡_}
-use mathlib.Core.Bool.{Bool, false, not, _&&_, _||_}
+use mathlib.Core.Bool.{Bool, false, cond, not, _&&_, _||_}
 use mathlib.Core.List.{List, [], _∷_, _++_}
 use mathlib.Core.Option.{Option, none, some}
 use mathlib.Core.Logic.{_≢_}
@@ -16,10 +16,10 @@ use Rattle.rules.specs.Group.{Group, start, win}
 use Rattle.rules.specs.Order.{isIn, above}
 use Rattle.rules.specs.Visible.{Listed, visibleList, rectsOf}
 use Rattle.rules.specs.Events.{route}
-use Rattle.rules.specs.Calls.{Call, does, accepted, after}
+use Rattle.rules.specs.Calls.{Call, Made, does, byRule, accepted, after}
 use Rattle.rules.specs.Book.{Book, page, bookOf, topmost}
 use Rattle.rules.specs.Ledger.{Ledger, waiting, ledgerOf}
-use Rattle.rules.specs.Conditions.{deed, Quiet, Sized, isRedraw, noRedraw, unmarked}
+use Rattle.rules.specs.Conditions.{deed, Quiet, Sized, noRedraw, ends, wrote, beforeLast, written, unmarked}
 
 -- Pixels ----------------------------------------------------------------------------------------------------------------
 
@@ -27,33 +27,54 @@ use Rattle.rules.specs.Conditions.{deed, Quiet, Sized, isRedraw, noRedra
 abbrev pub pixelAt : List ℕ → ℕ → ℕ → ℕ → ℕ
 pixelAt screen w px py = getD screen (py * w + px) 0
 
--- what is expected at a point, by its topmost window if it has one: "at (px,py) a window has its pixel (px−x,py−y)"
+-- "at (px,py) a window has its pixel (px−x,py−y)"
+abbrev pub pixelOf : Book → ℕ → ℕ → ℕ → ℕ
+pixelOf b id px py = page b id .pixel (px - left (page b id .at)) (py - top (page b id .at))
+
+-- "every pixel under a shown window as the topmost window there has it, and every other pixel as the first left it"
 abbrev pub expected : Book → Option ℕ → ℕ → ℕ → ℕ → ℕ
 expected b none px py first = first
-expected b (some id) px py first = page b id .pixel (px - left (page b id .at)) (py - top (page b id .at))
+expected b (some id) px py first = pixelOf b id px py
+
+-- "A pixel under no shown window is then as the first left it unless a portion since has written it …; if so, it is as the last such
+-- portion left it": the calls that were made since, from the group g on
+unfoldable pub leftAt : Group → ℕ → ℕ → ℕ → ℕ → List Made → ℕ
+leftAt g w px py first [] = first
+leftAt g w px py first (m ∷ ms) =
+    leftAt (does g (m .call) .group) w px py
+    (cond (accepted g (m .call) && wrote g (deed (m .call) .draws) px py) (pixelAt (m .screen) w px py) first) ms
+
+-- "undivided redraws and … walks that a portion ended, taken then": r after the calls ks is one, all that was drawn until then "went to
+-- this screen at one size", "nobody else wrote screen or store", and "each [window shown] was marked after its last write before [its last]
+-- portion"
+pub record Ended (c w h : ℕ) (ks : List Call) (r : Call) : Type 0 where
+  pub ended : T (ends (after c ks) r)
+  pub quiet : Quiet (start c .group) none none (ks ++ (r ∷ []))
+  pub sized : Sized w h (start c .group) (ks ++ (r ∷ []))
+  pub marked : (id : ℕ) → T (isIn id (bookOf c ks .order)) → unmarked id (start c .group) false (beforeLast c id (ks ++ (r ∷ []))) ≡ false
 
 -- "any two accepted redraws in it with no accepted redraw between them": r₁ after the calls ks₁, and r₂ after ks₂ more, under the
--- conditions
+-- conditions, "with no write meanwhile". Of the first no condition is needed, and walks may have ended between them
 pub record Two (c : ℕ) (w h : ℕ) (ks₁ : List Call) (r₁ : Call) (ks₂ : List Call) (r₂ : Call) : Type 0 where
-  pub first : T (isRedraw (deed r₁ .draws) && accepted (after c ks₁) r₁)
-  pub second : T (isRedraw (deed r₂ .draws) && accepted (after c (ks₁ ++ (r₁ ∷ ks₂))) r₂)
-  pub between : T (noRedraw (after c (ks₁ ++ (r₁ ∷ []))) ks₂)
-  pub quiet : Quiet (start c .group) none none (ks₁ ++ (r₁ ∷ (ks₂ ++ (r₂ ∷ []))))
-  pub sized : Sized w h (start c .group) (ks₁ ++ (r₁ ∷ (ks₂ ++ (r₂ ∷ []))))
-  pub marked : (id : ℕ) → T (isIn id (bookOf c (ks₁ ++ (r₁ ∷ ks₂)) .order)) → unmarked id (start c .group) false (ks₁ ++ (r₁ ∷ ks₂)) ≡ false
+  pub first : T (ends (after c ks₁) r₁)
+  pub second : Ended c w h (ks₁ ++ (r₁ ∷ ks₂)) r₂
+  pub between : T (noRedraw (does (after c ks₁) r₁ .group) ks₂)
+  pub unwritten : written (start c .group) false ((ks₁ ++ (r₁ ∷ ks₂)) ++ (r₂ ∷ [])) ≡ false
 
--- "the second leaves every pixel under a shown window as the topmost window there has it, and every other pixel as the first left it":
--- two screens of w by h, and the book at the second redraw
-abbrev pub Repainted : Book → ℕ → ℕ → List ℕ → List ℕ → Type 0
-Repainted b w h first second =
-    (px py : ℕ) → px < w → py < h → pixelAt second w px py ≡ expected b (topmost b px py) px py (pixelAt first w px py)
+-- "the second leaves every pixel under a shown window as the topmost window there has it, and every other pixel as the first left it", or
+-- the last portion since that wrote it: two screens of w by h, the calls between them from the group g on, and the book at the second redraw
+abbrev pub Repainted : Book → ℕ → ℕ → Group → List ℕ → List Made → List ℕ → Type 0
+Repainted b w h g first between second =
+    (px py : ℕ) → px < w → py < h →
+    pixelAt second w px py ≡ expected b (topmost b px py) px py (leftAt g w px py (pixelAt first w px py) between)
 
 -- `Shown, above … and topmost at a point … are the book's at the second redraw`
 unfoldable pub Pixels : ℕ → List Call → Type 0
 Pixels c ks =
     (w h : ℕ) (ks₁ : List Call) (r₁ : Call) (ks₂ : List Call) (r₂ : Call) (rest : List Call) →
     ks ≡ ks₁ ++ (r₁ ∷ (ks₂ ++ (r₂ ∷ rest))) → Two c w h ks₁ r₁ ks₂ r₂ →
-    Repainted (bookOf c (ks₁ ++ (r₁ ∷ ks₂))) w h (does (after c ks₁) r₁ .screen) (does (after c (ks₁ ++ (r₁ ∷ ks₂))) r₂ .screen)
+    let o = does (after c ks₁) r₁ in
+    Repainted (bookOf c (ks₁ ++ (r₁ ∷ ks₂))) w h (o .group) (o .screen) (byRule (o .group) ks₂) (does (after c (ks₁ ++ (r₁ ∷ ks₂))) r₂ .screen)
 
 -- Presses ---------------------------------------------------------------------------------------------------------------
 

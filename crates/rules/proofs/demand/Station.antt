@@ -1,14 +1,14 @@
--- The conditions of the sentence on pixels hold of a concrete list of calls, by computation.
+-- The conditions of the sentence on pixels hold of concrete lists of calls, by computation.
 use Prim.Native.Nat.{ℕ, zero, suc}
 use mathlib.Core.Path.{_≡_, refl}
 use mathlib.Core.Bool.{false, _||_}
-use mathlib.Core.List.{_∷_, _++_}
+use mathlib.Core.List.{[], _∷_, _++_}
 use native.Mathlib.Omega.{arith}
 use lib.Dec.{T, eqb}
 use borrow.Author.Tests.{eqb-true}
 use Rattle.geom.specs.Geom as Geom
 use Rattle.geom.specs.Lists as Lists
-use Rattle.geom.proofs.basics.Tests.{is-true, clash, or-cases}
+use Rattle.geom.proofs.basics.Tests.{is-true, holds, clash, or-right, or-cases}
 use Rattle.winbuf.specs.Pixels as Pixels
 use Rattle.window.specs.Window as Window
 use Rattle.rules.specs.Group as Group
@@ -19,34 +19,123 @@ use Rattle.rules.specs.Visible as Visible
 use Rattle.rules.specs.Events as Events
 use Rattle.rules.specs.Store as Store
 use Rattle.rules.specs.Redraw as Draw
+use Rattle.rules.specs.Walk as Walk
 use Rattle.rules.specs.Calls as Calls
-use Rattle.rules.specs.Calls.{does, after}
+use Rattle.rules.specs.Calls.{does, byRule, after}
 use Rattle.rules.specs.Book as Book
 use Rattle.rules.specs.Book.{bookOf}
 use Rattle.rules.specs.Conditions as Conditions
-use Rattle.rules.specs.Conditions.{unmarked}
-use Rattle.rules.specs.Demand.{Two}
-use Rattle.rules.specs.Station.{before, first, between, second, picture}
+use Rattle.rules.specs.Conditions.{beforeLast, unmarked}
+use Rattle.rules.specs.Demand.{pixelOf, leftAt, Ended, Two}
+use Rattle.rules.specs.Station.{before, first, between, second, picture, walk, last, back, lastBack, backPicture, meanwhile, lastMeanwhile, meanwhilePicture}
 
-marked : (id : ℕ) → T (isIn id (bookOf 4 (before ++ (first ∷ between)) .order)) → unmarked id (start 4 .group) false (before ++ (first ∷ between)) ≡ false
-unfolding Geom.meets Geom.common Geom.contains Geom.containsRect Geom.pieces Geom.around Geom.ifAny Lists.outside Lists.outsideAll Lists.meetsOf Lists.listIntersect Pixels.writeRows Pixels.resizedAt Window.addDirty Window.anyContains Window.merges Window.mergeOrAppend Window.pushed Group.create Group.move Group.mark Order.show Visible.visible Events.route Store.resize Store.fill Store.filledAt Draw.redraw Calls.does Calls.run Calls.after Book.turn Book.read Book.bookOf Conditions.unmarked
-marked zero h = refl
-marked (suc zero) h = refl
-marked (suc (suc n)) h =
+-- no third window is shown
+none-else : {A : Type 0} (n : ℕ) → T (isIn (suc (suc n)) (0 ∷ 1 ∷ [])) → A
+none-else n h =
     or-cases (eqb 0 (suc (suc n))) (eqb 1 (suc (suc n)) || false) (is-true h) (λ e. absurd (omega (arith, eqb-true 0 (suc (suc n)) e)))
     (λ e. or-cases (eqb 1 (suc (suc n))) false e (λ k. absurd (omega (arith, eqb-true 1 (suc (suc n)) k))) (λ k. clash k refl))
 
+marked : (id : ℕ) → T (isIn id (bookOf 4 (before ++ (first ∷ between)) .order))
+    → unmarked id (start 4 .group) false (beforeLast 4 id ((before ++ (first ∷ between)) ++ (second ∷ []))) ≡ false
+unfolding Geom.meets Geom.common Geom.contains Geom.containsRect Geom.pieces Geom.around Geom.ifAny Lists.outside Lists.outsideAll Lists.meetsOf Lists.listIntersect Pixels.writeRows Pixels.resizedAt Window.addDirty Window.anyContains Window.merges Window.mergeOrAppend Window.pushed Group.create Group.move Group.mark Order.show Visible.visible Events.route Store.resize Store.fill Store.filledAt Draw.redraw Calls.does Calls.run Calls.after Book.turn Book.read Book.bookOf Conditions.upToLast Conditions.unmarked
+marked zero h = refl
+marked (suc zero) h = refl
+marked (suc (suc n)) h = none-else n h
+
 -- the conditions, and the screen that the second redraw leaves
 pub station : Two 4 3 2 before first between second × (does (after 4 (before ++ (first ∷ between))) second .screen ≡ picture)
-unfolding Geom.meets Geom.common Geom.contains Geom.containsRect Geom.pieces Geom.around Geom.ifAny Lists.outside Lists.outsideAll Lists.meetsOf Lists.listIntersect Pixels.writeRows Pixels.resizedAt Window.addDirty Window.anyContains Window.merges Window.mergeOrAppend Window.pushed Group.create Group.move Group.mark Order.show Visible.visible Events.route Store.resize Store.fill Store.filledAt Draw.redraw Calls.does Calls.run Calls.after Conditions.Quiet Conditions.Sized Conditions.noRedraw
+unfolding Geom.meets Geom.common Geom.contains Geom.containsRect Geom.pieces Geom.around Geom.ifAny Lists.outside Lists.outsideAll Lists.meetsOf Lists.listIntersect Pixels.writeRows Pixels.resizedAt Window.addDirty Window.anyContains Window.merges Window.mergeOrAppend Window.pushed Group.create Group.move Group.mark Order.show Visible.visible Events.route Store.resize Store.fill Store.filledAt Draw.redraw Calls.does Calls.run Calls.after Conditions.Quiet Conditions.Sized Conditions.noRedraw Conditions.written
 station = (
   record {
     first = tt;
-    second = tt;
+    second = record {
+      ended = tt;
+      quiet = (tt, tt, (tt, tt, (tt, tt, (refl, tt, (refl, tt, (refl, tt, (tt, tt, (tt, tt, (tt, tt, (tt, tt, (refl, tt, (tt, tt, (refl, tt, (tt, tt, (tt, tt, (refl, refl, tt))))))))))))))));
+      sized = (tt, (tt, (tt, (tt, (tt, (tt, (tt, (tt, (tt, (tt, ((refl, refl), (tt, (tt, (tt, (tt, (tt, ((refl, refl), tt)))))))))))))))));
+      marked = marked;
+    };
     between = tt;
-    quiet = (tt, tt, (tt, tt, (tt, tt, (refl, tt, (refl, tt, (refl, tt, (tt, tt, (tt, tt, (tt, tt, (tt, tt, (refl, tt, (tt, tt, (refl, tt, (tt, tt, (tt, tt, (refl, refl, tt))))))))))))))));
-    sized = (tt, (tt, (tt, (tt, (tt, (tt, (tt, (tt, (tt, (tt, ((refl, refl), (tt, (tt, (tt, (tt, (tt, ((refl, refl), tt)))))))))))))))));
-    marked = marked;
+    unwritten = refl;
   },
+  refl,
+)
+
+marked-walk : (id : ℕ) → T (isIn id (bookOf 4 (before ++ (first ∷ (between ++ walk))) .order))
+    → unmarked id (start 4 .group) false (beforeLast 4 id ((before ++ (first ∷ (between ++ walk))) ++ (last ∷ []))) ≡ false
+unfolding Geom.meets Geom.common Geom.contains Geom.containsRect Geom.pieces Geom.around Geom.ifAny Lists.outside Lists.outsideAll Lists.meetsOf Lists.listIntersect Pixels.writeRows Pixels.resizedAt Window.addDirty Window.anyContains Window.merges Window.mergeOrAppend Window.pushed Group.create Group.move Group.mark Order.show Visible.visible Events.route Store.resize Store.fill Store.filledAt Draw.redraw Walk.begin Walk.portion Calls.does Calls.run Calls.after Book.turn Book.read Book.bookOf Conditions.upToLast Conditions.unmarked
+marked-walk zero h = refl
+marked-walk (suc zero) h = refl
+marked-walk (suc (suc n)) h = none-else n h
+
+-- the same of the walk
+pub station-walk : Two 4 3 2 before first (between ++ walk) last × (does (after 4 (before ++ (first ∷ (between ++ walk)))) last .screen ≡ picture)
+unfolding Geom.meets Geom.common Geom.contains Geom.containsRect Geom.pieces Geom.around Geom.ifAny Lists.outside Lists.outsideAll Lists.meetsOf Lists.listIntersect Pixels.writeRows Pixels.resizedAt Window.addDirty Window.anyContains Window.merges Window.mergeOrAppend Window.pushed Group.create Group.move Group.mark Order.show Visible.visible Events.route Store.resize Store.fill Store.filledAt Draw.redraw Walk.begin Walk.portion Calls.does Calls.run Calls.after Conditions.Quiet Conditions.Sized Conditions.noRedraw Conditions.written
+station-walk = (
+  record {
+    first = tt;
+    second = record {
+      ended = tt;
+      quiet = (tt, tt, (tt, tt, (tt, tt, (refl, tt, (refl, tt, (refl, tt, (tt, tt, (tt, tt, (tt, tt, (tt, tt, (refl, tt, (tt, tt, (refl, tt, (tt, tt, (tt, tt, (tt, tt, (refl, refl, (tt, tt, (refl, refl, tt)))))))))))))))))));
+      sized = (tt, (tt, (tt, (tt, (tt, (tt, (tt, (tt, (tt, (tt, ((refl, refl), (tt, (tt, (tt, (tt, (tt, (tt, ((refl, refl), (tt, ((refl, refl), tt))))))))))))))))))));
+      marked = marked-walk;
+    };
+    between = tt;
+    unwritten = refl;
+  },
+  refl,
+)
+
+-- A walk that is sent back -------------------------------------------------------------------------------------------
+
+marked-back : (id : ℕ) → T (isIn id (bookOf 4 (before ++ (first ∷ back)) .order))
+    → unmarked id (start 4 .group) false (beforeLast 4 id ((before ++ (first ∷ back)) ++ (lastBack ∷ []))) ≡ false
+unfolding Geom.meets Geom.common Geom.contains Geom.containsRect Geom.pieces Geom.around Geom.ifAny Lists.outside Lists.outsideAll Lists.meetsOf Lists.listIntersect Pixels.writeRows Pixels.resizedAt Window.addDirty Window.anyContains Window.merges Window.mergeOrAppend Window.pushed Group.create Group.move Group.mark Order.show Order.hide Visible.visible Events.route Store.resize Store.fill Store.filledAt Draw.redraw Walk.begin Walk.portion Calls.does Calls.run Calls.after Book.turn Book.read Book.bookOf Conditions.upToLast Conditions.unmarked
+marked-back zero h = absurd h
+marked-back (suc zero) h = refl
+marked-back (suc (suc n)) h = none-else n (holds (or-right (eqb 0 (suc (suc n))) _ (is-true {t = eqb 1 (suc (suc n)) || false} h)))
+
+-- the conditions, the screen, and what `leftAt` says of the points (1,0) and (2,0)
+pub station-back : Two 4 3 2 before first back lastBack × (does (after 4 (before ++ (first ∷ back))) lastBack .screen ≡ backPicture)
+    × (leftAt (does (after 4 before) first .group) 3 1 0 7 (byRule (does (after 4 before) first .group) back) ≡ 6)
+    × (leftAt (does (after 4 before) first .group) 3 2 0 5 (byRule (does (after 4 before) first .group) back) ≡ 5)
+unfolding Geom.meets Geom.common Geom.contains Geom.containsRect Geom.pieces Geom.around Geom.ifAny Lists.outside Lists.outsideAll Lists.meetsOf Lists.listIntersect Pixels.writeRows Pixels.resizedAt Window.addDirty Window.anyContains Window.merges Window.mergeOrAppend Window.pushed Group.create Group.move Group.mark Order.show Order.hide Visible.visible Events.route Store.resize Store.fill Store.filledAt Draw.redraw Walk.begin Walk.portion Calls.does Calls.run Calls.after Calls.byRule Conditions.Quiet Conditions.Sized Conditions.noRedraw Conditions.written leftAt
+station-back = (
+  record {
+    first = tt;
+    second = record {
+      ended = tt;
+      quiet = (tt, tt, (tt, tt, (tt, tt, (refl, tt, (refl, tt, (refl, tt, (tt, tt, (tt, tt, (tt, tt, (tt, tt, (refl, tt, (refl, tt, (tt, tt, (tt, tt, (refl, refl, (tt, tt, (refl, refl, tt)))))))))))))))));
+      sized = (tt, (tt, (tt, (tt, (tt, (tt, (tt, (tt, (tt, (tt, ((refl, refl), (tt, (tt, (tt, ((refl, refl), (tt, ((refl, refl), tt)))))))))))))))));
+      marked = marked-back;
+    };
+    between = tt;
+    unwritten = refl;
+  },
+  refl,
+  refl,
+  refl,
+)
+
+-- A write meanwhile --------------------------------------------------------------------------------------------------
+
+marked-meanwhile : (id : ℕ) → T (isIn id (bookOf 4 meanwhile .order)) → unmarked id (start 4 .group) false (beforeLast 4 id (meanwhile ++ (lastMeanwhile ∷ []))) ≡ false
+unfolding Geom.meets Geom.common Geom.contains Geom.containsRect Geom.pieces Geom.around Geom.ifAny Lists.outside Lists.outsideAll Lists.meetsOf Lists.listIntersect Pixels.writeRows Pixels.resizedAt Window.addDirty Window.anyContains Window.merges Window.mergeOrAppend Window.pushed Group.create Group.move Group.mark Order.show Order.hide Visible.visible Events.route Store.resize Store.fill Store.filledAt Draw.redraw Walk.begin Walk.portion Calls.does Calls.run Calls.after Book.turn Book.read Book.bookOf Conditions.upToLast Conditions.unmarked
+marked-meanwhile zero h = refl
+marked-meanwhile (suc zero) h = refl
+marked-meanwhile (suc (suc n)) h = none-else n h
+
+-- the conditions, the screen, and the book's pixel (1,0) of window 0 at its last portion and now
+pub station-meanwhile : Ended 4 3 2 meanwhile lastMeanwhile × (does (after 4 meanwhile) lastMeanwhile .screen ≡ meanwhilePicture)
+    × (pixelOf (bookOf 4 (beforeLast 4 0 (meanwhile ++ (lastMeanwhile ∷ [])))) 0 1 0 ≡ 7) × (pixelOf (bookOf 4 meanwhile) 0 1 0 ≡ 6)
+unfolding Geom.meets Geom.common Geom.contains Geom.containsRect Geom.pieces Geom.around Geom.ifAny Lists.outside Lists.outsideAll Lists.meetsOf Lists.listIntersect Pixels.writeRows Pixels.resizedAt Window.addDirty Window.anyContains Window.merges Window.mergeOrAppend Window.pushed Group.create Group.move Group.mark Order.show Order.hide Visible.visible Events.route Store.resize Store.fill Store.filledAt Draw.redraw Walk.begin Walk.portion Calls.does Calls.run Calls.after Book.turn Book.read Book.bookOf Conditions.Quiet Conditions.Sized Conditions.upToLast
+station-meanwhile = (
+  record {
+    ended = tt;
+    quiet = (tt, tt, (tt, tt, (tt, tt, (refl, tt, (refl, tt, (refl, tt, (tt, tt, (tt, tt, (tt, tt, (tt, tt, (tt, tt, (refl, tt, (refl, tt, (refl, refl, tt))))))))))))));
+    sized = (tt, (tt, (tt, (tt, (tt, (tt, (tt, (tt, (tt, (tt, (tt, ((refl, refl), (tt, ((refl, refl), tt))))))))))))));
+    marked = marked-meanwhile;
+  },
+  refl,
+  refl,
   refl,
 )

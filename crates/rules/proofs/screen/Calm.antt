@@ -1,18 +1,20 @@
--- What an accepted call that is no redraw keeps, if it leaves no full redraw owed: the order, and of each shown window its place,
--- its damage, and its mark where it owes none.
-use Prim.Native.Nat.{ℕ, _<_}
-use mathlib.Core.Bool.{Bool, true, false, cond}
+-- What an accepted call that draws nothing keeps, if it owes no full redraw: the order, the debt and the walk, and of each shown window its
+-- place, its damage, and its mark where it owes none.
+use Prim.Native.Nat.{ℕ, suc, _<_}
+use mathlib.Core.Bool.{Bool, true, false, cond, not, _&&_, _||_}
 use mathlib.Core.Path.{_≡_, refl, sym, ap}
-use mathlib.Core.List.{List, [], _∷_}
-use mathlib.Core.Option.{none, some}
+use mathlib.Core.List.{List, [], _∷_, _++_}
+use mathlib.Core.Option.{Option, none, some, Option·some-ne-none}
 use mathlib.Core.Logic.{_⊎_, inl, inr, _≢_}
+use native.Mathlib.Omega.{arith}
 use lib.Dec.{eqb}
+use lib.ListN.{length}
 use lib.Seq.{getD-set-other}
-use borrow.Author.Tests.{eq-eqb, ne-eqb}
+use borrow.Author.Tests.{lt-leb, eq-eqb, ne-eqb}
 use Rattle.geom.specs.declared.Rect.{Rect}
 use Rattle.geom.specs.Geom.{width, height}
 use Rattle.geom.specs.Lists.{anyHas}
-use Rattle.geom.proofs.basics.Tests.{clash, on-cond, cond-yes}
+use Rattle.geom.proofs.basics.Tests.{clash, snd, on-cond, cond-yes}
 use Rattle.geom.proofs.basics.Lists.{set-in}
 use Rattle.window.specs.declared.Event.{Event}
 use Rattle.window.specs.Window.{Win, newWin}
@@ -20,11 +22,12 @@ use Rattle.window.proofs.laws.Damage.{addDirty-old}
 use Rattle.rules.specs.Group as Group
 use Rattle.rules.specs.Store as Store
 use Rattle.rules.specs.Events as Events
-use Rattle.rules.specs.Group.{Group, win, setWin, theWin}
-use Rattle.rules.specs.Order.{shown}
+use Rattle.rules.specs.Group.{Group, Walk, used, win, setWin, isOver, sentBack, theWin}
+use Rattle.rules.specs.Order.{isIn, without, shown}
 use Rattle.rules.specs.Events.{topmost, afterPop}
-use Rattle.rules.specs.Calls.{Call, Create, Show, Hide, Drop, Mark, Pop, Move, Resize, Fill, Blit, Route, Redraw, does, accepted}
-use Rattle.rules.specs.Conditions.{deed, owesMark, isRedraw}
+use Rattle.rules.specs.Walk.{doneOf}
+use Rattle.rules.specs.Calls.{Call, Create, Show, Hide, Drop, Mark, Pop, Move, Resize, Fill, Blit, Route, Redraw, Begin, Portion, does, accepted}
+use Rattle.rules.specs.Conditions.{deed, lentScreen, owesMark}
 use Rattle.rules.proofs.group.Topmost.{topmost-same}
 use Rattle.rules.proofs.group.Steps.{on-create, on-show, on-hide, on-drop, on-move, on-pop, on-key, on-pointer, on-pointed, on-route, on-resize, on-fill, on-blit}
 use Rattle.rules.proofs.group.Invariant.{Ok, used-below, free-place}
@@ -42,6 +45,7 @@ pub record Calm (g g′ : Group) (f : ℕ → Bool → Bool) : Type 0 where
   pub c : g′ .c ≡ g .c
   pub order : g′ .order ≡ g .order
   pub owed : g′ .owed ≡ g .owed
+  pub walk : g′ .walk ≡ g .walk
   pub each : (id : ℕ) → shown g id ≡ true → Keeps (win g id) (win g′ id) (f id)
 
 -- the topmost window is the same
@@ -59,7 +63,7 @@ keeps-same v v′ f a m d k = record { at = a; damage = λ col row x y h. rw d h
 
 -- nothing changes
 calm-refl : (g : Group) (f : ℕ → Bool → Bool) → ((id : ℕ) → Keen (f id)) → Calm g g f
-calm-refl g f k = record { c = refl; order = refl; owed = refl; each = λ id h. keeps-same (win g id) (win g id) (f id) refl refl refl (k id) }
+calm-refl g f k = record { c = refl; order = refl; owed = refl; walk = refl; each = λ id h. keeps-same (win g id) (win g id) (f id) refl refl refl (k id) }
 
 -- a window is set
 calm-set : (g : Group) → Ok g → (i : ℕ) (v : Win) (f : ℕ → Bool → Bool) → (shown g i ≡ true → Keeps (win g i) v (f i))
@@ -68,6 +72,7 @@ calm-set g ok i v f h k = record {
   c = refl;
   order = refl;
   owed = refl;
+  walk = refl;
   each = λ id s.
       set-in (λ o. Keeps (win g id) (theWin o) (f id)) (g .windows) i id (some v) none (λ e. rw e at (used-below g id (ok .shown-used id s)))
       (λ e. rw e (h (rw e at s))) (λ ne. keeps-same (win g id) (win g id) (f id) refl refl refl (k id ne));
@@ -79,6 +84,7 @@ calm-free g i f h k = record {
   c = refl;
   order = refl;
   owed = refl;
+  walk = refl;
   each = λ id s.
       let e = getD-set-other (g .windows) i id none none (λ q. clash (rw q at s) h) in
       keeps-same (win g id) (win (setWin i none g) id) (f id) (ap (λ w. theWin w .at) e) (ap (λ w. theWin w .marked) e) (ap (λ w. theWin w .damage) e) (k id);
@@ -90,9 +96,23 @@ calm-free g i f h k = record {
 abbrev pub flag : Group → Call → ℕ → Bool → Bool
 flag g k id u = owesMark id (does g k .id) u (deed k)
 
--- a call leaves a full redraw owed, or keeps that much
+-- a window that is on the screen: no full redraw is owed, or the walk has treated it
+abbrev pub fine : Group → ℕ → Bool
+fine g id = not (g .owed) || isIn id (doneOf (g .order) (g .walk))
+
+-- no window is
+abbrev pub NoneFine : Group → Type 0
+NoneFine g = (id : ℕ) → shown g id ≡ true → fine g id ≡ false
+
+sent-back : (o : List ℕ) (v : Option Walk) (id : ℕ) → isIn id o ≡ true
+    → not (true && not (isOver o (sentBack v))) || isIn id (doneOf o (cond (isOver o (sentBack v)) none (sentBack v))) ≡ false
+sent-back o none id s = refl
+sent-back [] (some v) id s = clash s refl
+sent-back (i ∷ o) (some v) id s = rw (lt-leb (suc (length o)) 0 (omega arith))
+
+-- a call owes a full redraw, or keeps that much
 abbrev pub Stays : Group → Call → Group → Type 0
-Stays g k g′ = (g′ .owed ≡ true) ⊎ Calm g g′ (flag g k)
+Stays g k g′ = ((deed k .owes g ≡ true) × NoneFine g′) ⊎ Calm g g′ (flag g k)
 
 module _ (g : Group) (ok : Ok g) where
   -- most calls leave it as it was who owes a mark
@@ -159,23 +179,29 @@ module _ (g : Group) (ok : Ok g) where
       (inr (calm-set g ok i _ (flag g (Mark i)) (λ s. record { at = refl; damage = λ col row x y h. h; marks = λ u e. inr refl })
       (λ id ne u e. rw (ne-eqb i id (λ k. ne (sym k))) at e)))
 
-  pub stays : (k : Call) → isRedraw (deed k .draws) ≡ false → accepted g k ≡ true → Stays g k (does g k .group)
+  pub resize-none-fine : (i w h : ℕ) (s : List ℕ) → accepted g (Resize i w h s) ≡ true → NoneFine (does g (Resize i w h s) .group)
+  unfolding does Store.resize
+  resize-none-fine i w h s y = cond-yes NoneFine _ _ _ y (sent-back (g .order) (g .walk))
+
+  pub stays : (k : Call) → lentScreen k ≡ none → deed k .begins ≡ false → accepted g k ≡ true → Stays g k (does g k .group)
   unfolding does
-  stays Create r e = stays-create e
-  stays (Show i) r e = on-show (Stays g (Show i)) g i (λ u. inl refl) (λ u. inr as-it-was)
-  stays (Hide i) r e =
-      on-hide (Stays g (Hide i)) g i (λ u. on-cond (Stays g (Hide i)) (shown g i) _ _ (λ s. inl refl) (λ s. inr as-it-was)) (λ u. inr as-it-was)
-  stays (Drop i) r e =
+  stays Create r b e = stays-create e
+  stays (Show i) r b e = on-show (Stays g (Show i)) g i (λ u. inl (snd (used g i) _ u, sent-back (g .order ++ (i ∷ [])) (g .walk))) (λ u. inr as-it-was)
+  stays (Hide i) r b e =
+      on-hide (Stays g (Hide i)) g i (λ u. on-cond (Stays g (Hide i)) (shown g i) _ _ (λ s. inl (s, sent-back (without i (g .order)) (g .walk))) (λ s. inr as-it-was)) (λ u. inr as-it-was)
+  stays (Drop i) r b e =
       on-drop (Stays g (Drop i)) g i
-      (λ u. on-cond (λ x. Stays g (Drop i) (setWin i none x)) (shown g i) _ _ (λ s. inl refl) (λ s. inr (calm-free g i as-was s (λ id u e. e))))
+      (λ u. on-cond (λ x. Stays g (Drop i) (setWin i none x)) (shown g i) _ _ (λ s. inl (s, sent-back (without i (g .order)) (g .walk))) (λ s. inr (calm-free g i as-was s (λ id u e. e))))
       (λ u. inr as-it-was)
-  stays (Mark i) r e = stays-mark i e
-  stays (Pop i) r e = on-pop (Stays g (Pop i)) g i (λ u. inr (calm-pop i (win g i .queue) (win g i .cursor .«is_dirty»))) (λ u. inr as-it-was)
-  stays (Move i x y) r e = on-move (Stays g (Move i x y)) g i x y (λ u. inl refl) (λ u. inr as-it-was)
-  stays (Resize i w h s) r e = on-resize (λ x t. Stays g (Resize i w h s) x) g i w h s (λ u. inl refl) (λ u. inr as-it-was)
-  stays (Fill i a v s) r e =
+  stays (Mark i) r b e = stays-mark i e
+  stays (Pop i) r b e = on-pop (Stays g (Pop i)) g i (λ u. inr (calm-pop i (win g i .queue) (win g i .cursor .«is_dirty»))) (λ u. inr as-it-was)
+  stays (Move i x y) r b e = on-move (Stays g (Move i x y)) g i x y (λ u. inl (refl, sent-back (g .order) (g .walk))) (λ u. inr as-it-was)
+  stays (Resize i w h s) r b e = on-resize (λ x t. Stays g (Resize i w h s) x) g i w h s (λ u. inl (refl, sent-back (g .order) (g .walk))) (λ u. inr as-it-was)
+  stays (Fill i a v s) r b e =
       on-fill (λ x t. Stays g (Fill i a v s) x) g i a v s (λ u m. inr (calm-damage i _)) (λ u m. inr (calm-write i)) (λ u. inr (calm-write i))
-  stays (Blit i a d stride s) r e =
+  stays (Blit i a d stride s) r b e =
       on-blit (λ x t. Stays g (Blit i a d stride s) x) g i a d stride s (λ u m. inr (calm-write i)) (λ u m. inr (calm-damage i _)) (λ u. inr (calm-write i))
-  stays (Route v) r e = inr (calm-route v)
-  stays (Redraw told w h s screen) r e = clash refl r
+  stays (Route v) r b e = inr (calm-route v)
+  stays (Redraw told w h s screen) r b e = absurd (Option·some-ne-none screen r)
+  stays (Begin told) r b e = clash refl b
+  stays (Portion w h s screen) r b e = absurd (Option·some-ne-none screen r)
