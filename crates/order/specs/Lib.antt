@@ -1,5 +1,6 @@
--- The ids of an order; then what our own functions say of it, of where the windows are, and of rectangles held as numbers.
+-- The ids of an order; then what our own functions say of it, of where the windows are, of rectangles held as numbers, and of what is due.
 pub mod Ids
 pub mod Order
 pub mod Frames
 pub mod Rects
+pub mod Due

@@ -11,6 +11,7 @@ ghost use Rattle.order.specs.Order.{noId, idxOf, renderIdx, Closed, Mark
 use places::window_at;
 use places::with_window;
 
+pub mod due;
 pub mod frames;
 pub mod places;
 pub mod rects;

@@ -1,5 +1,6 @@
 -- The view, the two ends of a call, and what each call does to the session.
 pub mod Session
+pub mod Shared
 pub mod One
 pub mod Places
 pub mod Frames
@@ -13,6 +14,7 @@ pub mod Listed
 pub mod Full
 pub mod Cleaned
 pub mod Drawn
+pub mod Portions
 pub mod Parts
 pub mod Popping
 pub mod Telling

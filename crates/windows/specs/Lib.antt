@@ -4,6 +4,7 @@ pub mod Run
 pub mod One
 pub mod Frames
 pub mod Drawing
+pub mod Walk
 pub mod Pixels
 pub mod Events
 pub mod Aimed

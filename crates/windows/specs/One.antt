@@ -11,6 +11,7 @@ use Rattle.rules.specs.Calls.{Call, Create}
 use Rattle.windows.specs.declared.Shared.{Shared}
 use Rattle.windows.specs.declared.Session.{Session}
 use Rattle.windows.specs.declared.Changed.{Changed}
+use Rattle.windows.specs.declared.SharedDone.{SharedDone}
 use Rattle.windows.specs.declared.CreatedOne.{CreatedOne}
 use Rattle.windows.specs.declared.FreeSlot.{FreeSlot}
 use Rattle.windows.specs.View.{group, windowAt, done, Given, Meets, MeetsStore, MeetsId}
@@ -46,6 +47,10 @@ MeetsAt call id w k r =
 abbrev pub MeetsStoreAt : Call → ℕ → Window → Shared → Changed → List ℕ → Type 0
 MeetsStoreAt call id w k r store =
     (s : Session) (at : ℕ) → Holds id w k s at → MeetsStore call s (done (put at (r .window) (r .shared) s) (r .answer)) store
+
+-- the same of a call that touches what the windows share and no window: every session that shares this, with what the call makes of it
+abbrev pub MeetsShared : Call → Shared → SharedDone → Type 0
+MeetsShared call k r = (s : Session) → Given s → s .shared ≡ k → Meets call s (done (record { windows = s .windows; shared = r .shared }) (r .answer))
 
 -- a place for the next window: that of the smallest unused number, or any where no number is left
 pub record Free (s : Session) (f : FreeSlot) : Type 0 where

@@ -1,29 +1,22 @@
 -- Demand 3 of the program: the calls that a caller made, each meeting its contract, and what they left.
-use Prim.Native.Nat.{ℕ, _≤_}
+use Prim.Native.Nat.{ℕ, _≤_, _<_}
 use mathlib.Core.Path.{_≡_}
 use mathlib.Core.List.{List, [], _∷_, _++_, map}
 use mathlib.Core.Option.{Option, none, some}
 use lib.Dec.{T}
 use Rattle.rules.specs.Group.{Group, start}
 use Rattle.rules.specs.Order.{isIn}
-use Rattle.rules.specs.Calls.{Call, Route, does, after}
-use Rattle.rules.specs.Book.{bookOf}
+use Rattle.rules.specs.Calls.{Call, Made, Route, does, after}
+use Rattle.rules.specs.Book.{bookOf, topmost}
 use Rattle.rules.specs.Ledger.{ledgerOf}
-use Rattle.rules.specs.Conditions.{lentStore, lentScreen}
-use Rattle.rules.specs.Demand.{Two, Repainted, Press, pressAt, Pressed, ListShows}
+use Rattle.rules.specs.Conditions.{lentStore, lentScreen, beforeLast}
+use Rattle.rules.specs.Demand.{pixelAt, pixelOf, Ended, Two, Repainted, Press, pressAt, Pressed, ListShows}
 use Rattle.windows.specs.declared.Session.{Session}
 use Rattle.windows.specs.declared.Done.{Done}
 use Rattle.windows.specs.declared.Listing.{Listing}
 use Rattle.windows.specs.View.{group, Meets, done, Starts, Lists}
 
 -- The calls that were made ----------------------------------------------------------------------------------------------
-
--- a call with its arguments and what it was lent, its answer, and the store and the screen as it left them, where it was lent them
-pub record Made : Type 0 where
-  pub call : Call
-  pub answer : ℕ
-  pub store : List ℕ
-  pub screen : List ℕ
 
 abbrev pub calls : List Made → List Call
 calls ms = map (λ m. m .call) ms
@@ -57,12 +50,19 @@ AsRuled g (m ∷ ms) =
     × LeftAs (lentScreen (m .call)) (m .screen) (does g (m .call) .screen)
     × AsRuled (does g (m .call) .group) ms
 
--- the pixels: the screens are those that the two redraws left
+-- the pixels: the screens are those that the two redraws left, and the portions between them
 unfoldable pub RunPixels : ℕ → List Made → Type 0
 RunPixels c ms =
     (w h : ℕ) (ms₁ : List Made) (m₁ : Made) (ms₂ : List Made) (m₂ : Made) (rest : List Made) →
     ms ≡ ms₁ ++ (m₁ ∷ (ms₂ ++ (m₂ ∷ rest))) → Two c w h (calls ms₁) (m₁ .call) (calls ms₂) (m₂ .call) →
-    Repainted (bookOf c (calls ms₁ ++ (m₁ .call ∷ calls ms₂))) w h (m₁ .screen) (m₂ .screen)
+    Repainted (bookOf c (calls ms₁ ++ (m₁ .call ∷ calls ms₂))) w h (does (after c (calls ms₁)) (m₁ .call) .group) (m₁ .screen) ms₂ (m₂ .screen)
+
+-- the pixels under windows when a walk's last portion ends: the screen is the one that this portion left
+unfoldable pub RunPortions : ℕ → List Made → Type 0
+RunPortions c ms =
+    (w h : ℕ) (ms₁ : List Made) (m : Made) (rest : List Made) → ms ≡ ms₁ ++ (m ∷ rest) → Ended c w h (calls ms₁) (m .call) →
+    (px py id : ℕ) → px < w → py < h → topmost (bookOf c (calls ms₁)) px py ≡ some id →
+    pixelAt (m .screen) w px py ≡ pixelOf (bookOf c (beforeLast c id (calls ms₁ ++ (m .call ∷ [])))) id px py
 
 -- the presses: r is what a call of `route` then gives
 unfoldable pub RunPresses : ℕ → List Made → Session → Type 0
@@ -80,4 +80,4 @@ RunVisibles c ms s =
 unfoldable pub ProgramDemand3 : Type 0
 ProgramDemand3 =
     (c : ℕ) (ms : List Made) (s : Session) → Run c ms s →
-    (group s ≡ after c (calls ms)) × AsRuled (start c .group) ms × RunPixels c ms × RunPresses c ms s × RunVisibles c ms s
+    (group s ≡ after c (calls ms)) × AsRuled (start c .group) ms × RunPixels c ms × RunPortions c ms × RunPresses c ms s × RunVisibles c ms s

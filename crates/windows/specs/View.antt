@@ -12,8 +12,10 @@ use Rattle.window.specs.declared.Event.{Event}
 use Rattle.window.specs.Window.{Win}
 use Rattle.window.specs.Held.{winOf, RepWindow}
 use Rattle.rules.specs.Group.{Group, start, used, win}
+use Rattle.rules.specs.Group as Rule
 use Rattle.rules.specs.Visible.{visibleList}
 use Rattle.rules.specs.Calls.{Call, does, after}
+use Rattle.order.specs.declared.due.Walk.{Walk}
 use Rattle.order.specs.Ids.{ids}
 use Rattle.windows.specs.declared.Session.{Session}
 use Rattle.windows.specs.declared.Done.{Done}
@@ -32,6 +34,10 @@ use Rattle.windows.specs.declared.Listing.{Listing}
 unfoldable pub cell : Window → Option Win
 cell w = cond (w .used) (some (winOf w)) none
 
+-- the walk that is on
+unfoldable pub walkOf : Walk → Option Rule.Walk
+walkOf v = cond (v .on) (some (record { done = v .next .0; full = v .full })) none
+
 -- the group that a session holds
 unfoldable pub group : Session → Group
 group s =
@@ -40,7 +46,8 @@ group s =
       windows = map cell (s .windows);
       order = ids (s .shared .shown) (s .shared .order);
       focus = s .shared .focus .0;
-      owed = s .shared .owed;
+      owed = s .shared .due .owed;
+      walk = walkOf (s .shared .due .walk);
     }
 
 -- Which sessions there are ----------------------------------------------------------------------------------------------

@@ -1,8 +1,8 @@
-// The calls that touch one window, by value: the function of one window, and its results put in their place.
+// The calls that touch one window, or only what the windows share, by value: the function of one window, and its results put in their place.
 ghost use mathlib.Core.Path.{_≡_};
 ghost use Prim.Native.Nat.{_<_};
 ghost use Rattle.rules.specs.Calls.{Call};
-ghost use Rattle.windows.specs.View.{done, Given, Meets, MeetsStore, MeetsEvent};
+ghost use Rattle.windows.specs.View.{done, Given, Meets, MeetsStore, MeetsScreen, MeetsEvent};
 ghost use Rattle.windows.specs.One.{put};
 use crate::Changed;
 use crate::Done;
@@ -11,6 +11,7 @@ use crate::Session;
 use crate::events;
 use crate::one;
 use crate::one::slot;
+use crate::portion;
 use crate::store;
 use geom::Dims;
 use geom::Pos;
@@ -130,5 +131,36 @@ impl Session {
             answer: d.answer,
             event,
         }
+    }
+
+    pub fn begin(mut self, told: bool) -> Done
+        requires { ⌜ Given self ⌝ }
+        ensures { λ r. ⌜ Meets (Call.Begin told) self r ⌝ }
+    {
+        let d = portion::begin(self.shared, told);
+        let shared = d.shared;
+        self.shared = shared;
+        Done {
+            session: self,
+            answer: d.answer,
+        }
+    }
+
+    pub fn portion(self, store: &[u32], screen: &mut [u32], width: u32, height: u32) -> Done
+        requires { ⌜ Given self ⌝ }
+        ensures { λ r. ⌜ MeetsScreen (Call.Portion width height (now (store .entry)) (now (screen .entry))) self r (now (screen .exit)) ⌝ }
+    {
+        let turn = self.turn();
+        let at = turn.at;
+        let d = portion::treat(
+            self.windows[at],
+            self.shared,
+            turn.next,
+            width,
+            height,
+            store,
+            screen,
+        );
+        self.put(at, d)
     }
 }

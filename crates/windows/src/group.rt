@@ -13,6 +13,8 @@ use crate::Shared;
 use crate::one;
 use geom::Rect;
 use order::WinId;
+use order::due::Due;
+use order::due::Walk;
 use order::frames::first_free;
 use window::Window;
 
@@ -23,12 +25,16 @@ impl Session {
     {
         let windows = [Window::unused(); 16];
         let order = [WinId(0); 16];
+        let due = Due {
+            walk: Walk::none(),
+            owed: true,
+        };
         let shared = Shared {
             order,
             shown: 0,
             c,
             focus: WinId(0),
-            owed: true,
+            due,
         };
         Session { windows, shared }
     }

@@ -6,11 +6,12 @@
 //     windows: [Window; 16]      0     1     2     3     4  …  15     by number; a window that is not `used` is free
 //     shared: the order          3     0     1     -     -  …   -     the first `shown` places, lowest first: window 1 is on top
 //             place              0     1     2                        window 2 is hidden: it is used and has no place
-//             C, the focus, and whether a full redraw is owed
+//             C, the focus, whether a full redraw is owed, and the walk of a redraw that goes window by window
 //     the lent store             C     C     C     C     C  …   C     window i has the C pixels from i × C on, rows of its own width
 //     the lent screen            what a redraw writes, window by window in the order, each under those above it
 use geom::Rect;
 use order::WinId;
+use order::due::Due;
 use window::Event;
 use window::Window;
 
@@ -20,19 +21,20 @@ mod frames;
 mod group;
 mod list;
 pub mod one;
+pub mod portion;
 pub mod redraw;
 mod small;
 pub mod store;
 
-// What the windows share: the render order, which holds the shown ones in its first `shown` places, lowest first; C; the focus; and whether
-// a full redraw is owed.
+// What the windows share: the render order, which holds the shown ones in its first `shown` places, lowest first; C; the focus; and what is
+// still to be drawn.
 #[repr(C)]
 pub struct Shared {
     pub order: [WinId; 16],
     pub shown: usize,
     pub c: u32,
     pub focus: WinId,
-    pub owed: bool,
+    pub due: Due,
 }
 
 #[repr(C)]
@@ -45,6 +47,13 @@ pub struct Session {
 #[repr(C)]
 pub struct Changed {
     pub window: Window,
+    pub shared: Shared,
+    pub answer: u32,
+}
+
+// What a call makes of what the windows share, and the answer.
+#[repr(C)]
+pub struct SharedDone {
     pub shared: Shared,
     pub answer: u32,
 }

@@ -89,7 +89,7 @@ pub fn move_window(mut win: Window, mut shared: Shared, id: WinId, x: u32, y: u3
             area.x = x as u16;
             area.y = y as u16;
             win.at = area;
-            shared.owed = true; // where it was is uncovered
+            shared = shared.owing(); // where it was is uncovered
             answer = 0;
         }
     }
@@ -116,7 +116,7 @@ pub fn show(win: Window, mut shared: Shared, id: WinId) -> Changed
             shared.order = longer;
             shared.shown = n + 1;
             shared.focus = id;
-            shared.owed = true;
+            shared = shared.owing();
         }
     }
     Changed {
@@ -143,7 +143,7 @@ pub fn hide(win: Window, mut shared: Shared, id: WinId) -> Changed
             shared.order = closed;
             shared.shown = n - 1;
             shared.focus = focus;
-            shared.owed = true;
+            shared = shared.owing();
         }
     }
     Changed {

@@ -20,6 +20,7 @@ use crate::Done;
 use crate::Session;
 use crate::Shared;
 use order::Place;
+use order::due::either;
 use order::places::window_at;
 use order::rects;
 use order::rects::Rects;
@@ -35,7 +36,7 @@ pub struct Drawn {
 }
 
 // Question 8.
-fn screen_fits(sw: u32, sh: u32, len: usize) -> bool
+pub fn screen_fits(sw: u32, sh: u32, len: usize) -> bool
     ensures { λ t. ⌜ t ≡ leb 1 sw && small sw && (leb 1 sh && small sh) && eqb len (sw * sh) ⌝ }
 {
     if sw < 1 {
@@ -77,17 +78,8 @@ fn dirty_of(full: bool, d: Damage) -> Rects
     Rects::of_damage(d)
 }
 
-fn either(a: bool, b: bool) -> bool
-    ensures { λ t. ⌜ t ≡ a || b ⌝ }
-{
-    if a {
-        return true;
-    }
-    b
-}
-
 // Draws a window under n rectangles, if it is to be drawn. Its pixels begin at `base` of the store.
-fn draw_window(
+pub fn draw_window(
     w: Window,
     base: usize,
     above: &[u32],
@@ -168,7 +160,7 @@ impl Session {
         requires { ⌜ Given self ⌝ }
         ensures { λ d. ⌜ Draws (Call.Redraw told width height (now (store .entry)) (now (screen .entry))) self d (now (screen .exit)) ⌝ }
     {
-        let full = either(told, self.shared.owed);
+        let full = either(told, self.shared.due.owed);
         let mut answer: u32 = 1;
         let c = self.shared.c as usize;
         if store.len() == 16 * c {
@@ -181,7 +173,8 @@ impl Session {
         Drawn { full, answer }
     }
 
-    // The second half: marks and damage of the windows that were drawn are cleared, and the debt is paid. A refused redraw changes nothing.
+    // The second half: marks and damage of the windows that were drawn are cleared, the debt is paid, and a walk is dropped. A refused redraw
+    // changes nothing.
     // The windows are gone through by number, since a place that is known when compiling costs no copy of the session.
     pub fn settled(mut self, d: Drawn) -> Done
         requires { ⌜ Given self ⌝ }
@@ -199,7 +192,8 @@ impl Session {
             i += 1;
         }
         if d.answer == 0 {
-            self.shared.owed = false;
+            self.shared.due.owed = false;
+            self.shared.due.walk.on = false;
         }
         Done {
             session: self,

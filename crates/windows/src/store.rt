@@ -243,7 +243,7 @@ pub fn resize(
                 if w * h <= shared.c {
                     answer = 0;
                     window = resized(win, id.0 as usize * c, c, size, store);
-                    shared.owed = true;
+                    shared = shared.owing();
                 }
             }
         }

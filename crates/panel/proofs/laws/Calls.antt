@@ -19,12 +19,12 @@ use Rattle.rules.specs.Events as Events
 use Rattle.rules.specs.Store as Store
 use Rattle.rules.specs.Redraw as Draw
 use Rattle.rules.specs.Calls as Calls
-use Rattle.rules.specs.Calls.{Call, Create, Show, Mark, Pop, Resize, Fill, Route, Redraw, does, after}
+use Rattle.rules.specs.Calls.{Call, Made, Create, Show, Mark, Pop, Resize, Fill, Route, Redraw, does, after}
 use Rattle.windows.specs.declared.Session.{Session}
 use Rattle.windows.specs.declared.Done.{Done}
 use Rattle.windows.specs.declared.Popped.{Popped}
 use Rattle.windows.specs.View.{group, Starts, MeetsStore, MeetsScreen, MeetsEvent, eventIn}
-use Rattle.windows.specs.Run.{Made, calls, Kept, Run, started, called}
+use Rattle.windows.specs.Run.{calls, Kept, Run, started, called}
 use Rattle.windows.proofs.demand.Runs.{made, calls-append, reached}
 
 -- The calls -------------------------------------------------------------------------------------------------------------

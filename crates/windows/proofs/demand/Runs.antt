@@ -4,13 +4,13 @@ use mathlib.Core.Path.{_≡_, refl, sym, ap, subst, _∙_}
 use mathlib.Core.List.{List, [], _∷_, _++_, map-append}
 use mathlib.Core.Option.{Option, none, some}
 use Rattle.rules.specs.Group.{Group, start}
-use Rattle.rules.specs.Calls.{Call, does, run, after}
+use Rattle.rules.specs.Calls.{Call, Made, does, run, after}
 use Rattle.rules.specs.Conditions.{lentStore, lentScreen}
 use Rattle.rules.proofs.group.Runs.{after-snoc}
 use Rattle.windows.specs.declared.Session.{Session}
 use Rattle.windows.specs.declared.Done.{Done}
 use Rattle.windows.specs.View.{group, Meets, MeetsStore, MeetsScreen}
-use Rattle.windows.specs.Run.{Made, calls, LeftAs, Kept, Run, started, called, AsRuled}
+use Rattle.windows.specs.Run.{calls, LeftAs, Kept, Run, started, called, AsRuled}
 
 -- By its contract a call is kept -------------------------------------------------------------------------------------
 

@@ -17,7 +17,7 @@ use Rattle.geom.proofs.basics.Lists.{set-in}
 use Rattle.window.specs.declared.Window.{Window}
 use Rattle.window.specs.Window.{Win}
 use Rattle.window.specs.Held.{winOf, RepWindow}
-use Rattle.rules.specs.Group.{Group, win, winAt, theWin, setWin}
+use Rattle.rules.specs.Group.{Group, win, winAt, theWin, withWindows, setWin}
 use Rattle.rules.specs.Order.{isIn, shown}
 use Rattle.rules.specs.Redraw.{clean, cleanAll, isDrawn}
 use Rattle.rules.proofs.group.Invariant.{used-small}
@@ -26,6 +26,7 @@ use Rattle.order.specs.Order.{Marks}
 use Rattle.windows.specs.declared.Session.{Session}
 use Rattle.windows.specs.declared.Shared.{Shared}
 use Rattle.windows.specs.View.{cell, group, blank, windowAt, Rep, Given}
+use Rattle.windows.specs.Walk.{sharing, wiped}
 use Rattle.windows.proofs.laws.Session.{cell-at, is-cell, win-at, used-at, putWindow, put-rep, given-ok}
 
 -- The rule, window by window ------------------------------------------------------------------------------------------
@@ -35,11 +36,11 @@ abbrev next : Bool → ℕ → Group → Group
 next full i g = cond (isDrawn g full i) (setWin i (some (clean (win g i))) g) g
 
 next-rest : (full : Bool) (i : ℕ) (g : Group)
-    → next full i g ≡ record { c = g .c; windows = next full i g .windows; order = g .order; focus = g .focus; owed = g .owed }
+    → next full i g ≡ withWindows (next full i g .windows) g
 next-rest full i g = go (isDrawn g full i)
   where
     go : (d : Bool) → let n : Group = cond d (setWin i (some (clean (win g i))) g) g in
-        n ≡ record { c = g .c; windows = n .windows; order = g .order; focus = g .focus; owed = g .owed }
+        n ≡ withWindows (n .windows) g
     go true = refl
     go false = refl
 
@@ -52,11 +53,11 @@ next-length full i g = go (isDrawn g full i)
 
 -- only windows change, and there are as many
 pub clean-rest : (full : Bool) (os : List ℕ) (g : Group)
-    → cleanAll full os g ≡ record { c = g .c; windows = cleanAll full os g .windows; order = g .order; focus = g .focus; owed = g .owed }
+    → cleanAll full os g ≡ withWindows (cleanAll full os g .windows) g
 clean-rest full [] g = refl
 clean-rest full (i ∷ os) g =
     clean-rest full os (next full i g)
-    ∙ ap (λ (n : Group). record { c = n .c; windows = cleanAll full os (next full i g) .windows; order = n .order; focus = n .focus; owed = n .owed }) (next-rest full i g)
+    ∙ ap (withWindows (cleanAll full os (next full i g) .windows)) (next-rest full i g)
 
 pub clean-length : (full : Bool) (os : List ℕ) (g : Group) → length (cleanAll full os g .windows) ≡ length (g .windows)
 clean-length full [] g = refl
@@ -98,17 +99,14 @@ clean-each full (i ∷ os) g j l = clean-each full os (next full i g) j (subst (
 
 -- The code, window by window ------------------------------------------------------------------------------------------
 
--- the window without its mark, and with no damage: the two writes of the code
+-- the window without its mark, and with no damage: the two writes of the code, which wipe it
 abbrev unmarked : Window → Window
 unmarked w = record { queue = w .queue; damage = w .damage; at = w .at; cursor = w .cursor; used = w .used; marked = false }
 
 abbrev emptied : Window → Window
 emptied w = record { queue = w .queue; damage = record { areas = w .damage .areas; len = 0 }; at = w .at; cursor = w .cursor; used = w .used; marked = w .marked }
 
-abbrev wiped : Window → Window
-wiped w = emptied (unmarked w)
-
-wiped-rep : (w : Window) → RepWindow w → RepWindow (wiped w)
+pub wiped-rep : (w : Window) → RepWindow w → RepWindow (wiped w)
 wiped-rep w r =
     record {
       at = r .at;
@@ -222,8 +220,8 @@ module _ (full : Bool) (flags : List Bool) (s t : Session) (h : Given s) (m : Ma
   pub clean-end : (group t ≡ cleanAll full (group s .order) (group s)) × Rep t
   unfolding group
   clean-end = (
-    ap (λ (k : Shared). record { c = k .c; windows = group t .windows; order = ids (k .shown) (k .order); focus = k .focus .0; owed = k .owed }) (q .shared)
-        ∙ ap (λ (ws : List (Option Win)). record { c = s .shared .c; windows = ws; order = group s .order; focus = s .shared .focus .0; owed = s .shared .owed }) windows-are
+    ap (λ (k : Shared). group (sharing k t)) (q .shared)
+        ∙ ap (λ (ws : List (Option Win)). withWindows ws (group s)) windows-are
         ∙ sym (clean-rest full (group s .order) (group s)),
     q .rep,
   )

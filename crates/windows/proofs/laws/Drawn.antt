@@ -26,7 +26,9 @@ use Rattle.windows.specs.declared.Session.{Session}
 use Rattle.visible.specs.Lent.{Lent}
 use Rattle.visible.proofs.laws.Numbers.{behind, rects-split, rest-lent}
 use Rattle.order.specs.declared.rects.Rects.{Rects}
-use Rattle.windows.specs.View.{group, windowAt, Rep, Given, Meets, MeetsScreen, done}
+use Rattle.windows.specs.View.{walkOf, group, windowAt, Rep, Given, Meets, MeetsScreen, done}
+use Rattle.windows.specs.Walk.{noted, sharing}
+use Rattle.order.specs.Due.{walkAt}
 use Rattle.windows.specs.declared.redraw.Drawn.{Drawn}
 use Rattle.windows.specs.Drawing.{painted, Draws}
 use Rattle.order.specs.Order.{noId}
@@ -67,6 +69,17 @@ module _ (s : Session) (h : Given s) (i : ℕ) (l : i < s .shared .shown) (v : W
       let b : suc (v .0) * s .shared .c ≤ 16 * s .shared .c = mul-le-mul-right (s .shared .c) (id-low s h i l v read) in
       omega (arith, b, given-ok s h .c-high)
 
+  -- it is drawn under the rectangles above it
+  pub drawn-under : (above : List Rect) → above ≡ higher s (suc i) → (full : Bool) (store screen : List ℕ) (sw sh : ℕ) (screen′ : List ℕ)
+      → screen′ ≡ cond (full || windowAt s (v .0) .marked) (painted (windowAt s (v .0)) full (v .0 * s .shared .c) above store sw sh screen) screen
+      → screen′ ≡ drawWindow (group s) full store sw sh (v .0) screen
+  unfolding group
+  drawn-under above a full store screen sw sh screen′ q =
+      let at : Rect = rectOf (windowAt s (v .0) .at) in
+      let vis : List Rect = map (relative at) (outsideAll (at ∷ []) (higher s (suc i))) in
+      let e : visible (group s) (v .0) ≡ vis = visible-is s (v .0) i at (shown-at s h i l v read) (is-used s h i l v read) (above-there s h i l v read) refl in
+      q ∙ rw (a, regions-lent full (rects (windowAt s (v .0) .damage)) vis, marked-there full, e, win-there s h i l v read)
+
   -- of the rectangles of all shown windows, those behind its own are the ones above it
   module _ (all : Rects) (held : Holds all (higher s 0)) where
     count : all .len ≡ s .shared .shown
@@ -99,12 +112,8 @@ module _ (s : Session) (h : Given s) (i : ℕ) (l : i < s .shared .shown) (v : W
       pub window-drawn : (screen′ : List ℕ)
           → screen′ ≡ cond (full || windowAt s (v .0) .marked) (painted (windowAt s (v .0)) full (v .0 * s .shared .c) (rectsOf (s .shared .shown - i - 1) rest) store sw sh screen) screen
           → screen′ ≡ drawWindow (group s) full store sw sh (getD (group s .order) i 0) screen
-      unfolding group
       window-drawn screen′ q =
-          let at : Rect = rectOf (windowAt s (v .0) .at) in
-          let vis : List Rect = map (relative at) (outsideAll (at ∷ []) (higher s (suc i))) in
-          let e : visible (group s) (v .0) ≡ vis = visible-is s (v .0) i at (shown-at s h i l v read) (is-used s h i l v read) (above-there s h i l v read) refl in
-          q ∙ rw (lent-above, regions-lent full (rects (windowAt s (v .0) .damage)) vis, id-at s h i l v read, marked-there full, e, win-there s h i l v read)
+          drawn-under _ lent-above full store screen sw sh screen′ q ∙ ap (λ (k : ℕ). drawWindow (group s) full store sw sh k screen) (sym (id-at s h i l v read))
 
 -- All windows --------------------------------------------------------------------------------------------------------
 
@@ -134,15 +143,15 @@ module _ {s : Session} {full : Bool} {store : List ℕ} {sw sh : ℕ} {first scr
 pub screen-facts : (sw sh : ℕ) (screen : List ℕ) → screenFits sw sh screen ≡ true → (sw ≤ 32767) × (sh ≤ 32767) × (length screen ≡ sw * sh)
 screen-facts sw sh screen e = search (fst, snd, leb-true, eqb-true)
 
--- a session that pays its debt
+-- a session that pays its debt and drops its walk
 abbrev pub withoutDebt : Session → Session
-withoutDebt s = record { windows = s .windows; shared = record { order = s .shared .order; shown = s .shared .shown; c = s .shared .c; focus = s .shared .focus; owed = false } }
+withoutDebt s = sharing (noted (record { walk = walkAt (s .shared .due .walk .next .0) false (s .shared .due .walk .full); owed = false }) (s .shared)) s
 
 pub pays : (s : Session) (g : Group) → (group s ≡ g) × Rep s → (group (withoutDebt s) ≡ paid g) × Rep (withoutDebt s)
-unfolding group
+unfolding group walkOf
 pays s g e = let r = e .1 in (ap paid (e .0), record { windows = r .windows; order = r .order; shown = r .shown; each = r .each })
 
-module _ (s : Session) (told : Bool) (sw sh : ℕ) (store screen : List ℕ) (h : Given s) (full : Bool) (is : full ≡ told || s .shared .owed) where
+module _ (s : Session) (told : Bool) (sw sh : ℕ) (store screen : List ℕ) (h : Given s) (full : Bool) (is : full ≡ told || s .shared .due .owed) where
   abbrev half : ℕ → Drawn
   half n = record { full = full; answer = n }
 

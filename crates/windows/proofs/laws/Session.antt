@@ -12,14 +12,13 @@ use Rattle.geom.proofs.basics.Lists.{map-set, set-case}
 use Rattle.window.specs.declared.Window.{Window}
 use Rattle.window.specs.Window.{Win}
 use Rattle.window.specs.Held.{winOf, RepWindow}
-use Rattle.rules.specs.Group.{Group, used, win, winAt, theWin, someWin, setWin, owing}
+use Rattle.rules.specs.Group.{Group, used, win, winAt, theWin, someWin, withWindows, setWin}
 use Rattle.rules.specs.Store.{whole}
 use Rattle.rules.specs.Calls.{Call, does, after}
 use Rattle.rules.proofs.group.Refused.{refused-group}
 use Rattle.rules.proofs.group.Invariant.{Ok}
 use Rattle.rules.proofs.group.Kept.{ok-after}
 use Rattle.rules.proofs.group.Runs.{after-snoc}
-use Rattle.windows.specs.declared.Shared.{Shared}
 use Rattle.windows.specs.declared.Session.{Session}
 use Rattle.windows.specs.View.{cell, group, blank, windowAt, Rep, Given, Meets, done}
 
@@ -75,7 +74,7 @@ putWindow id v s = record { windows = set (s .windows) id v; shared = s .shared 
 put-cell : (s : Session) (id : ℕ) (v : Window) (o : Option Win) → cell v ≡ o → group (putWindow id v s) ≡ setWin id o (group s)
 unfolding group
 put-cell s id v o e =
-    ap (λ (l : List (Option Win)). record { c = s .shared .c; windows = l; order = group s .order; focus = s .shared .focus .0; owed = s .shared .owed })
+    ap (λ (l : List (Option Win)). withWindows l (group s))
     (map-set cell (s .windows) id v ∙ ap (set (map cell (s .windows)) id) e)
 
 pub put-group : (s : Session) (id : ℕ) (v : Window) → v .used ≡ true → group (putWindow id v s) ≡ setWin id (some (winOf v)) (group s)
@@ -93,21 +92,6 @@ put-rep s id v r h =
       shown = r .shown;
       each = λ j l. set-case RepWindow (s .windows) id j v blank (λ e. h) (r .each j l);
     }
-
--- A full redraw owed ------------------------------------------------------------------------------------------------
-
-abbrev pub indebted : Shared → Shared
-indebted k = record { order = k .order; shown = k .shown; c = k .c; focus = k .focus; owed = true }
-
-abbrev pub withDebt : Session → Session
-withDebt s = record { windows = s .windows; shared = indebted (s .shared) }
-
-pub debt-group : (s : Session) → group (withDebt s) ≡ owing (group s)
-unfolding group
-debt-group s = refl
-
-pub debt-rep : (s : Session) → Rep s → Rep (withDebt s)
-debt-rep s r = record { windows = r .windows; order = r .order; shown = r .shown; each = r .each }
 
 -- What a session is --------------------------------------------------------------------------------------------------
 

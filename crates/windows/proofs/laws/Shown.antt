@@ -8,16 +8,18 @@ use native.Mathlib.Omega.{arith}
 use native.Mathlib.Numerals.{add-one}
 use lib.ListN.{set, take, length-set}
 use lib.Seq.{take-suc-set}
-use Rattle.rules.specs.Group.{used}
+use Rattle.rules.specs.Group.{used, withOrder, owing}
 use Rattle.rules.specs.Order as Order
 use Rattle.rules.specs.Order.{shown, setOrder}
 use Rattle.rules.specs.Calls.{Show, does}
 use Rattle.rules.proofs.group.Room.{room}
 use Rattle.order.specs.declared.WinId.{WinId}
 use Rattle.windows.specs.declared.Session.{Session}
-use Rattle.windows.specs.View.{group, windowAt, Given, Meets, done}
+use Rattle.windows.specs.View.{group, windowAt, Rep, Given, Meets, done}
 use Rattle.order.specs.Ids.{num, ids}
 use Rattle.order.specs.Order.{renderIdx}
+use Rattle.windows.specs.Walk.{ordered, sharing, indebted}
+use Rattle.windows.proofs.laws.Shared.{debt-shared}
 use Rattle.windows.proofs.laws.Session.{used-at, given-ok, refuses, gives}
 use Rattle.windows.proofs.laws.Places.{order-length, isnt-shown}
 use Rattle.windows.proofs.laws.Places as Places
@@ -37,18 +39,26 @@ module _ (s : Session) (id : ℕ) (h : Given s) (u : windowAt s id .used ≡ tru
     has-room = omega (arith, room (group s) id (given-ok s h) is-used (isnt-shown s h id e), order-length s h)
 
     module _ (v : WinId) (is : v .0 ≡ id) where
+      -- before and after a full redraw is owed
+      abbrev joined : List WinId → Session
+      joined order = sharing (ordered order (s .shared .shown + 1) v (s .shared)) s
+
       abbrev after : List WinId → Session
-      after order = record { windows = s .windows; shared = record { order = order; shown = s .shared .shown + 1; c = s .shared .c; focus = v; owed = true } }
+      after order = sharing (indebted (joined order .shared)) s
 
       abbrev longer : List WinId
       longer = set (s .shared .order) (s .shared .shown) v
+
+      joined-rep : Rep (joined longer)
+      joined-rep =
+          record { windows = h .rep .windows; order = length-set (s .shared .order) (s .shared .shown) v ∙ h .rep .order; shown = omega (arith, has-room); each = h .rep .each }
 
       after-group : group (after longer) ≡ setOrder (group s .order ++ (id ∷ [])) id (group s)
       unfolding group
       after-group =
           let o : ids (s .shared .shown + 1) longer ≡ ids (s .shared .shown) (s .shared .order) ++ (v .0 ∷ []) =
           rw (add-one, take-suc-set (s .shared .order) (s .shared .shown) v (omega (arith, h .rep .order, has-room))) (map-append num (take (s .shared .shown) (s .shared .order)) (v ∷ [])) in
-          (λ i. record { c = s .shared .c; windows = group s .windows; order = o i; focus = v .0; owed = true })
+          debt-shared .group (joined longer) joined-rep ∙ (λ i. owing (withOrder (o i) (v .0) (group s)))
           ∙ ap (λ (k : ℕ). setOrder (group s .order ++ (k ∷ [])) k (group s)) is
 
       pub is-hidden : (order : List WinId) → order ≡ longer → Meets (Show id) s (done (after order) 0)
@@ -56,9 +66,7 @@ module _ (s : Session) (id : ℕ) (h : Given s) (u : windowAt s id .used ≡ tru
       is-hidden order l =
           let y : shown (group s) id ≡ false = isnt-shown s h id e in
           rw l
-          (gives (Show id) s (after longer) h
-          (record { windows = h .rep .windows; order = length-set (s .shared .order) (s .shared .shown) v ∙ h .rep .order; shown = omega (arith, has-room); each = h .rep .each })
-          (rw is-used) (after-group ∙ rw (is-used, y)))
+          (gives (Show id) s (after longer) h (debt-shared .rep (joined longer) joined-rep) (rw is-used) (after-group ∙ rw (is-used, y)))
 
 pub no-window : (s : Session) (id : ℕ) → Given s → used (group s) id ≡ false → Meets (Show id) s (done s 3)
 unfolding does Order.show

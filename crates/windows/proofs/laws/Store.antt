@@ -17,7 +17,7 @@ use Rattle.geom.proofs.basics.Tests.{clash, fst, snd}
 use Rattle.window.specs.declared.Window.{Window}
 use Rattle.window.specs.Window.{Win}
 use Rattle.window.specs.Held.{winOf, Small, RepWindow}
-use Rattle.rules.specs.Group.{Group, used, win, winAt, theWin, someWin, setWin, owing}
+use Rattle.rules.specs.Group.{Group, used, win, winAt, theWin, someWin, withWindows, setWin}
 use Rattle.rules.specs.Store.{whole}
 use Rattle.rules.specs.Calls.{Call, does, accepted}
 use Rattle.rules.specs.Conditions.{lentStore}
@@ -28,7 +28,8 @@ use Rattle.windows.specs.declared.Session.{Session}
 use Rattle.windows.specs.View.{group, windowAt, Rep, Given, MeetsStore, done}
 use Rattle.windows.specs.One.{Holds, Held, put, MeetsStoreAt}
 use Rattle.windows.specs.Pixels.{Becomes, Stored}
-use Rattle.windows.proofs.laws.Session.{used-at, win-at, putWindow, put-group, put-rep, indebted, debt-group, debt-rep, given-ok, refuses, gives}
+use Rattle.windows.proofs.laws.Session.{used-at, win-at, putWindow, put-group, put-rep, given-ok, refuses, gives}
+use Rattle.windows.proofs.laws.Shared.{Shares}
 use Rattle.windows.proofs.laws.One.{stays, changes, asks-used}
 
 -- Question 5 ---------------------------------------------------------------------------------------------------------
@@ -38,19 +39,6 @@ small-rect a h = search (fst, snd, leb-true)
 
 pub small-size : (w h : ℕ) → small w && small h ≡ true → (w ≤ 32767) × (h ≤ 32767)
 small-size w h e = search (fst, snd, leb-true)
-
--- What is shared -----------------------------------------------------------------------------------------------------
-
--- where what the windows share changes by K, the group changes by G
-pub record Shares (K : Shared → Shared) (G : Group → Group) : Type 0 where
-  pub group : (s : Session) → group (record { windows = s .windows; shared = K (s .shared) }) ≡ G (group s)
-  pub rep : (s : Session) → Rep s → Rep (record { windows = s .windows; shared = K (s .shared) })
-
-pub same-shared : Shares (λ k. k) (λ g. g)
-same-shared = record { group = λ s. refl; rep = λ s r. r }
-
-pub debt-shared : Shares indebted owing
-debt-shared = record { group = debt-group; rep = debt-rep }
 
 -- Questions 1 and 3 --------------------------------------------------------------------------------------------------
 
@@ -105,7 +93,7 @@ module _ {call : Call} {id : ℕ} {store : List ℕ} {rest : ℕ → List Questi
       record {
         meets =
             gives call s (put id r (K (s .shared)) s) h (shares .rep (putWindow id r s) (put-rep s id r (h .rep) (b .0 .rep))) z
-            (shares .group (putWindow id r s)
+            (shares .group (putWindow id r s) (put-rep s id r (h .rep) (b .0 .rep))
             ∙ ap G (put-group s id r (b .0 .used ∙ u) ∙ ap (λ (x : Win). setWin id (some x) (group s)) (b .0 .is ∙ ap f v))
             ∙ sym (rule .after (group s) (used-at s id ∙ u) ∙ rw y));
         stored = b .1 ∙ ap (F (s .shared .c)) v ∙ sym (rule .stored (group s) ∙ rw y);
@@ -189,7 +177,7 @@ some-win (some w) e = refl
 -- as it was
 pub set-same : (g : Group) (id : ℕ) → used g id ≡ true → setWin id (some (win g id)) g ≡ g
 set-same g id u =
-    ap (λ (ws : List (Option Win)). record { c = g .c; windows = ws; order = g .order; focus = g .focus; owed = g .owed })
+    ap (λ (ws : List (Option Win)). withWindows ws g)
     (ap (set (g .windows) id) (some-win (winAt g id) u) ∙ set-getD (g .windows) id none)
 
 -- changed where a test passes

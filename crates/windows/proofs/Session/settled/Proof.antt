@@ -1,4 +1,4 @@
--- The windows below number i are cleaned, where they were drawn; then the debt is paid.
+-- The windows below number i are cleaned, where they were drawn; then the debt is paid and the walk is dropped.
 use Prim.Native.Nat.{ℕ, _-_, _+_, _≤_}
 use mathlib.Core.Path.{_≡_, refl, sym, ap, subst, _∙_}
 use mathlib.Core.Bool.{Bool, false, cond, _&&_, and-false}
@@ -58,6 +58,9 @@ mul-self-2 c = omega arith
 way-write-given-self-2 : tie.Need-way-write-given-self-2 Inv-loop μ-loop
 way-write-given-self-2 c = search needs
 
+way-write-given-self-3 : tie.Need-way-write-given-self-3 Inv-loop μ-loop
+way-write-given-self-3 c = search needs
+
 add-i : tie.Need-add-i Inv-loop μ-loop
 add-i c = omega arith
 
@@ -84,10 +87,10 @@ ends c = let q = c .before .loop .inv in subst (Cleaning _ _ _ _) (sixteen (c .b
 
 returns : tie.Need-returns Inv-loop μ-loop
 returns c =
-    let l = c .before .before .before in
+    let l = c .before .before .before .before in
     let n = l .before .before in
     let s = n .before .before in
-    let z = c .before .if3 .taken in
+    let z = c .before .before .if3 .taken in
     let m = subst (λ (k : ℕ). Marks (n .drawn-ids .result) (cond (eqb k 0) (ids (s .args .t1 .shared .shown) (s .args .t1 .shared .order)) [])) z (n .drawn-ids .ensures) in
     record { answer = refl; clean = λ _. pays _ _ (clean-end _ _ _ _ (s .pre) m (ends l)); same = λ no. absurd (no z) }
 
@@ -118,5 +121,6 @@ settled-spec =
     add-i
     loop-less
     loop-again
+    way-write-given-self-3
     returns
     returns-2)

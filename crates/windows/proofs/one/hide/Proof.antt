@@ -17,6 +17,7 @@ use Rattle.windows.specs.declared.Session.{Session}
 use Rattle.windows.specs.declared.Shared.{Shared}
 use Rattle.windows.specs.View.{group, windowAt, Rep, Given, Meets, done}
 use Rattle.windows.specs.One.{put}
+use Rattle.windows.specs.Walk.{ordered, indebted}
 use Rattle.windows.proofs.laws.Session.{used-at, refuses, gives}
 use Rattle.windows.proofs.laws.One.{here, accepts, not-used, shares, same-place}
 use Rattle.windows.proofs.laws.Places.{in-order}
@@ -38,7 +39,7 @@ module _ (s : Session) (id : ℕ) where
 
 -- the share without the window
 abbrev left : List WinId → WinId → Shared → Shared
-left order focus k = record { order = order; shown = k .shown - 1; c = k .c; focus = focus; owed = true }
+left order focus k = ordered order (k .shown - 1) focus k
 
 -- the window of the share that was handed over is in use, and has a place in its order
 known : (c : tie.After-idx) → let a = c .before .before .before .before .before .before .args in ltb (a .id .0) 16 && a .win .used ≡ true
@@ -77,23 +78,28 @@ focus-after-requires c κs = omega (arith, low (c .before .before), few (c .befo
 sub-shared : tie.Need-sub-shared
 sub-shared c = omega (arith, low (c .before .before .before))
 
+owing-requires : tie.Need-owing-requires
+owing-requires c κs = search needs
+
 enum-told : tie.Need-enum-told
 enum-told c = search needs
 
 returns : tie.Need-returns
 returns c =
-    let a = c .before .before .before .before .before .before .before .before .before .args in
+    let f = c .before in
+    let a = f .before .before .before .before .before .before .before .before .before .args in
     let id = a .id .0 in
-    let order = c .before .close-gap in
-    let focus = c .focus-after in
-    let p = c .before .before .before .idx .given .0 .0 .0 in
-    accepts (λ s at w k. Meets (Hide id) s (done (put at w (left (order .result) (focus .result) k) s) 0)) (known (c .before .before .before))
+    let order = f .before .close-gap in
+    let focus = f .focus-after in
+    let p = f .before .before .before .idx .given .0 .0 .0 in
+    rw (c .owing .ensures)
+    (accepts (λ s at w k. Meets (Hide id) s (done (put at w (indebted (left (order .result) (focus .result) k)) s) 0)) (known (f .before .before .before))
     (λ s q.
-    shares (λ t. Meets (Hide id) s (done t 0)) s id (left (order .result) (focus .result) (s .shared))
+    shares (λ t. Meets (Hide id) s (done t 0)) s id (indebted (left (order .result) (focus .result) (s .shared)))
     (hides s id _ (q .given) (q .used)
-    (hidden-now s (q .given) id p (same-place _ _ (q .shared) (placed (c .before .before .before))) (order .result)
+    (hidden-now s (q .given) id p (same-place _ _ (q .shared) (placed (f .before .before .before))) (order .result)
     (subst (λ (k : Shared). Closed (k .order) (k .shown) p (order .result)) (sym (q .shared)) (order .ensures)) (focus .result)
-    (subst (λ (k : Shared). focus .result .0 ≡ cond (eqb (k .focus .0) id) (getD (ids (k .shown - 1) (order .result)) (p - 1) 0) (k .focus .0)) (sym (q .shared)) (focus .ensures)))))
+    (subst (λ (k : Shared). focus .result .0 ≡ cond (eqb (k .focus .0) id) (getD (ids (k .shown - 1) (order .result)) (p - 1) 0) (k .focus .0)) (sym (q .shared)) (focus .ensures))))))
 
 returns-2 : tie.Need-returns-2
 returns-2 c =
@@ -121,6 +127,7 @@ hide-spec =
     sub-focus-after
     focus-after-requires
     sub-shared
+    owing-requires
     enum-told
     returns
     returns-2

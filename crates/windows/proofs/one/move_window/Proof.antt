@@ -14,10 +14,11 @@ use Rattle.rules.specs.Group as Group
 use Rattle.rules.specs.Group.{used, setWin, movedTo, owing}
 use Rattle.rules.specs.Calls.{Move, does}
 use Rattle.windows.specs.declared.Session.{Session}
-use Rattle.windows.specs.declared.Shared.{Shared}
 use Rattle.windows.specs.View.{group, windowAt, Given, Meets, done}
 use Rattle.windows.specs.One.{put}
-use Rattle.windows.proofs.laws.Session.{used-at, win-at, putWindow, put-group, put-rep, withDebt, debt-group, debt-rep, refuses, gives}
+use Rattle.windows.specs.Walk.{indebted}
+use Rattle.windows.proofs.laws.Session.{used-at, win-at, putWindow, put-group, put-rep, refuses, gives}
+use Rattle.windows.proofs.laws.Shared.{debt-shared}
 use Rattle.windows.proofs.laws.One.{accepts, not-used, shares}
 use borrow.Author.Needs.{needs}
 use Rattle.windows.proofs.one.move_window.Statement.{statement}
@@ -34,19 +35,18 @@ moved x y w =
       marked = w .marked;
     }
 
-abbrev owes : Shared → Shared
-owes k = record { order = k .order; shown = k .shown; c = k .c; focus = k .focus; owed = true }
-
 module _ (s : Session) (id x y : ℕ) (h : Given s) (u : windowAt s id .used ≡ true) where
   in-use : used (group s) id ≡ true
   in-use = used-at s id ∙ u
 
   move-yes : small x && small y ≡ true → RepWindow (moved x y (windowAt s id))
-      → Meets (Move id x y) s (done (put id (moved x y (windowAt s id)) (owes (s .shared)) s) 0)
+      → Meets (Move id x y) s (done (put id (moved x y (windowAt s id)) (indebted (s .shared)) s) 0)
   unfolding does Group.move
   move-yes l r =
-      gives (Move id x y) s (withDebt (putWindow id (moved x y (windowAt s id)) s)) h (debt-rep _ (put-rep s id _ (h .rep) r)) (rw (in-use, l))
-      (debt-group (putWindow id (moved x y (windowAt s id)) s) ∙ ap owing (put-group s id _ u)
+      let t = putWindow id (moved x y (windowAt s id)) s in
+      let k = put-rep s id (moved x y (windowAt s id)) (h .rep) r in
+      gives (Move id x y) s (put id (moved x y (windowAt s id)) (indebted (s .shared)) s) h (debt-shared .rep t k) (rw (in-use, l))
+      (debt-shared .group t k ∙ ap owing (put-group s id _ u)
       ∙ ap (λ (w : Win). owing (setWin id (some (movedTo x y w)) (group s))) (sym (win-at s id u)) ∙ rw (in-use, l))
 
   too-far : small x && small y ≡ false → Meets (Move id x y) s (done s 5)
@@ -78,16 +78,21 @@ cast-area c = omega (arith, low c)
 cast-area-2 : tie.Need-cast-area-2
 cast-area-2 c = omega (arith, low c)
 
+owing-requires : tie.Need-owing-requires
+owing-requires c κs = search needs
+
 returns : tie.Need-returns
 returns c =
-    let a = c .before .before .before .before .before .args in
+    let d = c .before in
+    let a = d .before .before .before .before .before .args in
     let id = a .id .0 in
-    accepts (λ s at w k. Meets (Move id (a .x) (a .y)) s (done (put at (moved (a .x) (a .y) w) (owes k) s) 0))
-    (sym (c .before .before .before .before .is-used .ensures) ∙ c .before .before .before .if1 .taken)
+    rw (c .owing .ensures)
+    (accepts (λ s at w k. Meets (Move id (a .x) (a .y)) s (done (put at (moved (a .x) (a .y) w) (indebted k) s) 0))
+    (sym (d .before .before .before .before .is-used .ensures) ∙ d .before .before .before .if1 .taken)
     (λ s q.
     let r = q .rep in
-    move-yes s id (a .x) (a .y) (q .given) (q .used) (near c)
-    (record { at = record { left≤ = low c .0; top≤ = low c .1; width≤ = r .at .width≤; height≤ = r .at .height≤ }; damage = r .damage; queue = r .queue; cursor = r .cursor }))
+    move-yes s id (a .x) (a .y) (q .given) (q .used) (near d)
+    (record { at = record { left≤ = low d .0; top≤ = low d .1; width≤ = r .at .width≤; height≤ = r .at .height≤ }; damage = r .damage; queue = r .queue; cursor = r .cursor })))
 
 returns-2 : tie.Need-returns-2
 returns-2 c =
@@ -105,4 +110,4 @@ returns-3 c =
 
 pub move-window-spec : {M : Type 1} → statement M
 move-window-spec =
-    tie.close (tie.spec is-used-requires small-point-requires cast-area cast-area-2 returns returns-2 returns-3)
+    tie.close (tie.spec is-used-requires small-point-requires cast-area cast-area-2 owing-requires returns returns-2 returns-3)

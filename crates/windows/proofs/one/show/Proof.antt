@@ -14,15 +14,16 @@ use Rattle.rules.specs.Calls.{Show}
 use Rattle.windows.specs.declared.Shared.{Shared}
 use Rattle.windows.specs.View.{Meets, done}
 use Rattle.windows.specs.One.{put}
+use Rattle.windows.specs.Walk.{ordered, indebted}
 use Rattle.windows.proofs.laws.One.{here, accepts, not-used, shares, same-place}
 use Rattle.windows.proofs.laws.Shown.{is-shown, is-hidden, has-room, no-window}
 use borrow.Author.Needs.{needs}
 use Rattle.windows.proofs.one.show.Statement.{statement}
 use Rattle.windows.proofs.one.show.Tie as tie
 
--- the share with the window on top
+-- the share with the window on top, before and after a full redraw is owed
 abbrev joined : List WinId → WinId → Shared → Shared
-joined order id k = record { order = order; shown = k .shown + 1; c = k .c; focus = id; owed = true }
+joined order id k = ordered order (k .shown + 1) id k
 
 -- the window of the share that was handed over is in use, and has no place in its order
 used : (c : tie.After-enum-told) → let a = c .before .before .before .before .before .before .args in ltb (a .id .0) 16 && a .win .used ≡ true
@@ -52,18 +53,24 @@ with-window-requires c κs = roomy c
 add-shared : tie.Need-add-shared
 add-shared c = omega (arith, roomy (c .before))
 
+owing-requires : tie.Need-owing-requires
+owing-requires c κs = search needs
+
 enum-told-2 : tie.Need-enum-told-2
 enum-told-2 c = search needs
 
 returns : tie.Need-returns
 returns c =
-    let a = c .before .before .before .before .before .before .before .args in
+    let l = c .before in
+    let a = l .before .before .before .before .before .before .before .args in
     let id = a .id .0 in
-    accepts (λ s at w k. Meets (Show id) s (done (put at w (joined (c .with-window .result) (a .id) k) s) 0)) (used (c .before))
+    let order = l .with-window .result in
+    rw (c .owing .ensures)
+    (accepts (λ s at w k. Meets (Show id) s (done (put at w (indebted (joined order (a .id) k)) s) 0)) (used (l .before))
     (λ s q.
-    shares (λ t. Meets (Show id) s (done t 0)) s id (joined (c .with-window .result) (a .id) (s .shared))
-    (is-hidden s id (q .given) (q .used) (same-place _ _ (q .shared) (hidden (c .before))) (a .id) refl (c .with-window .result)
-    (c .with-window .ensures ∙ ap (λ (k : Shared). set (k .order) (k .shown) (a .id)) (sym (q .shared)))))
+    shares (λ t. Meets (Show id) s (done t 0)) s id (indebted (joined order (a .id) (s .shared)))
+    (is-hidden s id (q .given) (q .used) (same-place _ _ (q .shared) (hidden (l .before))) (a .id) refl order
+    (l .with-window .ensures ∙ ap (λ (k : Shared). set (k .order) (k .shown) (a .id)) (sym (q .shared))))))
 
 returns-2 : tie.Need-returns-2
 returns-2 c =
@@ -82,4 +89,4 @@ returns-3 c =
 pub show-spec : {M : Type 1} → statement M
 show-spec =
     tie.close
-    (tie.spec is-used-requires get-render-idx-requires enum-told with-window-requires add-shared enum-told-2 returns returns-2 returns-3)
+    (tie.spec is-used-requires get-render-idx-requires enum-told with-window-requires add-shared owing-requires enum-told-2 returns returns-2 returns-3)

@@ -14,7 +14,8 @@ use Rattle.rules.specs.Store as Spec
 use Rattle.rules.specs.Store.{blitAt}
 use Rattle.rules.specs.Calls.{Blit, does, accepted}
 use Rattle.windows.specs.Pixels.{blitWin}
-use Rattle.windows.proofs.laws.Store.{Rule, Writable, writable, same-shared, not-whole, not-used, no, yes, place, stored, small-rect, set-unless}
+use Rattle.windows.proofs.laws.Shared.{same-shared}
+use Rattle.windows.proofs.laws.Store.{Rule, Writable, writable, not-whole, not-used, no, yes, place, stored, small-rect, set-unless}
 use borrow.Author.Needs.{needs}
 use Rattle.windows.proofs.store.blit.Statement.{statement}
 use Rattle.windows.proofs.store.blit.Tie as tie

@@ -12,7 +12,8 @@ use Rattle.rules.specs.Store as Spec
 use Rattle.rules.specs.Store.{bounds, filledAt}
 use Rattle.rules.specs.Calls.{Fill, does, accepted}
 use Rattle.windows.specs.Pixels.{filledWin}
-use Rattle.windows.proofs.laws.Store.{Rule, Writable, writable, same-shared, not-whole, not-used, no, yes, place, stored, small-rect, set-if}
+use Rattle.windows.proofs.laws.Shared.{same-shared}
+use Rattle.windows.proofs.laws.Store.{Rule, Writable, writable, not-whole, not-used, no, yes, place, stored, small-rect, set-if}
 use borrow.Author.Needs.{needs}
 use Rattle.windows.proofs.store.fill.Statement.{statement}
 use Rattle.windows.proofs.store.fill.Tie as tie

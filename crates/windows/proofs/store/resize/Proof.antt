@@ -15,7 +15,8 @@ use Rattle.rules.specs.Group.{owing}
 use Rattle.rules.specs.Store as Spec
 use Rattle.rules.specs.Store.{resizedWin}
 use Rattle.rules.specs.Calls.{Resize, does}
-use Rattle.windows.proofs.laws.Store.{Rule, Writable, writable, debt-shared, not-whole, not-used, no, yes, rep, size, ends, place, small-size}
+use Rattle.windows.proofs.laws.Shared.{debt-shared}
+use Rattle.windows.proofs.laws.Store.{Rule, Writable, writable, not-whole, not-used, no, yes, rep, size, ends, place, small-size}
 use borrow.Author.Needs.{needs}
 use Rattle.windows.proofs.store.resize.Statement.{statement}
 use Rattle.windows.proofs.store.resize.Tie as tie
@@ -83,18 +84,22 @@ resized-requires c κs =
       height≤ = b .1;
     }
 
+owing-requires : tie.Need-owing-requires
+owing-requires c κs = search needs
+
 same-length : tie.Need-same-length
 same-length c = search needs
 
 returns : tie.Need-returns
 returns c =
-    let r = c .before .before in
+    let r = c .before .before .before in
     let g = r .before .before .before in
     let f = g .before .before in
     let t = f .before .before in
     let s = t .before .before .before .before .before in
     let a = s .args in
-    yes rule (known t) debt-shared (r .resized .result) _ (rw (small f, le-leb (a .w * a .h) (a .shared .c) (g .if4 .taken))) (r .resized .ensures)
+    rw (c .owing .ensures)
+    (yes rule (known t) debt-shared (r .resized .result) _ (rw (small f, le-leb (a .w * a .h) (a .shared .c) (g .if4 .taken))) (r .resized .ensures))
 
 returns-2 : tie.Need-returns-2
 returns-2 c =
@@ -131,6 +136,7 @@ resize-spec =
     cast-resized
     mul-resized
     resized-requires
+    owing-requires
     same-length
     returns
     returns-2

@@ -1,0 +1,88 @@
+-- What the windows share, changed part by part; and a portion as a function of one window.
+use Prim.Native.Nat.{ℕ, suc, _*_, _<_}
+use mathlib.Core.Path.{_≡_}
+use mathlib.Core.Bool.{Bool, true, false, cond, _||_}
+use mathlib.Core.List.{List, map}
+use lib.ListN.{getD, drop}
+use Rattle.window.specs.declared.Window.{Window}
+use Rattle.rules.specs.Group.{win}
+use Rattle.rules.specs.Calls.{Call}
+use Rattle.order.specs.declared.WinId.{WinId}
+use Rattle.order.specs.Order.{noId}
+use Rattle.order.specs.declared.due.Due.{Due}
+use Rattle.order.specs.Rects.{Holds}
+use Rattle.order.specs.Due.{owing, further}
+use Rattle.windows.specs.declared.Shared.{Shared}
+use Rattle.windows.specs.declared.Session.{Session}
+use Rattle.windows.specs.declared.Changed.{Changed}
+use Rattle.windows.specs.declared.portion.Next.{Next}
+use Rattle.windows.specs.declared.portion.Turn.{Turn}
+use Rattle.windows.specs.View.{group, windowAt, done, Given, MeetsScreen}
+use Rattle.windows.specs.One.{put}
+
+-- Parts of what is shared set -----------------------------------------------------------------------------------------
+
+abbrev pub ordered : List WinId → ℕ → WinId → Shared → Shared
+ordered o n f k = record { order = o; shown = n; c = k .c; focus = f; due = k .due }
+
+-- what is still to be drawn
+abbrev pub noted : Due → Shared → Shared
+noted u k = record { order = k .order; shown = k .shown; c = k .c; focus = k .focus; due = u }
+
+abbrev pub sharing : Shared → Session → Session
+sharing k s = record { windows = s .windows; shared = k }
+
+-- a full redraw is owed
+abbrev pub indebted : Shared → Shared
+indebted k = noted (owing (k .due) (k .shown)) k
+
+-- the walk is one window further
+abbrev pub onward : Shared → Shared
+onward k = noted (further (k .due) (k .shown)) k
+
+-- A portion -----------------------------------------------------------------------------------------------------------
+
+-- the window without mark and damage
+abbrev pub wiped : Window → Window
+wiped w =
+    record {
+      queue = w .queue;
+      damage = record { areas = w .damage .areas; len = 0 };
+      at = w .at;
+      cursor = w .cursor;
+      used = w .used;
+      marked = false;
+    }
+
+-- "Marks and damage of drawn windows are cleared"
+abbrev pub cleanedIf : Bool → Window → Window
+cleanedIf full w = cond (full || w .marked) (wiped w) w
+
+-- the next window of a walk that is on lies at this place; its pixels begin there, and these are the rectangles above it
+pub record IsNext (s : Session) (at : ℕ) (x : Next) : Type 0 where
+  pub is : getD (s .shared .order) (s .shared .due .walk .next .0) noId .0 ≡ at
+  pub base : x .base ≡ at * s .shared .c
+  pub above : Holds (x .above) (map (λ i. win (group s) i .at) (drop (suc (s .shared .due .walk .next .0)) (group s .order)))
+
+-- whose turn it is; any place will do where no walk is on
+pub record Turns (s : Session) (t : Turn) : Type 0 where
+  pub inside : t .at < 16
+  pub next : s .shared .due .walk .on ≡ true → IsNext s (t .at) (t .next)
+
+-- the session s holds this window at the place whose turn it is, and shares this
+pub record OnTurn (w : Window) (k : Shared) (x : Next) (s : Session) (at : ℕ) : Type 0 where
+  pub given : Given s
+  pub turns : Turns s (record { at = at; next = x })
+  pub window : windowAt s at ≡ w
+  pub shared : s .shared ≡ k
+
+-- some session does
+pub record Turned (w : Window) (k : Shared) (x : Next) : Type 0 where
+  pub session : Session
+  pub at : ℕ
+  pub on-turn : OnTurn w k x session at
+
+-- every session that does, with the new window put in its place, is the session that the call promises, and leaves this screen
+abbrev pub TreatsAt : Call → Window → Shared → Next → Changed → List ℕ → Type 0
+TreatsAt call w k x r screen =
+    (s : Session) (at : ℕ) → OnTurn w k x s at → MeetsScreen call s (done (put at (r .window) (r .shared) s) (r .answer)) screen
