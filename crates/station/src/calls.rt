@@ -1,5 +1,5 @@
 // The calls of a session, which lies behind a pointer. A call that touches one window works on that window and on what the windows share, and
-// puts both back in their place: the session is not copied.
+// puts both back in their place; one that touches no window, on what they share alone. The session is not copied.
 //
 // Before `roq_start` the memory holds zeros or a session; before any other call, a session that `roq_start` and later calls left.
 ghost use mathlib.Core.Path.{_≡_};
@@ -19,6 +19,7 @@ use windows::Session;
 use windows::events::tell;
 use windows::one;
 use windows::one::slot;
+use windows::portion;
 use windows::store;
 
 #[no_mangle]
@@ -217,6 +218,46 @@ pub extern "C" fn roq_redraw(
     let t = e.session;
     *s = t;
     e.answer
+}
+
+#[no_mangle]
+pub extern "C" fn roq_begin(s: &mut Session, told: bool) -> u32
+    requires { ⌜ Given (now s) ⌝ }
+    ensures { λ r. ⌜ Meets (Call.Begin told) (now (s .entry)) (done (now (s .exit)) r) ⌝ }
+{
+    let d = portion::begin((*s).shared, told);
+    let k = d.shared;
+    (*s).shared = k;
+    d.answer
+}
+
+#[no_mangle]
+pub extern "C" fn roq_portion(
+    s: &mut Session,
+    width: u32,
+    height: u32,
+    store: &[u32],
+    screen: &mut [u32],
+) -> u32
+    requires { ⌜ Given (now s) ⌝ }
+    ensures { λ r. ⌜ MeetsScreen (Call.Portion width height (now (store .entry)) (now (screen .entry))) (now (s .entry)) (done (now (s .exit)) r) (now (screen .exit)) ⌝ }
+{
+    let turn = (*s).turn();
+    let at = turn.at;
+    let d = portion::treat(
+        (*s).windows[at],
+        (*s).shared,
+        turn.next,
+        width,
+        height,
+        store,
+        screen,
+    );
+    let w = d.window;
+    (*s).windows[at] = w;
+    let k = d.shared;
+    (*s).shared = k;
+    d.answer
 }
 
 #[no_mangle]

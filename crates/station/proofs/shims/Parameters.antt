@@ -24,6 +24,8 @@ use Rattle.windows.proofs.Session as Session
 use Rattle.windows.proofs.Session.Laws as Session′
 use Rattle.windows.proofs.Shared as Shared
 use Rattle.windows.proofs.Shared.Laws as Shared′
+use Rattle.windows.proofs.SharedDone as SharedDone
+use Rattle.windows.proofs.SharedDone.Laws as SharedDone′
 use Rattle.windows.proofs.Done as Done
 use Rattle.windows.proofs.Done.Laws as Done′
 use Rattle.windows.proofs.Changed as Changed
@@ -36,6 +38,10 @@ use Rattle.windows.proofs.Placed as Placed
 use Rattle.windows.proofs.Placed.Laws as Placed′
 use Rattle.windows.proofs.redraw.Drawn as Drawn
 use Rattle.windows.proofs.redraw.Drawn.Laws as Drawn′
+use Rattle.windows.proofs.portion.Next as Next
+use Rattle.windows.proofs.portion.Next.Laws as Next′
+use Rattle.windows.proofs.portion.Turn as Turn
+use Rattle.windows.proofs.portion.Turn.Laws as Turn′
 use Rattle.windows.proofs.events.Message as Message
 use Rattle.windows.proofs.events.Message.Laws as Message′
 use Rattle.windows.proofs.events.Aim as Aim
@@ -87,6 +93,9 @@ placed = ofStruct Placed.the-type Placed′.the-laws Placed′.the-plain Placed�
 
 abbrev pub drawn : Plain
 drawn = ofStruct Drawn.the-type Drawn′.the-laws Drawn′.the-plain Drawn′.mir refl
+
+abbrev pub next : Plain
+next = ofStruct Next.the-type Next′.the-laws Next′.the-plain Next′.mir refl
 
 abbrev pub event : Plain
 event = ofStruct RoqEvent.the-type RoqEvent′.the-laws RoqEvent′.the-plain RoqEvent′.mir refl
@@ -156,6 +165,18 @@ done = record {
   owed = λ d v is. let parts = Laws.owed Done.the-type Done′.the-laws d (v ∷ []) is in (parts .0, parts .1 .0);
 }
 
+-- what the windows share, and the answer
+abbrev pub sharedDone : Pair shared number
+sharedDone = record {
+  type = SharedDone.the-row;
+  name = SharedDone.struct .name;
+  fst = λ d. d .shared;
+  snd = λ d. d .answer;
+  tells = Laws.tells SharedDone.the-type SharedDone′.the-laws;
+  typed = λ 𝓤 H A W d v is. Laws.lawful SharedDone.the-type SharedDone′.the-laws 𝓤 H A W .typed d (v ∷ []) is .0;
+  owed = λ d v is. let parts = Laws.owed SharedDone.the-type SharedDone′.the-laws d (v ∷ []) is in (parts .0, parts .1 .0);
+}
+
 -- a place, and what the window there is told
 abbrev pub aim : Pair index message
 aim = record {
@@ -166,6 +187,18 @@ aim = record {
   tells = Laws.tells Aim.the-type Aim′.the-laws;
   typed = λ 𝓤 H A W d v is. Laws.lawful Aim.the-type Aim′.the-laws 𝓤 H A W .typed d (v ∷ []) is .0;
   owed = λ d v is. let parts = Laws.owed Aim.the-type Aim′.the-laws d (v ∷ []) is in (parts .0, parts .1 .0);
+}
+
+-- the place of the window whose turn it is, and what is lent for it
+abbrev pub turn : Pair index next
+turn = record {
+  type = Turn.the-row;
+  name = Turn.struct .name;
+  fst = λ d. d .at;
+  snd = λ d. d .next;
+  tells = Laws.tells Turn.the-type Turn′.the-laws;
+  typed = λ 𝓤 H A W d v is. Laws.lawful Turn.the-type Turn′.the-laws 𝓤 H A W .typed d (v ∷ []) is .0;
+  owed = λ d v is. let parts = Laws.owed Turn.the-type Turn′.the-laws d (v ∷ []) is in (parts .0, parts .1 .0);
 }
 
 -- a place for the next window, and its number

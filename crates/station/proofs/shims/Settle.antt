@@ -39,7 +39,7 @@ use Rattle.station.proofs.shims.Call as call
 use Rattle.station.proofs.shims.Frame as frame
 use Rattle.station.proofs.shims.Passing.{given, lent, passedv, fills, prepares, hands}
 use Rattle.station.proofs.shims.Locals.{cell, past, sits}
-use Rattle.station.proofs.shims.Steps.{opens-at, closes-at, answers}
+use Rattle.station.proofs.shims.Steps.{opens-at, closes-at, answers, takes}
 
 -- S is the session's type, ps the arguments, of which n are slices, X the type of what the first function saw, R the answer's, and D the struct of
 -- session and answer that the second hands back
@@ -197,19 +197,15 @@ module _ (S X R : Plain) (n : ℕ) (ps : List (Arg n)) (D : Pair S R) where
             -- the session is put back
             let t = D .fst r in
             let owed = D .owed r v is in
-            let t-typed = S .typed 𝓤 H A W t (owed .0) in
-            land ! (sits ! (mine .1 .0) (stop !)) (init ! 10 refl (D .typed 𝓤 H A W r v is)) $
-            rewrite ! 10 (cell (pairTy D) (bs₁ .1 .0)) (ap only (D .tells r (v ∷ []) is)) refl $
-            assigns ! (of-opd ! (load ! (sits ! (mine .1 .0) (fld ! refl (stop !))) (look-in ! 10 (sub ! 0 refl (whole !))))) (sits ! (mine .1 .1 .0)
-            (stop !))
-            (init ! 11 refl t-typed) $
-            assigns ! (of-opd ! (load ! (sits ! (mine .1 .1 .0) (stop !)) (look ! 11 refl))) (from ! (hop ! (look ! 19 refl) (stop !)))
-            (store ! 4 refl t-typed) $
-            assigns ! (of-opd ! (load ! (sits ! (mine .1 .0) (fld ! refl (stop !))) (look-in ! 10 (sub ! 1 refl (whole !))))) (from ! (stop !))
+            move ! (10 ∷ 11 ∷ []) $ takes D r v is ! (mine .1 .0) (mine .1 .1 .0) $
+            -- [what was handed back; the session in it; what is last; …; the session at 6; …; _0 and _1 at 18; …]
+            assigns ! (of-opd ! (load ! (sits ! (mine .1 .1 .0) (stop !)) (look ! 1 refl))) (from ! (hop ! (look ! 19 refl) (stop !)))
+            (store ! 6 refl (S .typed 𝓤 H A W t (owed .0))) $
+            assigns ! (of-opd ! (load ! (sits ! (mine .1 .0) (fld ! refl (stop !))) (look-in ! 0 (sub ! 1 refl (whole !))))) (from ! (stop !))
             (init ! 18 refl (R .typed 𝓤 H A W (D .snd r) (owed .1))) $
-            move ! (4 ∷ 5 ∷ 6 ∷ 7 ∷ []) $ closes-at S ! tt t b o (owed .0) $
+            move ! (6 ∷ 7 ∷ 8 ∷ 9 ∷ []) $ closes-at S ! tt t b o (owed .0) $
             -- all are freed, in the order of the locals
-            returns ! (look ! 17 refl) $ move ! (17 ∷ 18 ∷ 19 ∷ 20 ∷ 5 ∷ 16 ∷ 8 ∷ 9 ∷ 10 ∷ 11 ∷ 12 ∷ 13 ∷ 14 ∷ 15 ∷ 6 ∷ 7 ∷ []) $
+            returns ! (look ! 17 refl) $ move ! (17 ∷ 18 ∷ 19 ∷ 20 ∷ 7 ∷ 16 ∷ 10 ∷ 3 ∷ 4 ∷ 11 ∷ 12 ∷ 13 ∷ 14 ∷ 15 ∷ 8 ∷ 9 ∷ 0 ∷ 1 ∷ 2 ∷ 5 ∷ 6 ∷ []) $
             frame.frees-all first ps own [] bs₀ bs bs₁ xs bs₂ ! _ (given κs 𝓤 H ps (a .1) bs) _ (lent κs 𝓤 H ps (a .1) xs) _
             (call.borrow S R n ps Ok Q 𝓤 H A κs qs a t (call.left S R n ps Ok Q 𝓤 H A κs qs a (ws .1)))
             (call.exits S R n ps Ok Q 𝓤 H A κs qs a W t (D .snd r) (ws .1) (law κs h (a .1) d (ws .1) r ok seen e) (owed .1))))))))))

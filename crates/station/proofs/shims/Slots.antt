@@ -1,4 +1,4 @@
--- A struct of an array and one more field, as a walk takes it: one element and the other field are read and put back in place.
+-- A struct of an array and one more field, as a walk takes it: one element and the other field, or that field alone, are read and put back in place.
 use mathlib.Core.Path.{_≡_, refl, sym, _∙_, ap, subst}
 use Prim.Native.Nat.{ℕ, zero, suc, _*_, _<_, _^_}
 use native.Mathlib.Nat.{not-suc-le-zero, le-of-suc-le-suc}
@@ -99,14 +99,36 @@ module _ {E K : Plain} (L : Slots E K) where
   abbrev pub put : ℕ → Of E → Of K → Session → Session
   put k w h s = L .make (set (L .items s) k w) h
 
+  abbrev pub share : Of K → Session → Session
+  share h s = L .make (L .items s) h
+
+  -- a struct made of such an array and such a field: its machine value is the one spelled out
+  module _ (xs : List (Of E)) (h : Of K) (long : length xs ≡ L .n) (each-is : Each E xs) (h-is : Is (K .type) h (K .val h ∷ [])) where
+    told : spelled E K (map (E .val) xs) h ≡ val (L .make xs h)
+    told = ap only (L .tells (L .make xs h) (spelled E K (map (E .val) xs) h ∷ []) (L .closed xs h long each-is h-is))
+
+    is-made : Is (L .type) (L .make xs h) (val (L .make xs h) ∷ [])
+    is-made = subst (λ (v : Val). Is (L .type) (L .make xs h) (v ∷ [])) told (L .closed xs h long each-is h-is)
+
   module _ (s : Session) (is : Is (L .type) s (val s ∷ [])) where
+    long : length (L .items s) ≡ L .n
+    long = L .opened s (val s) is .0 .0
+
+    each-is : Each E (L .items s)
+    each-is = L .opened s (val s) is .0 .1
+
     pub shared-is : Is (K .type) (L .shared s) (K .val (L .shared s) ∷ [])
     shared-is = L .opened s (val s) is .1
 
-    module _ (k : ℕ) (l : k < L .n) where
-      long : length (L .items s) ≡ L .n
-      long = L .opened s (val s) is .0 .0
+    -- with another field beside the array
+    module _ (h : Of K) (h-is : Is (K .type) h (K .val h ∷ [])) where
+      pub is-share : Is (L .type) (share h s) (val (share h s) ∷ [])
+      is-share = is-made (L .items s) h long each-is h-is
 
+      pub val-share : spelled E K (vals s) h ≡ val (share h s)
+      val-share = told (L .items s) h long each-is h-is
+
+    module _ (k : ℕ) (l : k < L .n) where
       pub vals-long : length (vals s) ≡ L .n
       vals-long = length-map (L .items s) (E .val) ∙ long
 
@@ -114,24 +136,24 @@ module _ {E K : Plain} (L : Slots E K) where
       within = subst (λ (m : ℕ). k < m) (sym vals-long) l
 
       pub is-at : Is (E .type) (at s k) (E .val (at s k) ∷ [])
-      is-at = each-at E (L .blank) (L .items s) k (subst (λ (m : ℕ). k < m) (sym long) l) (L .opened s (val s) is .0 .1)
+      is-at = each-at E (L .blank) (L .items s) k (subst (λ (m : ℕ). k < m) (sym long) l) each-is
 
       pub val-at : getD (vals s) k (E .val (L .blank)) ≡ E .val (at s k)
       val-at = List·getD-map (E .val) (L .items s) k (L .blank)
 
+      -- with another element at k, and another field
       module _ (w : Of E) (h : Of K) (w-is : Is (E .type) w (E .val w ∷ [])) (h-is : Is (K .type) h (K .val h ∷ [])) where
-        closed-put : Is (L .type) (put k w h s) (spelled E K (map (E .val) (set (L .items s) k w)) h ∷ [])
-        closed-put = L .closed (set (L .items s) k w) h (length-set (L .items s) k w ∙ long) (each-set E (L .items s) k w (L .opened s
-            (val s) is .0 .1) w-is) h-is
+        set-long : length (set (L .items s) k w) ≡ L .n
+        set-long = length-set (L .items s) k w ∙ long
 
-        told : spelled E K (map (E .val) (set (L .items s) k w)) h ≡ val (put k w h s)
-        told = ap only (L .tells (put k w h s) (spelled E K (map (E .val) (set (L .items s) k w)) h ∷ []) closed-put)
+        set-is : Each E (set (L .items s) k w)
+        set-is = each-set E (L .items s) k w each-is w-is
 
         pub is-put : Is (L .type) (put k w h s) (val (put k w h s) ∷ [])
-        is-put = subst (λ (v : Val). Is (L .type) (put k w h s) (v ∷ [])) told closed-put
+        is-put = is-made (set (L .items s) k w) h set-long set-is h-is
 
         pub val-put : spelled E K (set (vals s) k (E .val w)) h ≡ val (put k w h s)
-        val-put = ap (λ (us : List Val). spelled E K us h) (sym (map-set (E .val) (L .items s) k w)) ∙ told
+        val-put = ap (λ (us : List Val). spelled E K us h) (sym (map-set (E .val) (L .items s) k w)) ∙ told (set (L .items s) k w) h set-long set-is h-is
 
 -- a field that is an array of records holds the tuples of their fields: the records' machine values and what they own are those of the tuples
 pub maps : {X Y Z : Type 0} (f : Y → Z) (g : X → Y) (xs : List X) → map f (map g xs) ≡ map (λ (x : X). f (g x)) xs
