@@ -4,6 +4,7 @@ use mathlib.Core.Bool.{Bool, false, cond, _&&_, _||_}
 use mathlib.Core.List.{List, [], _∷_, _++_}
 use mathlib.Core.Option.{Option, none, some}
 use mathlib.Core.Path.{_≡_}
+use mathlib.Core.Logic.{_⊎_}
 use lib.IntN.{pos}
 use lib.Dec.{leb, eqb}
 use lib.ListN.{take, drop}
@@ -24,7 +25,7 @@ pub record Picked (o : Option Call) (P : Call → Type 0) : Type 0 where
   pub is : o ≡ some call
   pub so : P call
 
--- "`show ID` · `hide ID` · `drop ID` · `mark ID`: these"; "`move ID X Y`: move"
+-- "`show ID` · `hide ID` · `drop ID` · `mark ID`: these"; "`move ID X Y`: move"; "`begin FULL`: begin; FULL is 0 or 1"
 abbrev pub windowCalls : List ℕ → List (ℕ × Call)
 windowCalls ns =
     (Kind.show, Call.Show (idOf ns))
@@ -32,6 +33,7 @@ windowCalls ns =
     ∷ (Kind.drop, Call.Drop (idOf ns))
     ∷ (Kind.mark, Call.Mark (idOf ns))
     ∷ (Kind.move, Call.Move (idOf ns) (num ns 1) (num ns 2))
+    ∷ (Kind.begin, Call.Begin (eqb (num ns 0) 1))
     ∷ []
 
 -- "`keydown V` · `keyup V` · `keyfire V` · `text V`: route"; "`mousemove X Y`: route a MouseMove, its differences 0"; "`mousedown X Y B` ·
@@ -63,9 +65,11 @@ plainCall k ns = pick k (windowCalls ns ++ routeCalls ns)
 unfoldable pub storeCall : ℕ → ℕ → List ℕ → List ℕ → Option Call
 storeCall k n ns store = pick k (storeCalls n ns store)
 
--- "`redraw FULL W H`: redraw; FULL is 0 or 1"
-abbrev pub redrawOf : List ℕ → List ℕ → List ℕ → Call
-redrawOf ns store screen = Call.Redraw (eqb (num ns 0) 1) (num ns 1) (num ns 2) store screen
+-- "`redraw FULL W H`: redraw; FULL is 0 or 1"; "`portion W H`: portion"
+abbrev pub screenCall : ℕ → List ℕ → List ℕ → List ℕ → Call
+screenCall k ns store screen =
+    cond (eqb k Kind.portion) (Call.Portion (num ns 0) (num ns 1) store screen)
+    (Call.Redraw (eqb (num ns 0) 1) (num ns 1) (num ns 2) store screen)
 
 -- Which function plays a line -----------------------------------------------------------------------------------------
 
@@ -88,6 +92,12 @@ routes k = within Kind.keydown Kind.resized k
 abbrev pub isPlain : ℕ → Bool
 isPlain k = isOne k (kinds (windowCalls [])) || routes k
 
+-- pixels of the screen are lent
+abbrev pub OnScreen : ℕ → Type 0
+OnScreen k = (k ≡ Kind.redraw) ⊎ (k ≡ Kind.portion)
+
 -- pixels or a list are lent
 abbrev pub isLent : ℕ → Bool
-isLent k = within Kind.resize Kind.blit k || (eqb k Kind.redraw || (eqb k Kind.visible || within Kind.screen Kind.region k))
+isLent k =
+    within Kind.resize Kind.blit k
+    || (eqb k Kind.redraw || (eqb k Kind.portion || (eqb k Kind.visible || within Kind.screen Kind.region k)))

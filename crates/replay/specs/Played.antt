@@ -4,6 +4,7 @@ use Prim.Native.Nat.{ℕ, _*_, _≤_, _<_}
 use mathlib.Core.Path.{_≡_}
 use mathlib.Core.Bool.{cond}
 use mathlib.Core.List.{List, _++_}
+use lib.Dec.{eqb}
 use lib.ListN.{take, drop}
 use Rattle.script.specs.declared.shape.Line.{Line}
 use Rattle.script.specs.Kind as Kind
@@ -18,7 +19,7 @@ use Rattle.windows.specs.declared.Listing.{Listing}
 use Rattle.windows.specs.View.{group, Meets}
 use Rattle.replay.specs.declared.player.Player.{Player}
 use Rattle.replay.specs.Numbers.{num, idOf}
-use Rattle.replay.specs.Called.{Picked, plainCall, storeCall, redrawOf}
+use Rattle.replay.specs.Called.{Picked, plainCall, storeCall, OnScreen, screenCall}
 use Rattle.replay.specs.Ready.{Next, lendStore, lendScreen, unset, lendList, counted}
 
 -- "The program owns one store, one screen"
@@ -40,9 +41,9 @@ pub record Begins (c : ℕ) (p r : Player) : Type 0 where
   pub next : Next (lendStore (16 * sessionC c) p) (r .session) r
   pub after : group (r .session) ≡ start c .group
 
--- how many pixels of the screen a redraw is lent: what `lend-screen` said, or "the screen lent has W × H pixels"
-abbrev pub screenLen : Player → List ℕ → ℕ
-screenLen p ns = cond (p .«is_set») (p .screen) (num ns 1 * num ns 2)
+-- how many pixels of the screen a redraw or a portion is lent: what `lend-screen` said, or "the screen lent has W × H pixels"
+abbrev pub screenLen : Player → ℕ → List ℕ → ℕ
+screenLen p k ns = cond (p .«is_set») (p .screen) (cond (eqb k Kind.portion) (num ns 0 * num ns 1) (num ns 1 * num ns 2))
 
 -- a call that is lent the first n pixels of the store leaves the others as they were
 pub record MeetsPart (k : Call) (n : ℕ) (store : List ℕ) (s : Session) (r : Done) (after : List ℕ) : Type 0 where
@@ -66,17 +67,17 @@ pub record Stores (k : Call) (p : Player) (store : List ℕ) (r : Player) (after
   pub makes : Makes k p r
   pub stored : after ≡ does (group (p .session)) k .store ++ drop (p .lent) store
 
--- "lend the next `redraw` a screen of LEN pixels, whatever its W and H": a redraw uses that up
-pub record Draws (ns : List ℕ) (len : ℕ) (p : Player) (store screen : List ℕ) (r : Player) (after : List ℕ) : Type 0 where
-  pub makes : Makes (redrawOf ns (take (p .lent) store) (take len screen)) (unset p) r
-  pub shown : after ≡ does (group (p .session)) (redrawOf ns (take (p .lent) store) (take len screen)) .screen ++ drop len screen
+-- "lend the next `redraw` or `portion` a screen of LEN pixels, whatever its W and H": either uses that up
+pub record Draws (k : ℕ) (ns : List ℕ) (len : ℕ) (p : Player) (store screen : List ℕ) (r : Player) (after : List ℕ) : Type 0 where
+  pub makes : Makes (screenCall k ns (take (p .lent) store) (take len screen)) (unset p) r
+  pub shown : after ≡ does (group (p .session)) (screenCall k ns (take (p .lent) store) (take len screen)) .screen ++ drop len screen
 
 -- "A `start` whose C document 01 accepts but whose store the program cannot lend (C from 65,537 on), a `lend`, `lend-screen` or
--- `lend-list` above those limits, and a `redraw` (with no `lend-screen` pending) … of more than 384,000 pixels are answered by `!`, and
--- nothing is called."
+-- `lend-list` above those limits, and a `redraw` or `portion` (with no `lend-screen` pending) … of more than 384,000 pixels are answered by
+-- `!`, and nothing is called."
 pub data Beyond (k : ℕ) (ns : List ℕ) (p : Player) : Type 0 where
   no-start : k ≡ Kind.start → 65536 < num ns 0 → num ns 0 ≤ 1048576 → Beyond k ns p
-  no-redraw : k ≡ Kind.redraw → 384000 < screenLen p ns → Beyond k ns p
+  no-redraw : OnScreen k → 384000 < screenLen p k ns → Beyond k ns p
   no-store : k ≡ Kind.lend → 1048576 < num ns 0 → Beyond k ns p
   no-screen : k ≡ Kind.lend-screen → 384000 < num ns 0 → Beyond k ns p
   no-list : k ≡ Kind.lend-list → 1984 < num ns 0 → Beyond k ns p
@@ -92,8 +93,8 @@ pub data Plays (l : Line) (ns : List ℕ) (p : Player) (a : Pixels) (r : Player)
   stores : Picked (storeCall (l .kind) (l .count) ns (take (p .lent) (a .store))) (λ c. Stores c p (a .store) r (b .store)) → b .screen ≡ a .screen
       → Plays l ns p a r b
   pops : l .kind ≡ Kind.pop → Makes (Call.Pop (idOf ns)) p r → b ≡ a → Plays l ns p a r b
-  redraws : l .kind ≡ Kind.redraw → screenLen p ns ≤ 384000 → Draws ns (screenLen p ns) p (a .store) (a .screen) r (b .screen) → b .store ≡ a .store
-      → Plays l ns p a r b
+  redraws : OnScreen (l .kind) → screenLen p (l .kind) ns ≤ 384000
+      → Draws (l .kind) ns (screenLen p (l .kind) ns) p (a .store) (a .screen) r (b .screen) → b .store ≡ a .store → Plays l ns p a r b
   -- "the visible list, lent 1,984 numbers", or as many as `lend-list` said, which it uses up
   lists : l .kind ≡ Kind.visible → Next (lendList 1984 p) (p .session) r → b ≡ a → Plays l ns p a r b
   asks-focus : l .kind ≡ Kind.focus → Next p (p .session) r → b ≡ a → Plays l ns p a r b

@@ -30,11 +30,11 @@ pub record Next (p : Player) (s : Session) (r : Player) : Type 0 where
 abbrev pub lendStore : ℕ → Player → Player
 lendStore n p = record { session = p .session; lent = n; «is_set» = p .«is_set»; screen = p .screen; list = p .list; at = p .at; lines = p .lines }
 
--- the next redraw is lent a screen of n pixels
+-- the next redraw or portion is lent a screen of n pixels
 abbrev pub lendScreen : ℕ → Player → Player
 lendScreen n p = record { session = p .session; lent = p .lent; «is_set» = true; screen = n; list = p .list; at = p .at; lines = p .lines }
 
--- nothing was said of the next redraw's screen
+-- nothing was said of the next screen
 abbrev pub unset : Player → Player
 unset p = record { session = p .session; lent = p .lent; «is_set» = false; screen = p .screen; list = p .list; at = p .at; lines = p .lines }
 

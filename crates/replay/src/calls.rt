@@ -35,6 +35,7 @@ fn plain(s: Session, line: Line, ns: &[u32; 4102]) -> Done
         kind::DROP => s.drop(id),
         kind::MARK => s.mark(id),
         kind::MOVE => s.move_window(id, numbers::pos(ns, 1)),
+        kind::BEGIN => s.begin(ns[0] == 1),
         _ => s.route(events::event(line, ns)),
     }
 }

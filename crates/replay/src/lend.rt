@@ -1,16 +1,14 @@
 // The lines that are lent a store, a screen or a list, and those that say how much of them is lent.
 ghost use mathlib.Core.Path.{_≡_};
-ghost use mathlib.Core.Bool.{cond};
 ghost use Prim.Native.Nat.{_-_, _*_, _≤_};
 ghost use lib.ListN.{length, take, drop};
 ghost use Rattle.rules.specs.Calls.{Call};
-ghost use Rattle.windows.specs.View.{group, Given, MeetsStore};
-ghost use Rattle.replay.specs.Called.{Picked, storeCall, redrawOf};
+ghost use Rattle.windows.specs.View.{group, Given, MeetsStore, MeetsScreen};
+ghost use Rattle.replay.specs.Called.{Picked, storeCall, screenCall, OnScreen};
 ghost use Rattle.replay.specs.Numbers.{num, idOf, rectAt, Sound};
-ghost use Rattle.script.specs.declared.shape.Line.{Line};
 ghost use Rattle.script.specs.Kind as Kind;
 ghost use Rattle.replay.specs.Ready.{Ready, Next, lendList};
-ghost use Rattle.replay.specs.Played.{pixels, MeetsPart, DrawsPart, ListsPart, Stores, Draws, Plays, PlaysAt};
+ghost use Rattle.replay.specs.Played.{pixels, screenLen, MeetsPart, DrawsPart, ListsPart, Stores, Draws, Plays, PlaysAt};
 use crate::numbers;
 use crate::player::Player;
 use crate::text;
@@ -74,8 +72,21 @@ pub fn stored(
     p.answered(done, out)
 }
 
-fn draw(
+// The calls that draw on the screen.
+fn draw(s: Session, k: u8, ns: &[u32; 4102], store: &[u32], screen: &mut [u32]) -> Done
+    requires { ⌜ Given s ⌝ }
+    ensures { λ r. ⌜ MeetsScreen (screenCall k (now (ns .entry)) (now (store .entry)) (now (screen .entry))) s r (now (screen .exit)) ⌝ }
+{
+    if k == kind::PORTION {
+        return s.portion(store, screen, ns[0], ns[1]);
+    }
+    let told = ns[0] == 1;
+    s.redraw(told, store, screen, ns[1], ns[2])
+}
+
+fn draw_part(
     s: Session,
+    k: u8,
     ns: &[u32; 4102],
     store: &[u32],
     lent: usize,
@@ -83,24 +94,27 @@ fn draw(
     len: usize,
 ) -> Done
     requires { ⌜ Given s × (lent ≤ length (now store)) × (len ≤ length (now screen)) ⌝ }
-    ensures { λ r. ⌜ DrawsPart (redrawOf (now (ns .entry)) (take lent (now (store .entry))) (take len (now (screen .entry)))) len (now (screen .entry)) s r (now (screen .exit)) ⌝ }
+    ensures { λ r. ⌜ DrawsPart (screenCall k (now (ns .entry)) (take lent (now (store .entry))) (take len (now (screen .entry)))) len (now (screen .entry)) s r (now (screen .exit)) ⌝ }
 {
-    let told = ns[0] == 1;
-    s.redraw(told, &store[0..lent], &mut screen[0..len], ns[1], ns[2])
+    draw(s, k, ns, &store[0..lent], &mut screen[0..len])
 }
 
-// How many pixels of the screen a redraw is lent: what was said, or what the line's size asks for.
-fn screen_len(p: Player, w: u32, h: u32) -> u64
-    ensures { λ r. ⌜ r ≡ cond (p .«is_set») (p .screen) (w * h) ⌝ }
+// How many pixels of the screen a line is lent: what was said, or what its size asks for.
+fn screen_len(p: Player, k: u8, ns: &[u32; 4102]) -> u64
+    ensures { λ r. ⌜ r ≡ screenLen p k (now (ns .entry)) ⌝ }
 {
     if p.is_set {
         return p.screen as u64;
     }
-    numbers::size(w, h)
+    if k == kind::PORTION {
+        return numbers::size(ns[0], ns[1]);
+    }
+    numbers::size(ns[1], ns[2])
 }
 
 fn drawn(
     mut p: Player,
+    k: u8,
     ns: &[u32; 4102],
     store: &[u32; 1048576],
     screen: &mut [u32; 384000],
@@ -108,27 +122,30 @@ fn drawn(
     out: &mut [u8; 65536],
 ) -> Player
     requires { ⌜ Ready p × (len ≤ 384000) ⌝ }
-    ensures { λ r. ⌜ Draws (now (ns .entry)) len p (now (store .entry)) (now (screen .entry)) r (now (screen .exit)) ⌝ }
+    ensures { λ r. ⌜ Draws k (now (ns .entry)) len p (now (store .entry)) (now (screen .entry)) r (now (screen .exit)) ⌝ }
 {
     let s = p.session;
-    let done = draw(s, ns, store, p.lent, screen, len);
+    let done = draw_part(s, k, ns, store, p.lent, screen, len);
     p.is_set = false;
     p.answered(done, out)
 }
 
+// The lines redraw and portion.
 pub fn redraw(
     p: Player,
+    line: Line,
     ns: &[u32; 4102],
     store: &[u32; 1048576],
     screen: &mut [u32; 384000],
     out: &mut [u8; 65536],
 ) -> Player
-    requires { ⌜ Ready p ⌝ }
-    ensures { λ r. ⌜ ((l : Line) → l .kind ≡ Kind.redraw → Plays l (now (ns .entry)) p (pixels (now (store .entry)) (now (screen .entry))) r (pixels (now (store .entry)) (now (screen .exit)))) ⌝ }
+    requires { ⌜ Ready p × OnScreen (line .kind) ⌝ }
+    ensures { λ r. ⌜ Plays line (now (ns .entry)) p (pixels (now (store .entry)) (now (screen .entry))) r (pixels (now (store .entry)) (now (screen .exit))) ⌝ }
 {
-    let len = screen_len(p, ns[1], ns[2]);
+    let k = line.kind;
+    let len = screen_len(p, k, ns);
     if len <= 384000 {
-        return drawn(p, ns, store, screen, len as usize, out);
+        return drawn(p, k, ns, store, screen, len as usize, out);
     }
     p.refused(out)
 }

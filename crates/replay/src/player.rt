@@ -17,8 +17,8 @@ use script::kind;
 use windows::Done;
 use windows::Session;
 
-// `lent` pixels of the store are lent. The next redraw is lent `screen` pixels where `is_set`, and the next visible list `list` numbers.
-// `at` bytes of the output wait to be written; `lines` lines have been read.
+// `lent` pixels of the store are lent. The next redraw or portion is lent `screen` pixels where `is_set`, and the next visible list `list`
+// numbers. `at` bytes of the output wait to be written; `lines` lines have been read.
 pub struct Player {
     pub session: Session,
     pub lent: usize,
@@ -151,7 +151,7 @@ impl Player {
         let k = line.kind;
         match k {
             kind::RESIZE | kind::FILL | kind::BLIT => lend::stored(self, line, ns, store, out),
-            kind::REDRAW => lend::redraw(self, ns, store, screen, out),
+            kind::REDRAW | kind::PORTION => lend::redraw(self, line, ns, store, screen, out),
             kind::VISIBLE => lend::visible(self, ns, list, out),
             kind::SCREEN..=kind::REGION => self.shown(line, ns, name, store, screen, out),
             _ => calls::call(self, line, ns, out),

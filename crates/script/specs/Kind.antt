@@ -124,6 +124,12 @@ set-scanline = 39
 abbrev pub region : ℕ
 region = 40
 
+abbrev pub begin : ℕ
+begin = 41
+
+abbrev pub portion : ℕ
+portion = 42
+
 -- the last of them
 abbrev pub last : ℕ
-last = region
+last = portion

@@ -129,6 +129,8 @@ table =
     ∷ rowMore "fill-scanline" Kind.fill-scanline 6
     ∷ rowMore "set-scanline" Kind.set-scanline 6
     ∷ rowMore "region" Kind.region 5
+    ∷ row "begin" Kind.begin 1
+    ∷ row "portion" Kind.portion 2
     ∷ []
 
 abbrev pub sameWord : List ℕ → List ℕ → Bool
@@ -165,7 +167,8 @@ ranged k n ns =
     (cond (eqb k Kind.mouseup) (leb (getD ns 2 0) 255)
     (cond (eqb k Kind.mouseclick) (leb (getD ns 2 0) 255 && leb (getD ns 3 0) 255)
     (cond (eqb k Kind.redraw) (leb (getD ns 0 0) 1)
-    (cond (eqb k Kind.set-scanline) (leb (6 + getD ns 5 0) n) true))))
+    (cond (eqb k Kind.begin) (leb (getD ns 0 0) 1)
+    (cond (eqb k Kind.set-scanline) (leb (6 + getD ns 5 0) n) true)))))
 
 -- a `picture` has a name, and no other line has
 unfoldable pub nameFits : ℕ → ℕ → Bool

@@ -9,6 +9,7 @@ use crate::Line;
 use crate::Reading;
 use crate::count;
 use crate::kind;
+use crate::kind::BEGIN;
 use crate::kind::MALFORMED;
 use crate::kind::MOUSECLICK;
 use crate::kind::MOUSEDOWN;
@@ -51,6 +52,9 @@ fn is_ranged(kind: u8, count: usize, numbers: &[u32]) -> bool
         return numbers[3] <= 255;
     }
     if kind == REDRAW {
+        return numbers[0] <= 1;
+    }
+    if kind == BEGIN {
         return numbers[0] <= 1;
     }
     if kind == SET_SCANLINE {

@@ -1,4 +1,4 @@
-// What a line is: a number for each word that a line begins with, in the order of CALL-SCRIPT.md's tables.
+// What a line is: a number for each word that a line begins with, in the order of CALL-SCRIPT.md's tables; a word that came later is last.
 ghost use mathlib.Core.Path.{_≡_};
 ghost use Prim.Native.Nat.{_<_};
 ghost use lib.ListN.{take};
@@ -88,8 +88,12 @@ pub const SET_SCANLINE: u8 = 39;
 
 pub const REGION: u8 = 40;
 
+pub const BEGIN: u8 = 41;
+
+pub const PORTION: u8 = 42;
+
 // The last of them.
-pub const LAST: u8 = REGION;
+pub const LAST: u8 = PORTION;
 
 const WORDS: usize = LAST as usize - 1;
 
@@ -138,6 +142,8 @@ pub const ROWS: [u8; WORDS * ROW] = *b"\
     \x0d\x06+fill-scanline   \
     \x0c\x06+set-scanline    \
     \x06\x05+region          \
+    \x05\x01 begin           \
+    \x07\x02 portion         \
     ";
 
 pub fn wide(b: u8) -> usize

@@ -3,12 +3,13 @@ use Prim.Native.Nat.{ℕ, zero, suc, _+_, _-_, _≤_, _<_}
 use mathlib.Core.Path.{_≡_, refl}
 use mathlib.Core.Bool.{Bool, true, false, _&&_, _||_}
 use mathlib.Core.List.{List, [], _∷_}
+use mathlib.Core.Logic.{inl, inr}
 use native.Mathlib.Omega.{arith}
 use lib.Dec.{leb, eqb}
 use borrow.Author.Tests.{eqb-true, eqb-false, ne-eqb, leb-true, lt-leb}
 use Rattle.geom.proofs.basics.Tests.{fst, snd, clash}
 use Rattle.script.specs.Kind as Kind
-use Rattle.replay.specs.Called.{windowCalls, kinds, isOne, within, routes, isPlain, isLent}
+use Rattle.replay.specs.Called.{windowCalls, kinds, isOne, within, routes, isPlain, OnScreen, isLent}
 
 -- B, and k is none of the numbers: what a match's last arm knows
 abbrev pub NoneOf : ℕ → Type 0 → List ℕ → Type 0
@@ -58,10 +59,16 @@ outside low high k h = go (leb low k) refl
     go true e = lt-leb k high (h (leb-true low k e))
     go false e = refl
 
-pub not-lent : (k : ℕ) → (k ≡ Kind.redraw → ⊥) → (k ≡ Kind.visible → ⊥) → (Kind.resize ≤ k → Kind.blit < k) → (Kind.screen ≤ k → Kind.region < k)
+pub not-lent : (k : ℕ) → (OnScreen k → ⊥) → (k ≡ Kind.visible → ⊥) → (Kind.resize ≤ k → Kind.blit < k) → (Kind.screen ≤ k → Kind.region < k)
     → isLent k ≡ false
-not-lent k r v w s =
-    rw (outside Kind.resize Kind.blit k w, ne-eqb k Kind.redraw r, ne-eqb k Kind.visible v, outside Kind.screen Kind.region k s)
+not-lent k o v w s =
+    rw (
+      outside Kind.resize Kind.blit k w,
+      ne-eqb k Kind.redraw (λ e. o (inl e)),
+      ne-eqb k Kind.portion (λ e. o (inr e)),
+      ne-eqb k Kind.visible v,
+      outside Kind.screen Kind.region k s,
+    )
 
 -- Every line is played -------------------------------------------------------------------------------------------------
 

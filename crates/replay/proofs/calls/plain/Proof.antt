@@ -31,6 +31,12 @@ pos-requires c κs = search needs
 move-window-requires : tie.Need-move-window-requires
 move-window-requires c κs = search needs
 
+element-copy-out-begin : tie.Need-element-copy-out-begin
+element-copy-out-begin c = search needs
+
+begin-requires : tie.Need-begin-requires
+begin-requires c κs = search needs
+
 event-requires : tie.Need-event-requires
 event-requires c κs = (c .before .before .pre .1, routes-left _ _ (c .match .rest) (c .before .before .pre .2))
 
@@ -61,7 +67,10 @@ returns-5 c =
     (subst (λ (k : Call). Meets k (args .s) (c .move-window .result)) to (c .move-window .ensures))
 
 returns-6 : tie.Need-returns-6
-returns-6 c = record { call = Call.Route (c .before .event .result); is = c .before .event .ensures; so = c .route .ensures }
+returns-6 c = plain-at (c .before .before .match .keys6) _ refl (c .begin .ensures)
+
+returns-7 : tie.Need-returns-7
+returns-7 c = record { call = Call.Route (c .before .event .result); is = c .before .event .ensures; so = c .route .ensures }
 
 pub plain-spec : {M : Type 1} → statement M
 plain-spec =
@@ -74,6 +83,8 @@ plain-spec =
     mark-requires
     pos-requires
     move-window-requires
+    element-copy-out-begin
+    begin-requires
     event-requires
     route-requires
     returns
@@ -81,4 +92,5 @@ plain-spec =
     returns-3
     returns-4
     returns-5
-    returns-6)
+    returns-6
+    returns-7)

@@ -41,6 +41,13 @@ returns-5 : tie.Need-returns-5
 unfolding ranged
 returns-5 c = rw (c .before .if5 .taken)
 
+shared-slice-read-result-5 : tie.Need-shared-slice-read-result-5
+shared-slice-read-result-5 c = search needs
+
+returns-6 : tie.Need-returns-6
+unfolding ranged
+returns-6 c = rw (c .before .if6 .taken)
+
 shared-slice-read-wide : tie.Need-shared-slice-read-wide
 shared-slice-read-wide c = search needs
 
@@ -50,19 +57,20 @@ wide-requires c κs = search needs
 add-result : tie.Need-add-result
 add-result c = search needs
 
-returns-6 : tie.Need-returns-6
-unfolding ranged
-returns-6 c = rw (c .before .before .if6 .taken, c .wide .ensures .0)
-
 returns-7 : tie.Need-returns-7
 unfolding ranged
-returns-7 c =
+returns-7 c = rw (c .before .before .if7 .taken, c .wide .ensures .0)
+
+returns-8 : tie.Need-returns-8
+unfolding ranged
+returns-8 c =
     rw (
-      ne-eqb _ Kind.mousedown (c .before .before .before .before .if1 .left),
-      ne-eqb _ Kind.mouseup (c .before .before .before .if2 .left),
-      ne-eqb _ Kind.mouseclick (c .before .before .if3 .left),
-      ne-eqb _ Kind.redraw (c .before .if5 .left),
-      ne-eqb _ Kind.set-scanline (c .if6 .left),
+      ne-eqb _ Kind.mousedown (c .before .before .before .before .before .if1 .left),
+      ne-eqb _ Kind.mouseup (c .before .before .before .before .if2 .left),
+      ne-eqb _ Kind.mouseclick (c .before .before .before .if3 .left),
+      ne-eqb _ Kind.redraw (c .before .before .if5 .left),
+      ne-eqb _ Kind.begin (c .before .if6 .left),
+      ne-eqb _ Kind.set-scanline (c .if7 .left),
     )
 
 pub is-ranged-spec : {M : Type 1} → statement M
@@ -79,8 +87,10 @@ is-ranged-spec =
     returns-4
     shared-slice-read-result-4
     returns-5
+    shared-slice-read-result-5
+    returns-6
     shared-slice-read-wide
     wide-requires
     add-result
-    returns-6
-    returns-7)
+    returns-7
+    returns-8)

@@ -33,7 +33,7 @@ call-requires c κs =
     )
 
 returns : tie.Need-returns
-returns c = c .redraw .ensures (c .before .before .before .before .before .before .args .line) (c .before .before .before .before .before .match .keys1)
+returns c = c .redraw .ensures
 
 returns-2 : tie.Need-returns-2
 returns-2 c = lists (c .before .before .before .before .match .keys2) (c .visible .ensures) refl
