@@ -32,6 +32,8 @@ pub enum Call {
     Route(Event),
     Pop(u32),
     Redraw(bool, u32, u32),
+    Begin(bool),
+    Portion(u32, u32),
     Visible(u32),
     Focus,
     Lend(u32),
@@ -107,6 +109,8 @@ fn session(word: &str, numbers: &[u32]) -> Option<Call> {
         }
         ("pop", &[id]) => Call::Pop(id),
         ("redraw", &[full, w, h]) if full <= 1 => Call::Redraw(full == 1, w, h),
+        ("begin", &[full]) if full <= 1 => Call::Begin(full == 1),
+        ("portion", &[w, h]) => Call::Portion(w, h),
         ("visible", &[id]) => Call::Visible(id),
         ("focus", &[]) => Call::Focus,
         _ => return None,

@@ -1,5 +1,6 @@
 //! Plays random lists on both programs until enough calls were compared.
 use crate::lists::{append, Scene};
+use crate::player::Mode;
 use crate::random::Random;
 use crate::replay::Replay;
 use crate::script::{text_of, Script};
@@ -29,7 +30,7 @@ pub fn run(replay: &Replay, calls: u64, seed: u64) -> io::Result<bool> {
 }
 
 fn chunk(random: &mut Random, tally: &mut Tally, calls: u64) -> Script {
-    let mut script = Script::new();
+    let mut script = Script::new(Mode::Common);
     while script.lines.len() < CHUNK && tally.calls < calls {
         let scene = Scene::random(random);
         append(random, &mut script, tally, scene);

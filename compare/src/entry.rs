@@ -12,10 +12,11 @@ pub enum Entry {
     WidenRows,
     NarrowTaller,
     SeventeenthEntry,
+    Portion,
 }
 
 impl Entry {
-    pub const ALL: [Entry; 10] = [
+    pub const ALL: [Entry; 11] = [
         Entry::SomeEntriesMet,
         Entry::PiecesApart,
         Entry::BarePixels,
@@ -26,6 +27,7 @@ impl Entry {
         Entry::WidenRows,
         Entry::NarrowTaller,
         Entry::SeventeenthEntry,
+        Entry::Portion,
     ];
 
     pub fn text(self) -> &'static str {
@@ -40,6 +42,7 @@ impl Entry {
             Entry::WidenRows => "a widening from two or more rows",
             Entry::NarrowTaller => "a narrowing to greater height",
             Entry::SeventeenthEntry => "a 17th dirty entry",
+            Entry::Portion => "a portion of a redraw",
         }
     }
 }

@@ -11,6 +11,7 @@ mod panics;
 mod picture;
 mod places;
 mod player;
+mod portions;
 mod questions;
 mod random;
 mod record;
@@ -31,6 +32,7 @@ use std::process::ExitCode;
 use text::Text;
 
 const USAGE: &str = "compare random REPLAY CALLS SEED
+compare portions REPLAY LISTS SEED
 compare sides REPLAY all|unasked FILE
 compare record FILE STDIN STDOUT
 compare play all|unasked";
@@ -52,6 +54,7 @@ fn main() -> ExitCode {
 fn command(words: &[&str]) -> io::Result<bool> {
     match *words {
         ["random", replay, calls, seed] => compare::run(&Replay(replay.into()), number(calls)?, number(seed)?),
+        ["portions", replay, lists, seed] => portions::run(&Replay(replay.into()), number(lists)?, number(seed)?),
         ["sides", replay, word, file] => {
             sides::print(&Replay(replay.into()), &fs::read(file)?, mode(word)?).map(|()| true)
         }

@@ -60,7 +60,7 @@ impl Player {
             Line::Malformed => out.line(&format!("? {}", self.lines)),
             Line::Call(call) if cannot(&call, &self.lent) => out.line("!"),
             Line::Call(call) => {
-                let answer = answer(&call, &self.group, &self.lent);
+                let answer = answer(&call, &self.group, &self.lent, self.shadow.is_walking());
                 if let Some(entry) = self.entry(&call, answer) {
                     self.lines -= 1;
                     return Played::Outside(entry);
@@ -98,7 +98,7 @@ impl Player {
             out.end();
         }
         match call {
-            Call::Redraw(..) => self.lent.screen = None,
+            Call::Redraw(..) | Call::Portion(..) => self.lent.screen = None,
             Call::Visible(_) => self.lent.list = None,
             _ => {}
         }
@@ -176,6 +176,7 @@ impl Player {
                     out.instead("!");
                 }
             }
+            Call::Portion(..) => out.instead("no such call"),
             _ => bare::make(call, out),
         }
     }

@@ -8,7 +8,7 @@ use original::Rect;
 pub struct Lent {
     pub c: u32,
     pub store: u32,
-    /// The lengths for the next `redraw` and the next `visible`.
+    /// The lengths for the next `redraw` or `portion` and the next `visible`.
     pub screen: Option<u32>,
     pub list: Option<u32>,
 }
@@ -25,16 +25,17 @@ pub fn cannot(call: &Call, lent: &Lent) -> bool {
         Call::Lend(pixels) => pixels > STORE,
         Call::LendScreen(pixels) => pixels > SCREEN,
         Call::LendList(numbers) => numbers > LIST,
-        Call::Redraw(_, w, h) => lent.screen.is_none() && large(w, h),
+        Call::Redraw(_, w, h) | Call::Portion(w, h) => lent.screen.is_none() && large(w, h),
         Call::Screen(w, h) | Call::Picture(w, h, _) => large(w, h),
         _ => false,
     }
 }
 
-/// The number of the first question with a no, or 0.
-pub fn answer(call: &Call, group: &Group, lent: &Lent) -> u8 {
+/// The number of the first question with a no, or 0. The original knows of no walk, so that the caller says whether one is on.
+pub fn answer(call: &Call, group: &Group, lent: &Lent, is_walking: bool) -> u8 {
     let store = || (1, u64::from(lent.store) == 16 * u64::from(lent.c));
     let used = |id: u32| (3, id < 16 && group.is_used(id));
+    let screen = |w: u32, h: u32| (8, is_screen(w, h, lent.screen));
     match call {
         Call::Start(c) => first_no(&[(2, (1..=1_048_576).contains(c))]),
         Call::Create => first_no(&[(4, group.count() < 16)]),
@@ -47,7 +48,8 @@ pub fn answer(call: &Call, group: &Group, lent: &Lent) -> u8 {
         Call::Fill(id, area, _) => first_no(&[store(), used(*id), small_rect(area)]),
         Call::Blit(id, area, stride, _) => first_no(&[store(), used(*id), small_rect(area), (7, *stride >= 1)]),
         Call::Route(event) => first_no(&[small_point(event)]),
-        Call::Redraw(_, w, h) => first_no(&[store(), (8, is_screen(*w, *h, lent.screen))]),
+        Call::Redraw(_, w, h) => first_no(&[store(), screen(*w, *h)]),
+        Call::Portion(w, h) => first_no(&[store(), screen(*w, *h), (20, is_walking)]),
         Call::Visible(id) => {
             let needed = |id| 4 * group.visible(id).len() as u64;
             let room = u64::from(lent.list.unwrap_or(LIST));

@@ -1,5 +1,6 @@
 //! Writes a script and the original's answers to it, for the gate.
 use crate::lists::{append, Scene};
+use crate::player::Mode;
 use crate::random::Random;
 use crate::script::{text_of, Script};
 use crate::tally::Tally;
@@ -11,7 +12,7 @@ const LINES: usize = 4000;
 
 /// Records the lines of the first file, and then random lists.
 pub fn write(first: &str, stdin: &str, stdout: &str) -> io::Result<()> {
-    let mut script = Script::new();
+    let mut script = Script::new(Mode::Common);
     let mut tally = Tally::default();
     for line in fs::read_to_string(first)?.lines() {
         let played = script.play(line, &mut tally);

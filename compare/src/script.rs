@@ -15,9 +15,9 @@ pub struct Script {
 }
 
 impl Script {
-    pub fn new() -> Script {
+    pub fn new(mode: Mode) -> Script {
         Script {
-            player: Player::new(Mode::Common),
+            player: Player::new(mode),
             lines: Vec::new(),
             answered: Vec::new(),
             answers: Text::default(),

@@ -1,4 +1,5 @@
-//! A small shadow of the session. It is asked for one thing: whether an accepted call falls under an entry of "Not common".
+//! A small shadow of the session. It is asked whether an accepted call falls under an entry of "Not common", and for what the original
+//! leaves to its caller: whether a full redraw is owed, and whether a walk is on.
 use crate::area::Area;
 use crate::call::Call;
 use crate::damage::{Damage, Direction, Joined};
@@ -16,6 +17,13 @@ pub struct Seen {
     pub meeting: u64,
 }
 
+/// A redraw that was begun and is neither over nor dropped: so many windows of the order are done.
+#[derive(Clone, Copy)]
+struct Walk {
+    done: usize,
+    full: bool,
+}
+
 #[derive(Clone, Default)]
 pub struct Shadow {
     pub places: Places,
@@ -23,6 +31,7 @@ pub struct Shadow {
     marked: [bool; 16],
     /// "A full redraw is owed"
     pub owed: bool,
+    walk: Option<Walk>,
     pub seen: Seen,
 }
 
@@ -52,8 +61,13 @@ impl Shadow {
                 let size = scan.w as usize * scan.h as usize;
                 (size != pixels.len()).then_some(Entry::BarePixels)
             }
+            Call::Portion(..) => Some(Entry::Portion),
             _ => self.list_entry(call),
         }
+    }
+
+    pub fn is_walking(&self) -> bool {
+        self.walk.is_some()
     }
 
     /// How many dirty entries the window has.
@@ -64,8 +78,11 @@ impl Shadow {
     /// Follows an accepted call, which gave the id if it is a create.
     pub fn follow(&mut self, call: &Call, id: usize) {
         if let Some(places) = self.places.after(call) {
-            self.owed |= places.owes(&self.places, call);
+            let owes = places.owes(&self.places, call);
             self.places = places;
+            if owes {
+                self.owe();
+            }
             self.seen.changed += 1;
             self.seen.meeting += u64::from(self.places.any_meet());
         }
@@ -76,6 +93,8 @@ impl Shadow {
             Call::Fill(id, area, _) => self.fill(*id as usize, Area::of(area)),
             Call::Blit(id, area, ..) => self.hurt(*id as usize, Area::of(area)),
             Call::Redraw(told, ..) => self.redraw(*told),
+            Call::Begin(told) => self.begin(*told),
+            Call::Portion(..) => self.portion(),
             _ => {}
         }
     }
@@ -103,14 +122,47 @@ impl Shadow {
         }
     }
 
+    /// "an undivided redraw … drops the walk"
     fn redraw(&mut self, told: bool) {
-        for &id in &self.places.order {
-            if told || self.owed || self.marked[id] {
-                self.marked[id] = false;
-                self.damage[id] = Damage::default();
-            }
+        for id in self.places.order.clone() {
+            self.treat(id, told || self.owed);
         }
         self.owed = false;
+        self.walk = None;
+    }
+
+    fn treat(&mut self, id: usize, full: bool) {
+        if full || self.marked[id] {
+            self.marked[id] = false;
+            self.damage[id] = Damage::default();
+        }
+    }
+
+    /// "full if told so or owed"
+    fn begin(&mut self, told: bool) {
+        self.go_on(Walk { done: 0, full: told || self.owed });
+    }
+
+    /// "each portion treats the next window of the render order, lowest first"
+    fn portion(&mut self) {
+        let Some(Walk { done, full }) = self.walk else { return };
+        self.treat(self.places.order[done], full);
+        self.go_on(Walk { done: done + 1, full });
+    }
+
+    /// "A call that owes a full redraw sends the walk back to the bottom, in full."
+    fn owe(&mut self) {
+        self.owed = true;
+        if self.is_walking() {
+            self.go_on(Walk { done: 0, full: true });
+        }
+    }
+
+    /// "A walk with no window left to draw is over, and only then is the debt cleared."
+    fn go_on(&mut self, walk: Walk) {
+        let is_over = walk.done == self.places.order.len();
+        self.owed &= !is_over;
+        self.walk = (!is_over).then_some(walk);
     }
 
     fn damage_entry(&self, id: u32, area: &Area) -> Option<Entry> {

@@ -8,7 +8,7 @@ pub struct Tally {
     words: BTreeMap<String, u64>,
     answers: BTreeMap<String, u64>,
     entries: BTreeMap<Entry, u64>,
-    /// Calls in the common ground: accepted, or refused by 10, 11 or 12, and so made on both.
+    /// Calls in the common ground: accepted, or refused by 10, 11 or 12, and so made on both. A begin is nothing to the original.
     pub calls: u64,
     pub lists: u64,
     seen: Seen,
@@ -59,7 +59,7 @@ impl Tally {
         println!("lines, by word:");
         self.words.iter().for_each(|(word, count)| println!("  {word:14} {count:9}"));
         println!("answers of calls, and `?` and `!` lines:");
-        for answer in (0..=14).map(|answer| answer.to_string()).chain(["?".into(), "!".into()]) {
+        for answer in (0..=14).chain([20]).map(|answer| answer.to_string()).chain(["?".into(), "!".into()]) {
             println!("  {answer:14} {:9}", self.answers.get(&answer).unwrap_or(&0));
         }
         println!("damage:");

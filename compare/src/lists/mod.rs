@@ -7,6 +7,7 @@ mod no_calls;
 mod paint;
 mod scene;
 mod state;
+mod walks;
 mod wrong;
 
 use crate::entry::Entry;
@@ -73,6 +74,9 @@ impl<'a> Maker<'a> {
             (6, Maker::mark),
             (10, Maker::redraw),
             (5, Maker::paint),
+            (2, Maker::begin),
+            (3, Maker::portion),
+            (2, Maker::walk),
             (16, Maker::event),
             (14, Maker::pop),
             (1, Maker::flood),

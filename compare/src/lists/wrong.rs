@@ -36,6 +36,7 @@ impl Maker<'_> {
         let _ = self.blit();
         let _ = self.resize();
         self.redraw()?;
+        let _ = self.portion();
         let id = self.id();
         if self.scene.c < 1000 {
             self.say(&format!("pixels {id}"))?;
@@ -51,10 +52,11 @@ impl Maker<'_> {
         if self.random.chance(200) {
             self.no_call()?;
         }
-        match self.random.from_to(0, 4) {
+        match self.random.from_to(0, 5) {
             0 => self.say("redraw 1 32768 1"),
             1 => self.say("redraw 1 4294967295 4294967295"),
             2 => self.say("redraw 0 0 0"),
+            3 => self.say(&format!("portion {w} {h}")),
             _ => self.say(&format!("redraw 1 {w} {h}")),
         }
     }
