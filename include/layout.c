@@ -9,7 +9,7 @@ SIZE(RoqPos, 8);
 SIZE(RoqDims, 8);
 SIZE(RoqRect, 16);
 SIZE(RoqEvent, 20);
-SIZE(RoqSession, 5616);
+SIZE(RoqSession, 5640);
 SIZE(RoqCreated, 8);
 SIZE(RoqPopped, 24);
 SIZE(RoqListing, 16);
@@ -53,7 +53,18 @@ static RoqRect rect(uint32_t x, uint32_t y, uint32_t w, uint32_t h) {
     return r;
 }
 
-/* A session as large as the library's: its last word holds C, the focus and the debt, and nothing is written beyond. */
+/* A walk over the two windows that are shown, in the session's last words. */
+static void walk(void) {
+    EXPECT(roq_portion(s, 8, 8, store, 16 * C, screen, 64) == 20);
+    EXPECT(roq_begin(s, true) == 0 && s->words[702] == 0 && (s->words[703] & 0xffff) == 0x0101);
+    EXPECT(roq_portion(s, 8, 8, store, 16 * C, screen, 63) == 8 && s->words[702] == 0);
+    EXPECT(roq_portion(s, 8, 8, store, 16 * C, screen, 64) == 0 && s->words[702] == 1);
+    EXPECT(roq_portion(s, 8, 8, store, 16 * C, screen, 64) == 0 && (s->words[703] & 0xff) == 0);
+    EXPECT(roq_portion(s, 8, 8, store, 16 * C, screen, 64) == 20);
+}
+
+/* A session as large as the library's: its last words hold C and the focus, the walk's next place, whether it is on and full, and the debt;
+ * nothing is written beyond. */
 static void session(void) {
     EXPECT(roq_start(s, C) == 0 && (uint32_t)s->words[701] == C);
     for (int id = 0; id < 16; id++) {
@@ -64,9 +75,10 @@ static void session(void) {
     EXPECT(none.answer == 4 && none.id == ROQ_NO_ID);
     EXPECT(roq_resize(s, LAST, 200, 150, store, 16 * C) == 0 && roq_move(s, LAST, 3000, 4000) == 0);
     EXPECT(roq_show(s, 7) == 0 && roq_show(s, LAST) == 0 && roq_focus(s) == LAST);
-    EXPECT((s->words[701] >> 32 & 0xffff) == LAST && (s->words[701] >> 48 & 0xff) == 1);
+    EXPECT((s->words[701] >> 32 & 0xffff) == LAST && (s->words[704] & 0xff) == 1);
     EXPECT(roq_mark(s, LAST) == 0 && roq_redraw(s, false, 8, 8, store, 16 * C, screen, 64) == 0);
-    EXPECT((s->words[701] >> 48 & 0xff) == 0);
+    EXPECT((s->words[704] & 0xff) == 0);
+    walk();
     EXPECT(roq_fill(s, LAST, rect(9, 5, 7, 3), 6, store, 16 * C) == 0);
     EXPECT(store[LAST * C + 5 * 200 + 9] == 6 && store[LAST * C + 7 * 200 + 15] == 6 && store[LAST * C + 7 * 200 + 16] == 0);
     uint32_t data[6] = {11, 12, 13, 21, 22, 23};

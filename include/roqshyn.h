@@ -10,6 +10,7 @@
  *    5  coordinates and sizes are at most 32,767      12  its queue has a free place
  *    6  w x h is at most C                            13  the part lies in the pixels
  *    7  the stride is at least 1                      14  x + w and y + h are at most 4,294,967,295
+ *                                                     20  a walk was begun, and is neither over nor dropped
  *
  * Sessions. A session is one that roq_start, also a refused one, and these calls made, in the caller's memory; to keep to that is all
  * that a call asks of its caller. It may be copied and moved as a whole; nobody else writes it. One thread at a time uses it.
@@ -67,9 +68,9 @@ typedef struct RoqEvent {
 
 /* ---- A session ---- */
 
-/* 5,616 bytes. */
+/* 5,640 bytes. */
 typedef struct RoqSession {
-    uint64_t words[702];
+    uint64_t words[705];
 } RoqSession;
 
 /* Begins a session without windows, whose windows will have room for c pixels each. Asks 2; on a no it begins one all the same, with
@@ -133,6 +134,16 @@ RoqPopped roq_pop(RoqSession *s, uint16_t id);
  * else the marked windows. Reads the store, writes the screen. Asks 1, 8. */
 uint32_t roq_redraw(RoqSession *s, bool told, uint32_t width, uint32_t height, const uint32_t *store, size_t store_len,
                     uint32_t *screen, size_t screen_len);
+
+/* Begins a walk, which is a redraw window by window: everything where `told` or where a show, hide, move or resize came before, else the
+ * marked windows. Drops the walk that is on; so does roq_redraw. With no window shown the walk is over at once. Asks nothing. */
+uint32_t roq_begin(RoqSession *s, bool told);
+
+/* Draws the walk's next window, lowest first; after the last one the walk is over. Any calls may come between two portions: a show, hide,
+ * move or resize sends the walk back to the lowest window, to draw everything; what is written to a window after its portion is damage for
+ * the next redraw. Reads the store, writes the screen. Asks 1, 8, 20. */
+uint32_t roq_portion(RoqSession *s, uint32_t width, uint32_t height, const uint32_t *store, size_t store_len, uint32_t *screen,
+                     size_t screen_len);
 
 /* How many rectangles a list has: on a no none. */
 typedef struct RoqListing {
