@@ -34,6 +34,8 @@ static const RoqEvent press = {25, 25, 0, 0, 0, ROQ_MOUSE_DOWN, 1, 0};
     CALL(roq_route, (s, press))                                                        \
     CALL(roq_pop, (s, 0))                                                              \
     CALL(roq_redraw, (s, true, WIDTH, HEIGHT, store, 16 * C, screen, C))               \
+    CALL(roq_begin, (s, true))                                                         \
+    CALL(roq_portion, (s, WIDTH, HEIGHT, store, 16 * C, screen, C))                    \
     CALL(roq_visible, (s, 0, list, 1984))                                              \
     CALL(roq_focus, (s))                                                               \
     CALL(roq_rect_of, (s, 0))                                                          \
@@ -52,7 +54,7 @@ static void nothing(void) {}
 #define RUN(name, arguments) static void run_##name(void) { (void)name arguments; }
 CALLS(RUN)
 
-/* The windows; all have events, the plan damage. The last id is left unused where a create is to find one. */
+/* The windows; all have events, the plan damage and the next portion. The last id is left unused where a create is to find one. */
 static void scene(int windows) {
     memset(&session, 0, sizeof session);
     roq_start(s, C);
@@ -69,6 +71,7 @@ static void scene(int windows) {
     }
     roq_fill(s, 0, area, 6, store, 16 * C);
     roq_fill(s, 0, other, 6, store, 16 * C);
+    roq_begin(s, true);
 }
 
 /* How far down the paint is gone. */

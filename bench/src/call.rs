@@ -22,6 +22,8 @@ pub enum Call {
     Point(u32, u32),
     Pop(u16),
     Redraw(bool),
+    Begin(bool),
+    Portion,
     Visible(u16),
 }
 
@@ -41,6 +43,8 @@ impl Call {
             Call::Press(..) | Call::Release(..) | Call::Point(..) => "roq_route",
             Call::Pop(_) => "roq_pop",
             Call::Redraw(_) => "roq_redraw",
+            Call::Begin(_) => "roq_begin",
+            Call::Portion => "roq_portion",
             Call::Visible(_) => "roq_visible",
         }
     }

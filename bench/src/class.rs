@@ -15,6 +15,8 @@ pub enum Beside {
     PixmanAtOnce,
     /// A loop over rows in Rust.
     Loops,
+    /// Our own library, with an undivided redraw in place of a walk's first portion and nothing in place of the others.
+    Undivided,
 }
 
 impl Beside {
@@ -23,6 +25,7 @@ impl Beside {
             Beside::Original => "original",
             Beside::Pixman | Beside::PixmanAtOnce => "pixman",
             Beside::Loops => "Rust",
+            Beside::Undivided => "undivided",
         }
     }
     pub fn is_pixman(self) -> bool {

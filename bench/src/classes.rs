@@ -6,7 +6,8 @@ use crate::pixman;
 use crate::plain::Copied;
 use crate::rows;
 use crate::scene::{
-    cascade, eight, free_crossing, free_station, plans, station, Scene, DRAGGED, DRAGGED_OF_EIGHT, HEIGHT, STEP, WIDTH,
+    cascade, eight, free_crossing, free_station, free_three, plans, station, Scene, DRAGGED, DRAGGED_OF_EIGHT, HEIGHT,
+    STEP, WIDTH,
 };
 
 const LISTS: &str =
@@ -19,6 +20,12 @@ const OTHER: &str = "the original draws something else (docs/DIFFERENCES.md)";
 pub const MIX: &str = "a second of the station's mix";
 pub const MIX_OF_EIGHT: &str = "a second of the mix on eight displays";
 
+/// Of a walk on eight displays: how the names of its classes begin, and how they go on.
+pub const ALL: &str = "all portions";
+pub const LONGEST: &str = "longest portion";
+pub const EIGHT: &str = "6,400 by 480, windows: 16";
+pub const THREE: &str = "6,400 by 480, plans: 3, panels: 13";
+
 pub fn table() -> Vec<Class> {
     let mut all = small();
     all.extend(order());
@@ -29,6 +36,7 @@ pub fn table() -> Vec<Class> {
         all.extend(beside_pixman());
     }
     all.extend(rows::classes());
+    all.extend(portions());
     all
 }
 
@@ -160,6 +168,29 @@ fn marked() -> Class {
     class.scene.setup.extend(paint.clone());
     let strips = (0..16).map(|k| Area(k * STEP.0, k * STEP.1, 100, STEP.1)).collect();
     class.between(paint).limit(Limit::Rows(Copied::areas(strips)))
+}
+
+fn portions() -> Vec<Class> {
+    vec![
+        walk(EIGHT, eight()),
+        longest(EIGHT, eight()),
+        longest(EIGHT, eight()).cold(),
+        walk(THREE, free_three()),
+        longest(THREE, free_three()),
+    ]
+}
+
+/// A walk over 16 windows, from its begin to its end.
+fn walk(name: &str, scene: Scene) -> Class {
+    let calls = [Call::Begin(true)].into_iter().chain(times(16, &[Call::Portion])).collect();
+    Class::new(format!("{ALL} {name}"), scene, calls).parts(1).beside(Beside::Undivided)
+}
+
+/// The first portion: of the lowest window, which is the largest.
+fn longest(name: &str, mut scene: Scene) -> Class {
+    scene.setup.push(Call::Begin(true));
+    let rest = times(15, &[Call::Portion]).into_iter().chain([Call::Begin(true)]).collect();
+    Class::new(format!("{LONGEST} {name}"), scene, vec![Call::Portion]).between(rest).beside(Beside::Undivided)
 }
 
 fn mixes() -> Vec<Class> {

@@ -8,6 +8,7 @@ mod call;
 mod check;
 mod class;
 mod classes;
+mod earlier;
 mod loops;
 mod measure;
 mod mix;
@@ -23,6 +24,7 @@ mod station;
 mod summary;
 mod targets;
 mod theirs;
+mod undivided;
 
 use class::{Beside, Class};
 use measure::{measure, middle, Measured};
@@ -65,6 +67,7 @@ fn tables(folder: &Path, copies: &str, stack: &str) {
     let short = [
         ("station", summary::station(&table, of_table, &stack)),
         ("targets", targets::table(&table, of_table)),
+        ("portions", summary::portions(&table, of_table)),
         ("calls", summary::calls(&table, of_table, &copies, &stack)),
     ];
     let long = tell(&table, of_table, &runs);
@@ -82,12 +85,12 @@ fn of_class(runs: &[Vec<Measured>], class: usize) -> Vec<Measured> {
 
 fn tell(classes: &[Class], results: &[Measured], runs: &[Vec<Measured>]) -> String {
     let table = |beside| report::table(beside, classes, results, runs);
-    let (original, loops) = (table(Beside::Original), table(Beside::Loops));
+    let (original, loops, undivided) = (table(Beside::Original), table(Beside::Loops), table(Beside::Undivided));
     let pixman = if pixman::INSTALLED { table(Beside::Pixman) } else { report::NO_PIXMAN.to_string() };
     format!(
         "# Speed table\n\nWritten by `bash bench/run`. [SPEED.md](SPEED.md) says what is measured.\n\n\
          ## Beside the original\n\n{original}\n{}\n## Beside pixman\n\n{pixman}\n\
-         ## Beside a loop over rows in Rust\n\n{loops}",
+         ## Beside a loop over rows in Rust\n\n{loops}\n## Portions beside our undivided redraw\n\n{undivided}",
         report::notes(classes)
     )
 }

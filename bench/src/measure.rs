@@ -2,11 +2,13 @@
 use crate::call::{Call, Side};
 use crate::check;
 use crate::class::{Beside, Class, Limit};
+use crate::earlier;
 use crate::loops::Loops;
 use crate::ours::Ours;
 use crate::pixman::Pixman;
 use crate::plain::Plain;
 use crate::theirs::Theirs;
+use crate::undivided::Undivided;
 use std::hint::black_box;
 use std::time::Instant;
 
@@ -31,6 +33,9 @@ pub struct Measured {
     pub speed: f64,
 }
 
+const NOTHING: Measured =
+    Measured { ours: f64::NAN, theirs: f64::NAN, limit: f64::NAN, ratio: f64::NAN, speed: f64::NAN };
+
 /// Who takes part.
 struct Turns<Other> {
     ours: Ours,
@@ -40,6 +45,9 @@ struct Turns<Other> {
 
 pub fn measure(class: &Class) -> Measured {
     let scene = &class.scene;
+    if class.beside == Beside::Undivided && !earlier::has_walks() {
+        return NOTHING;
+    }
     if class.is_cold {
         return cold(class);
     }
@@ -48,6 +56,7 @@ pub fn measure(class: &Class) -> Measured {
         Beside::Pixman => beside(class, Some(Pixman::new(scene.width, scene.height, false))),
         Beside::PixmanAtOnce => beside(class, Some(Pixman::new(scene.width, scene.height, true))),
         Beside::Loops => beside(class, Some(Loops::new(scene.width, scene.height))),
+        Beside::Undivided => beside(class, Some(Undivided::new(Ours::new(scene.c, scene.width, scene.height)))),
     }
 }
 
@@ -76,21 +85,22 @@ fn beside(class: &Class, mut theirs: Option<impl Side>) -> Measured {
 fn cold(class: &Class) -> Measured {
     let mut ours = Ours::new(class.scene.c, class.scene.width, class.scene.height);
     check::alone(class, &mut ours);
-    let mut second = || {
-        let mut nanoseconds = 0;
-        for call in &class.timed {
-            if let Call::Redraw(_) = call {
-                ours.flush();
-            }
-            let start = Instant::now();
-            black_box(ours.call(black_box(call)));
-            nanoseconds += start.elapsed().as_nanos();
+    let mut taken = |call: &Call| {
+        if let Call::Redraw(_) | Call::Begin(_) = call {
+            ours.flush();
         }
+        let start = Instant::now();
+        black_box(ours.call(black_box(call)));
+        start.elapsed().as_nanos()
+    };
+    let mut second = || {
+        let nanoseconds: u128 = class.timed.iter().map(&mut taken).sum();
+        class.between.iter().for_each(|call| _ = taken(call));
         nanoseconds as f64 / class.parts as f64
     };
     let rounds = LEAST_COLD.max(LEAST_ROUNDS as usize / class.timed.len());
     let ours = median((0..rounds).map(|_| second()).collect());
-    Measured { ours, theirs: f64::NAN, limit: f64::NAN, ratio: f64::NAN, speed: f64::NAN }
+    Measured { ours, ..NOTHING }
 }
 
 /// Who begins changes from round to round.

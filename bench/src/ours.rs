@@ -132,6 +132,8 @@ impl Side for Ours {
             Call::Release(x, y) => s.route(mouse(MOUSE_UP, x, y)),
             Call::Point(x, y) => s.route(mouse(MOUSE_MOVE, x, y)),
             Call::Redraw(told) => s.redraw(told, &self.store, &mut self.screen, self.width, self.height),
+            Call::Begin(told) => s.begin(told),
+            Call::Portion => s.portion(&self.store, &mut self.screen, self.width, self.height),
         })
     }
 

@@ -105,3 +105,10 @@ pub fn eight() -> Scene {
     let places: Vec<Area> = plans.chain(panels).chain([Area(x, y, 300, 200)]).collect();
     scene(8 * WIDTH, HEIGHT, &places)
 }
+
+/// The same screen with as few plans as it takes, since a window has at most 1,048,576 pixels: three, and 13 panels over them.
+pub fn free_three() -> Scene {
+    let plans = (0..3).map(|k| Area(k * 2134, 0, 2134, HEIGHT));
+    let panels = (0..13).map(|k| Area(k * 480 + 60, 40 + k % 3 * 100, 300, 200));
+    Scene { common: false, ..scene(8 * WIDTH, HEIGHT, &plans.chain(panels).collect::<Vec<_>>()) }
+}

@@ -40,9 +40,9 @@ pub const MOUSE_MOVE: u8 = 6;
 pub const MOUSE_DOWN: u8 = 7;
 pub const MOUSE_UP: u8 = 9;
 
-/// 5,616 bytes.
+/// 5,640 bytes.
 #[repr(C)]
-struct Session([u64; 702]);
+struct Session([u64; 705]);
 
 #[repr(C)]
 struct Created {
@@ -100,6 +100,16 @@ extern "C" {
         screen: *mut u32,
         screen_len: usize,
     ) -> u32;
+    fn roq_begin(s: *mut Session, told: bool) -> u32;
+    fn roq_portion(
+        s: *mut Session,
+        width: u32,
+        height: u32,
+        store: *const u32,
+        store_len: usize,
+        screen: *mut u32,
+        screen_len: usize,
+    ) -> u32;
     fn roq_visible(s: *const Session, id: u16, list: *mut u32, list_len: usize) -> Listing;
     fn roq_focus(s: *const Session) -> u16;
     fn roq_rect_of(s: *const Session, id: u16) -> Placed;
@@ -119,7 +129,7 @@ impl Station {
     /// The answer, and a session.
     pub fn start(c: u32) -> (u32, Station) {
         // `roq_start` asks for zeros or a session.
-        let mut station = Station(Session([0; 702]));
+        let mut station = Station(Session([0; 705]));
         let answer = unsafe { roq_start(&mut station.0, c) };
         (answer, station)
     }
@@ -164,6 +174,13 @@ impl Station {
     pub fn redraw(&mut self, told: bool, store: &[u32], screen: &mut [u32], width: u32, height: u32) -> u32 {
         let (px, len) = (screen.as_mut_ptr(), screen.len());
         unsafe { roq_redraw(&mut self.0, told, width, height, store.as_ptr(), store.len(), px, len) }
+    }
+    pub fn begin(&mut self, told: bool) -> u32 {
+        unsafe { roq_begin(&mut self.0, told) }
+    }
+    pub fn portion(&mut self, store: &[u32], screen: &mut [u32], width: u32, height: u32) -> u32 {
+        let (px, len) = (screen.as_mut_ptr(), screen.len());
+        unsafe { roq_portion(&mut self.0, width, height, store.as_ptr(), store.len(), px, len) }
     }
     /// The answer, and how many rectangles are in the list, four numbers each.
     pub fn visible(&self, id: u16, list: &mut [u32]) -> (u32, usize) {

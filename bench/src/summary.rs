@@ -1,6 +1,6 @@
 //! What a station's engineer wants to know, and what each exported call takes.
 use crate::class::{Class, COLD};
-use crate::classes::{MIX, MIX_OF_EIGHT};
+use crate::classes::{ALL, EIGHT, LONGEST, MIX, MIX_OF_EIGHT, THREE};
 use crate::measure::Measured;
 use crate::report::{nanoseconds, whole};
 use crate::scene::{HEIGHT, WIDTH};
@@ -70,6 +70,29 @@ pub fn station(classes: &[Class], results: &[Measured], stack: &Numbers) -> Stri
     ];
     let rows: String = rows.iter().map(|(what, (one, eight))| format!("| {what} | {one} | {eight} |\n")).collect();
     format!("| | one display, 800 by 480 | eight displays, 6,400 by 480 |\n|---|---|---|\n{rows}")
+}
+
+/// Full redraws of eight displays beside walks that draw the same.
+pub fn portions(classes: &[Class], results: &[Measured]) -> String {
+    let of = |name: String| {
+        let found = classes.iter().zip(results).find(|(class, _)| class.name == name);
+        found.expect("a class of this name").1
+    };
+    let time = |time: f64| format!("{:.2} ms", time / 1e6);
+    let row = |what: &str, name: &str| {
+        let (all, longest) = (of(format!("{ALL} {name}")), of(format!("{LONGEST} {name}")));
+        let (undivided, sum, longest) = (time(all.theirs), time(all.ours), time(longest.ours));
+        format!("| {what} | {undivided} | {sum} | {:.2} | {longest} |\n", all.ratio)
+    };
+    let cold = (of(format!("full redraw {EIGHT}{COLD}")), of(format!("{LONGEST} {EIGHT}{COLD}")));
+    format!(
+        "| | undivided | all portions | ratio | longest portion |\n|---|---:|---:|---:|---:|\n{}\
+         | the same, no pixel in a cache | {} | | | {} |\n{}",
+        row("a plan and a panel on each display", EIGHT),
+        time(cold.0.ours),
+        time(cold.1.ours),
+        row("three plans, as large as windows may be, and 13 panels", THREE)
+    )
 }
 
 /// Each exported call: its longest class, its copies of the session and its stack. Those that are not timed touch at most one row.

@@ -34,7 +34,7 @@ const WIDE_FILLS: &[&str] = &["fill 300 by", "fill 800 by", "fill 4000 by", "fil
 const NARROW_BLITS: &[&str] = &["blit 8 by", "blit 16 by", "blit 32 by", "blit 64 by", "blit 100 by"];
 const WIDE_BLITS: &[&str] = &["blit 300 by", "blit 800 by", "blit 4000 by", "blit 32767 by"];
 
-const TARGETS: [Target; 18] = [
+const TARGETS: [Target; 19] = [
     target("mark", Beside::Original, &["mark"], Time(1.0)),
     target("move", Beside::Original, &["move, "], Time(1.0)),
     target("show, hide", Beside::Original, &["hide or show"], Time(1.0)),
@@ -46,6 +46,7 @@ const TARGETS: [Target; 18] = [
     target("redraw of one button", Beside::Original, &["redraw of a button"], Time(1.4)),
     target("full redraw", Beside::Original, FULL, Time(1.0)),
     target("full redraw", Beside::Original, FULL, Rows(0.95)),
+    target("all portions of a full redraw", Beside::Undivided, &["all portions"], Time(1.1)),
     target("the station's mix", Beside::Original, &[MIX], Time(0.93)),
     target("resize", Beside::Original, &["resize"], Cleared(0.95)),
     target("visible list", Beside::Pixman, &["visible list"], Time(1.0)),
@@ -66,6 +67,7 @@ impl Target {
             (_, Beside::Original) => "the original, time",
             (_, Beside::Pixman | Beside::PixmanAtOnce) => "pixman, time",
             (_, Beside::Loops) => "a loop in Rust, time",
+            (_, Beside::Undivided) => "our undivided redraw, time",
         }
     }
     fn number(&self, m: &Measured) -> f64 {
