@@ -74,6 +74,14 @@ static void redraw(void) {
     say_numbers(0, screen, SCREEN);
 }
 
+/* A walk of one portion, one more, and the screen. */
+static void walk(void) {
+    say(roq_begin(&s, false));
+    for (int i = 0; i < 2; i++)
+        say(roq_portion(&s, WIDTH, HEIGHT, store, STORE, screen, SCREEN));
+    say_numbers(0, screen, SCREEN);
+}
+
 static void draw_panels(void) {
     static const uint32_t track[WIDTH] = {2, 2, 2, 2, 2, 2, 2, 2, 2, 2, 2, 2};
     RoqRect line = {{0, 3}, {WIDTH, 1}};
@@ -114,5 +122,8 @@ int main(void) {
     say(roq_drop(&s, 1));
     redraw();
     pop(1);
+    fill(0, 0, 3, 12, 1, 6);
+    say(roq_mark(&s, 0));
+    walk();
     return 0;
 }

@@ -65,6 +65,15 @@ impl Panels {
         println!("0{}", numbers(&self.screen));
     }
 
+    /// A walk of one portion, one more, and the screen.
+    fn walk(&mut self) {
+        say(self.station.begin(false));
+        for _ in 0..2 {
+            say(self.station.portion(&self.store, &mut self.screen, WIDTH, HEIGHT));
+        }
+        println!("0{}", numbers(&self.screen));
+    }
+
     fn draw_panels(&mut self) {
         self.create();
         self.create();
@@ -106,4 +115,7 @@ fn main() {
     say(panels.station.drop(1));
     panels.redraw();
     panels.pop(1);
+    panels.fill(0, [0, 3, 12, 1], 6);
+    say(panels.station.mark(0));
+    panels.walk();
 }
