@@ -34,6 +34,12 @@ pub record Held (id : ℕ) (w : Window) (k : Shared) : Type 0 where
   pub at : ℕ
   pub holds : Holds id w k session at
 
+-- some session shares this
+pub record SharedBy (k : Shared) : Type 0 where
+  pub session : Session
+  pub given : Given session
+  pub shared : session .shared ≡ k
+
 -- the session with another window at a place, sharing k
 abbrev pub put : ℕ → Window → Shared → Session → Session
 put at w k s = record { windows = set (s .windows) at w; shared = k }

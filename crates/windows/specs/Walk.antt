@@ -6,6 +6,7 @@ use mathlib.Core.List.{List, map}
 use lib.ListN.{getD, drop}
 use Rattle.window.specs.declared.Window.{Window}
 use Rattle.rules.specs.Group.{win}
+use Rattle.rules.specs.Order.{hidden}
 use Rattle.rules.specs.Calls.{Call}
 use Rattle.order.specs.declared.WinId.{WinId}
 use Rattle.order.specs.Order.{noId}
@@ -17,7 +18,7 @@ use Rattle.windows.specs.declared.Session.{Session}
 use Rattle.windows.specs.declared.Changed.{Changed}
 use Rattle.windows.specs.declared.portion.Next.{Next}
 use Rattle.windows.specs.declared.portion.Turn.{Turn}
-use Rattle.windows.specs.View.{group, windowAt, done, Given, MeetsScreen}
+use Rattle.windows.specs.View.{group, windowAt, done, Rep, Given, MeetsScreen}
 use Rattle.windows.specs.One.{put}
 
 -- Parts of what is shared set -----------------------------------------------------------------------------------------
@@ -35,6 +36,10 @@ sharing k s = record { windows = s .windows; shared = k }
 -- a full redraw is owed
 abbrev pub indebted : Shared → Shared
 indebted k = noted (owing (k .due) (k .shown)) k
+
+-- every session that shares k, with r instead, holds the group without the window in its order
+abbrev pub Hides : ℕ → Shared → Shared → Type 0
+Hides id k r = (s : Session) → Given s → s .shared ≡ k → (group (sharing r s) ≡ hidden id (group s)) × Rep (sharing r s)
 
 -- the walk is one window further
 abbrev pub onward : Shared → Shared

@@ -4,7 +4,8 @@ ghost use mathlib.Core.Path.{_≡_};
 ghost use mathlib.Core.Bool.{_&&_};
 ghost use lib.Dec.{ltb};
 ghost use Rattle.rules.specs.Calls.{Call};
-ghost use Rattle.windows.specs.One.{At, Held, MeetsAt, CreatesAt};
+ghost use Rattle.windows.specs.One.{At, Held, SharedBy, MeetsAt, CreatesAt};
+ghost use Rattle.windows.specs.Walk.{Hides};
 use crate::Changed;
 use crate::CreatedOne;
 use crate::NewId;
@@ -126,6 +127,25 @@ pub fn show(win: Window, mut shared: Shared, id: WinId) -> Changed
     }
 }
 
+// What is shared, without this window in the render order; as it is if the window is hidden.
+fn hidden(mut shared: Shared, id: WinId) -> Shared
+    requires { ⌜ SharedBy shared ⌝ }
+    ensures { λ r. ⌜ Hides (id .0) shared r ⌝ }
+{
+    let n = shared.shown;
+    let order = shared.order;
+    let idx = get_render_idx(order, n, id);
+    if let RenderIdx::At(p) = idx {
+        let closed = close_gap(order, n, p);
+        let focus = focus_after(shared.focus, id, closed, n - 1, p);
+        shared.order = closed;
+        shared.shown = n - 1;
+        shared.focus = focus;
+        shared = shared.owing();
+    }
+    shared
+}
+
 // Removed from the render order; nothing if hidden.
 pub fn hide(win: Window, mut shared: Shared, id: WinId) -> Changed
     requires { ⌜ Held (id .0) win shared ⌝ }
@@ -134,17 +154,7 @@ pub fn hide(win: Window, mut shared: Shared, id: WinId) -> Changed
     let mut answer: u32 = 3;
     if is_used(win, id) {
         answer = 0;
-        let n = shared.shown;
-        let order = shared.order;
-        let idx = get_render_idx(order, n, id);
-        if let RenderIdx::At(p) = idx {
-            let closed = close_gap(order, n, p);
-            let focus = focus_after(shared.focus, id, closed, n - 1, p);
-            shared.order = closed;
-            shared.shown = n - 1;
-            shared.focus = focus;
-            shared = shared.owing();
-        }
+        shared = hidden(shared, id);
     }
     Changed {
         window: win,
@@ -154,13 +164,19 @@ pub fn hide(win: Window, mut shared: Shared, id: WinId) -> Changed
 }
 
 // Hides the window and frees its id; its pixels stay in the store.
-pub fn drop(win: Window, shared: Shared, id: WinId) -> Changed
+pub fn drop(mut win: Window, mut shared: Shared, id: WinId) -> Changed
     requires { ⌜ Held (id .0) win shared ⌝ }
     ensures { λ r. ⌜ MeetsAt (Call.Drop (id .0)) (id .0) win shared r ⌝ }
 {
-    let mut hidden = hide(win, shared, id);
-    if hidden.answer == 0 {
-        hidden.window.used = false;
+    let mut answer: u32 = 3;
+    if is_used(win, id) {
+        answer = 0;
+        shared = hidden(shared, id);
+        win.used = false;
     }
-    hidden
+    Changed {
+        window: win,
+        shared,
+        answer,
+    }
 }
