@@ -9,7 +9,7 @@ use lib.ListN.{length, take, getD}
 use Rattle.geom.specs.declared.Rect.{Rect}
 use Rattle.geom.specs.Geom.{rect, left, top, width, height, right, bottom}
 use Rattle.window.specs.declared.Event.{Event}
-use Rattle.window.specs.declared.Event.the-variants.{Resize, KeyDown, KeyUp, KeyFire, Text, MouseDown, MouseClick, MouseUp}
+use Rattle.window.specs.declared.Event.the-variants.{Resize, KeyDown, KeyUp, Text, MouseDown, MouseClick, MouseUp}
 use Rattle.window.specs.declared.CursorPos.{CursorPos}
 use Rattle.window.specs.declared.slots.Slot.{Slot}
 use Rattle.window.specs.declared.queue.Queue.{Queue}
@@ -25,11 +25,10 @@ unfoldable pub eventOf : Slot → Event
 eventOf s =
     cond (eqb (s .kind) 1) (KeyDown (s .value))
     (cond (eqb (s .kind) 2) (KeyUp (s .value))
-    (cond (eqb (s .kind) 3) (KeyFire (s .value))
-    (cond (eqb (s .kind) 4) (Text (s .value))
-    (cond (eqb (s .kind) 5) (MouseDown (s .x) (s .y) (s .button))
-    (cond (eqb (s .kind) 6) (MouseClick (s .x) (s .y) (s .button) (s .count))
-    (cond (eqb (s .kind) 7) (MouseUp (s .x) (s .y) (s .button)) Resize))))))
+    (cond (eqb (s .kind) 3) (Text (s .value))
+    (cond (eqb (s .kind) 4) (MouseDown (s .x) (s .y) (s .button))
+    (cond (eqb (s .kind) 5) (MouseClick (s .x) (s .y) (s .button) (s .count))
+    (cond (eqb (s .kind) 6) (MouseUp (s .x) (s .y) (s .button)) Resize)))))
 
 -- The queue -------------------------------------------------------------------------------------------------------------
 

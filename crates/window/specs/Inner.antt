@@ -19,12 +19,12 @@ use Rattle.window.specs.Held.{events, RepQueue, rects, RepDamage}
 
 -- Events ---------------------------------------------------------------------------------------------------------------
 
--- what a queue can hold: no move, and no point beyond 32,767
+-- what a queue can hold: no KeyFire, no move, and no point beyond 32,767
 abbrev pub Queued : Event → Type 0
 Queued Resize = Unit {0}
 Queued (KeyDown v) = Unit {0}
 Queued (KeyUp v) = Unit {0}
-Queued (KeyFire v) = Unit {0}
+Queued (KeyFire v) = ⊥
 Queued (Text v) = Unit {0}
 Queued (MouseDown x y b) = (x ≤ 32767) × (y ≤ 32767)
 Queued (MouseClick x y b n) = (x ≤ 32767) × (y ≤ 32767)
@@ -35,16 +35,16 @@ Queued (MouseMove x y dx dy) = ⊥
 abbrev pub slot : ℕ → ℕ → ℕ → ℕ → ℕ → ℕ → Slot
 slot kind value x y button count = record { value = value; x = x; y = y; kind = kind; button = button; count = count }
 
--- the slot of an event; a move has none
+-- the slot of an event; a KeyFire and a move have none
 unfoldable pub slotOf : Event → Slot
 slotOf Resize = slot 0 0 0 0 0 0
 slotOf (KeyDown v) = slot 1 v 0 0 0 0
 slotOf (KeyUp v) = slot 2 v 0 0 0 0
-slotOf (KeyFire v) = slot 3 v 0 0 0 0
-slotOf (Text v) = slot 4 v 0 0 0 0
-slotOf (MouseDown x y b) = slot 5 0 x y b 0
-slotOf (MouseClick x y b n) = slot 6 0 x y b n
-slotOf (MouseUp x y b) = slot 7 0 x y b 0
+slotOf (KeyFire v) = slot 0 0 0 0 0 0
+slotOf (Text v) = slot 3 v 0 0 0 0
+slotOf (MouseDown x y b) = slot 4 0 x y b 0
+slotOf (MouseClick x y b n) = slot 5 0 x y b n
+slotOf (MouseUp x y b) = slot 6 0 x y b 0
 slotOf (MouseMove x y dx dy) = slot 0 0 0 0 0 0
 
 -- an event was pushed

@@ -44,7 +44,7 @@ fn press(kind: u8, x: u32, y: u32, button: u8, count: u8) -> Slot
     }
 }
 
-// A move is never queued, so its slot is never read.
+// A move and a KeyFire are never queued, so their slots are never read.
 pub fn slot_of(e: Event) -> Slot
     requires { ⌜ Queued e ⌝ }
     ensures { λ s. ⌜ s ≡ slotOf e ⌝ }
@@ -53,16 +53,16 @@ pub fn slot_of(e: Event) -> Slot
         Event::Resize => plain(0, 0),
         Event::KeyDown(v) => plain(1, v),
         Event::KeyUp(v) => plain(2, v),
-        Event::KeyFire(v) => plain(3, v),
-        Event::Text(v) => plain(4, v),
-        Event::MouseDown { x, y, button } => press(5, x, y, button, 0),
+        Event::Text(v) => plain(3, v),
+        Event::MouseDown { x, y, button } => press(4, x, y, button, 0),
         Event::MouseClick {
             x,
             y,
             button,
             count,
-        } => press(6, x, y, button, count),
-        Event::MouseUp { x, y, button } => press(7, x, y, button, 0),
+        } => press(5, x, y, button, count),
+        Event::MouseUp { x, y, button } => press(6, x, y, button, 0),
+        Event::KeyFire(_) => plain(0, 0),
         Event::MouseMove {
             x: _,
             y: _,
@@ -83,16 +83,15 @@ pub fn event_of(s: Slot) -> Event
     match kind {
         1 => Event::KeyDown(v),
         2 => Event::KeyUp(v),
-        3 => Event::KeyFire(v),
-        4 => Event::Text(v),
-        5 => Event::MouseDown { x, y, button },
-        6 => Event::MouseClick {
+        3 => Event::Text(v),
+        4 => Event::MouseDown { x, y, button },
+        5 => Event::MouseClick {
             x,
             y,
             button,
             count: s.count,
         },
-        7 => Event::MouseUp { x, y, button },
+        6 => Event::MouseUp { x, y, button },
         _ => Event::Resize,
     }
 }

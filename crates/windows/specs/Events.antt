@@ -17,12 +17,12 @@ use Rattle.windows.specs.declared.events.Target.{Target}
 use Rattle.windows.specs.declared.events.Target.the-variants.{Nobody, Focus, Point}
 use Rattle.windows.specs.declared.events.Told.{Told}
 
--- keys go to the focus, pointer events to a window at their point
+-- keys go to the focus, pointer events to a window at their point; a Resize goes nowhere, and a KeyFire is refused
 abbrev pub targetOf : Event → Target
-targetOf Resize = Nobody
+targetOf Resize = Nobody 0
 targetOf (KeyDown v) = Focus
 targetOf (KeyUp v) = Focus
-targetOf (KeyFire v) = Focus
+targetOf (KeyFire v) = Nobody 21
 targetOf (Text v) = Focus
 targetOf (MouseMove x y dx dy) = Point x y
 targetOf (MouseDown x y b) = Point x y

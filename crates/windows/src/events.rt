@@ -20,9 +20,9 @@ use order::topmost::topmost;
 use window::Event;
 use window::Window;
 
-// Where an event goes: to no window, to the focus, or to the topmost window at a point of the screen.
+// Where an event goes: to no window, with this answer, to the focus, or to the topmost window at a point of the screen.
 pub enum Target {
-    Nobody,
+    Nobody { answer: u32 },
     Focus,
     Point { x: u32, y: u32 },
 }
@@ -57,10 +57,11 @@ fn target_of(e: Event) -> Target
     ensures { λ t. ⌜ t ≡ targetOf e ⌝ }
 {
     match e {
-        Event::Resize => Target::Nobody,
+        Event::Resize => Target::Nobody { answer: 0 },
         Event::KeyDown(_) => Target::Focus,
         Event::KeyUp(_) => Target::Focus,
-        Event::KeyFire(_) => Target::Focus,
+        // question 21, before every other
+        Event::KeyFire(_) => Target::Nobody { answer: 21 },
         Event::Text(_) => Target::Focus,
         Event::MouseMove { x, y, dx: _, dy: _ } => Target::Point { x, y },
         Event::MouseDown { x, y, button: _ } => Target::Point { x, y },
@@ -178,7 +179,7 @@ impl Session {
     {
         let target = target_of(e);
         match target {
-            Target::Nobody => nobody(0),
+            Target::Nobody { answer } => nobody(answer),
             Target::Focus => self.aim_key(e),
             Target::Point { x, y } => self.aim_pointer(e, x, y),
         }

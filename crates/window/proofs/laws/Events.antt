@@ -21,7 +21,7 @@ unfolding slotOf eventOf
 event-again Resize h = refl
 event-again (KeyDown v) h = refl
 event-again (KeyUp v) h = refl
-event-again (KeyFire v) h = refl
+event-again (KeyFire v) h = absurd h
 event-again (Text v) h = refl
 event-again (MouseDown x y b) h = refl
 event-again (MouseClick x y b n) h = refl

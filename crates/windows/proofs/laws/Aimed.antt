@@ -55,5 +55,5 @@ aims-point e s areas x y id g k l at i is =
     let low-x : x ≤ 32767 = leb-true x 32767 (fst (small x) (small y) l) in
     let low-y : y ≤ 32767 = leb-true y 32767 (snd (small x) (small y) l) in
     let f = frameAt areas id in
-    aims-window (Meets (Route e) s) s id i (at .low) (subst Tellable (sym is) (point-tellable e (x - left f) (y - top f) (omega arith) (omega arith)))
+    aims-window (Meets (Route e) s) s id i (at .low) (subst Tellable (sym is) (point-tellable e k (x - left f) (y - top f) (omega arith) (omega arith)))
     (λ t to. window-told s e g k l (at .top) (at .used) f (at .frame) i is t to)

@@ -1,9 +1,10 @@
 -- The rule of route by where the event goes, and each end of the call.
-use Prim.Native.Nat.{ℕ, _-_, _≤_}
+use Prim.Native.Nat.{ℕ, zero, suc, _-_, _≤_}
 use mathlib.Core.Path.{_≡_, refl, sym, ap, subst, _∙_}
 use mathlib.Core.Bool.{true, false, _&&_}
 use mathlib.Core.List.{List, [], _∷_}
 use mathlib.Core.Option.{Option, none, some}
+use lib.Dec.{eqb, eqb·suc-zero}
 use Rattle.geom.specs.declared.Rect.{Rect}
 use Rattle.geom.specs.Questions.{Question, _is_, small}
 use Rattle.geom.specs.Geom.{left, top}
@@ -27,17 +28,17 @@ use Rattle.windows.proofs.laws.Telling.{tells}
 
 -- What can be told ---------------------------------------------------------------------------------------------------
 
--- an event has no point beyond 32,767 if its target has none
+-- an event that goes to a window has no point beyond 32,767 if its target has none
 abbrev Low : Target → Type 0
-Low Nobody = Unit {0}
+Low (Nobody n) = ⊥
 Low Focus = Unit {0}
 Low (Point x y) = (x ≤ 32767) × (y ≤ 32767)
 
 tellable : (e : Event) → Low (targetOf e) → Tellable e
-tellable Resize h = tt
+tellable Resize h = absurd h
 tellable (KeyDown v) h = tt
 tellable (KeyUp v) h = tt
-tellable (KeyFire v) h = tt
+tellable (KeyFire v) h = absurd h
 tellable (Text v) h = tt
 tellable (MouseMove x y dx dy) h = h
 tellable (MouseDown x y b) h = h
@@ -47,16 +48,25 @@ tellable (MouseUp x y b) h = h
 pub key-tellable : (e : Event) → targetOf e ≡ Focus → Tellable e
 key-tellable e k = tellable e (subst Low (sym k) tt)
 
-pub point-tellable : (e : Event) (x y : ℕ) → x ≤ 32767 → y ≤ 32767 → Tellable (atPoint e x y)
-point-tellable Resize x y h k = tt
-point-tellable (KeyDown v) x y h k = tt
-point-tellable (KeyUp v) x y h k = tt
-point-tellable (KeyFire v) x y h k = tt
-point-tellable (Text v) x y h k = tt
-point-tellable (MouseMove _ _ dx dy) x y h k = (h, k)
-point-tellable (MouseDown _ _ b) x y h k = (h, k)
-point-tellable (MouseClick _ _ b n) x y h k = (h, k)
-point-tellable (MouseUp _ _ b) x y h k = (h, k)
+-- a pointer event may be told at any point of a window
+abbrev IsPoint : Target → Type 0
+IsPoint (Nobody n) = ⊥
+IsPoint Focus = ⊥
+IsPoint (Point x y) = Unit {0}
+
+at-point : (e : Event) → IsPoint (targetOf e) → (x y : ℕ) → x ≤ 32767 → y ≤ 32767 → Tellable (atPoint e x y)
+at-point Resize p x y h k = absurd p
+at-point (KeyDown v) p x y h k = absurd p
+at-point (KeyUp v) p x y h k = absurd p
+at-point (KeyFire v) p x y h k = absurd p
+at-point (Text v) p x y h k = absurd p
+at-point (MouseMove _ _ dx dy) p x y h k = (h, k)
+at-point (MouseDown _ _ b) p x y h k = (h, k)
+at-point (MouseClick _ _ b n) p x y h k = (h, k)
+at-point (MouseUp _ _ b) p x y h k = (h, k)
+
+pub point-tellable : (e : Event) {px py : ℕ} → targetOf e ≡ Point px py → (x y : ℕ) → x ≤ 32767 → y ≤ 32767 → Tellable (atPoint e x y)
+point-tellable e p = at-point e (subst IsPoint (sym p) tt)
 
 -- The rule by the target ---------------------------------------------------------------------------------------------
 
@@ -80,7 +90,7 @@ abbrev pointed : Group → Event → ℕ → ℕ → Option ℕ → Outcome
 pointed g e x y o = leaves (pointAsks g e x y o) g (setWin (idOr 0 o) (some (told (win g (idOr 0 o)) (inside g e x y (idOr 0 o)))) g)
 
 abbrev routed : Group → Event → Target → Outcome
-routed g e Nobody = leaves [] g g
+routed g e (Nobody n) = leaves ((n is eqb n 0) ∷ []) g g
 routed g e Focus = keyed g e (g .focus)
 routed g e (Point x y) = pointed g e x y (topmost g x y)
 
@@ -102,8 +112,10 @@ module _ (s : Session) (e : Event) (h : Given s) where
   aimed : {t : Target} → targetOf e ≡ t → does (group s) (Route e) ≡ routed (group s) e t
   aimed k = route-is (group s) e ∙ ap (routed (group s) e) k
 
-  pub nobody : targetOf e ≡ Nobody → Meets (Route e) s (done s 0)
-  nobody k = gives (Route e) s s h (h .rep) (ap (λ (o : Outcome). o .answer) (aimed k)) (sym (ap (λ (o : Outcome). o .group) (aimed k)))
+  -- to no window, with the answer n
+  pub nobody : (n : ℕ) → targetOf e ≡ Nobody n → Meets (Route e) s (done s n)
+  nobody zero k = gives (Route e) s s h (h .rep) (ap (λ (o : Outcome). o .answer) (aimed k)) (sym (ap (λ (o : Outcome). o .group) (aimed k)))
+  nobody (suc n) k = refuses (Route e) s n h (ap (λ (o : Outcome). o .answer) (aimed k) ∙ rw (eqb·suc-zero n))
 
   module _ (k : targetOf e ≡ Focus) where
     to-focus : does (group s) (Route e) ≡ keyed (group s) e (s .shared .focus .0)

@@ -37,14 +37,9 @@ returns-6 c = rw (c .match .keys6)
 
 returns-7 : tie.Need-returns-7
 unfolding eventOf
-returns-7 c = rw (c .match .keys7)
-
-returns-8 : tie.Need-returns-8
-unfolding eventOf
-returns-8 c =
+returns-7 c =
     let r = c .match .rest in
     rw (
-      ne-eqb _ _ (r .0 .0 .0 .0 .0 .0 .1),
       ne-eqb _ _ (r .0 .0 .0 .0 .0 .1),
       ne-eqb _ _ (r .0 .0 .0 .0 .1),
       ne-eqb _ _ (r .0 .0 .0 .1),
@@ -65,5 +60,4 @@ event-of-spec =
     returns-4
     returns-5
     returns-6
-    returns-7
-    returns-8)
+    returns-7)

@@ -6,35 +6,36 @@ use borrow.Author.Needs.{needs}
 use Rattle.windows.proofs.Session.aim.Statement.{statement}
 use Rattle.windows.proofs.Session.aim.Tie as tie
 
+enum-known-target : tie.Need-enum-known-target
+enum-known-target c = search needs
+
 target-of-requires : tie.Need-target-of-requires
 target-of-requires c κs = search needs
-
-enum-told : tie.Need-enum-told
-enum-told c = search needs
 
 nobody-requires : tie.Need-nobody-requires
 nobody-requires c κs = search needs
 
-enum-told-2 : tie.Need-enum-told-2
-enum-told-2 c = search needs
+enum-told : tie.Need-enum-told
+enum-told c = search needs
 
 aim-key-requires : tie.Need-aim-key-requires
 aim-key-requires c κs = search needs
 
-enum-known-target : tie.Need-enum-known-target
-enum-known-target c = search needs
+enum-known-target-2 : tie.Need-enum-known-target-2
+enum-known-target-2 c = search needs
 
 aim-pointer-requires : tie.Need-aim-pointer-requires
 aim-pointer-requires c κs =
     let t = c .before .before .before in
-    (t .before .pre, sym (t .target-of .ensures) ∙ c .before .target .given .1)
+    (t .before .pre, sym (t .target-of .ensures) ∙ c .before .target2 .given .1)
 
 returns : tie.Need-returns
 returns c =
-    let t = c .before .before .before in
+    let k = c .before .before in
+    let t = k .before .before in
     let s = t .before in
     rw (c .nobody .ensures)
-    (aims-nobody _ (s .args .self) 0 (nobody (s .args .self) (s .args .e) (s .pre) (sym (t .target-of .ensures) ∙ c .before .enum-told .given .1)))
+    (aims-nobody _ (s .args .self) _ (nobody (s .args .self) (s .args .e) (s .pre) _ (sym (t .target-of .ensures) ∙ k .target .given .1)))
 
 returns-2 : tie.Need-returns-2
 returns-2 c = search needs
@@ -47,11 +48,11 @@ aim-spec =
     tie.close
     (tie.spec
     target-of-requires
-    enum-told
-    nobody-requires
-    enum-told-2
-    aim-key-requires
     enum-known-target
+    nobody-requires
+    enum-told
+    aim-key-requires
+    enum-known-target-2
     aim-pointer-requires
     returns
     returns-2
