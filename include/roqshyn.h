@@ -11,6 +11,7 @@
  *    6  w x h is at most C                            13  the part lies in the pixels
  *    7  the stride is at least 1                      14  x + w and y + h are at most 4,294,967,295
  *                                                     20  a walk was begun, and is neither over nor dropped
+ *                                                     21  the event is no KeyFire, asked before every other
  *
  * Sessions. A session is one that roq_start, also a refused one, and these calls made, in the caller's memory; to keep to that is all
  * that a call asks of its caller. It may be copied and moved as a whole; nobody else writes it. One thread at a time uses it.
@@ -118,7 +119,8 @@ uint32_t roq_blit(RoqSession *s, uint16_t id, RoqRect area, size_t stride, const
 
 /* Hands an event on: keys and Text to the focus, if it is shown; pointer events to the topmost window at the point, relative to it;
  * Resize to nobody, with answer 0. Differences (dx, dy) are not read. A kind that is none of ROQ_RESIZE to ROQ_MOUSE_UP is answered
- * by 11. Keys ask 11, 12; a MouseMove 5, 11; other pointer events 5, 11, 12. */
+ * by 11, and ROQ_KEY_FIRE by 21, before every other question: a throttle repeats its keys itself, and no pop gives one. KeyDown, KeyUp
+ * and Text ask 11, 12; a MouseMove 5, 11; other pointer events 5, 11, 12. */
 uint32_t roq_route(RoqSession *s, RoqEvent e);
 
 /* What a pop gives: on a no the event is all zeros. */

@@ -47,7 +47,7 @@ pub fn answer(call: &Call, group: &Group, lent: &Lent, is_walking: bool) -> u8 {
         }
         Call::Fill(id, area, _) => first_no(&[store(), used(*id), small_rect(area)]),
         Call::Blit(id, area, stride, _) => first_no(&[store(), used(*id), small_rect(area), (7, *stride >= 1)]),
-        Call::Route(event) => first_no(&[small_point(event)]),
+        Call::Route(event) => first_no(&[(21, !matches!(event, Event::KeyFire(_))), small_point(event)]),
         Call::Redraw(_, w, h) => first_no(&[store(), screen(*w, *h)]),
         Call::Portion(w, h) => first_no(&[store(), screen(*w, *h), (20, is_walking)]),
         Call::Visible(id) => {

@@ -12,19 +12,19 @@ impl Maker<'_> {
         (self.random.from_to(at.left, at.right), self.random.from_to(at.top, at.bottom))
     }
 
+    /// No KeyFire: "Call lists for the Rust contain none."
     pub fn event(&mut self) -> Step {
         let (x, y) = self.point();
         let value = self.colour();
         let (button, count) = (self.random.from_to(0, 255), self.random.from_to(0, 255));
-        match self.random.from_to(0, 11) {
+        match self.random.from_to(0, 10) {
             0 => self.say(&format!("keydown {value}")),
             1 => self.say(&format!("keyup {value}")),
-            2 => self.say(&format!("keyfire {value}")),
-            3 => self.say(&format!("text {value}")),
-            4..=6 => self.say(&format!("mousemove {x} {y}")),
-            7..=8 => self.say(&format!("mousedown {x} {y} {button}")),
-            9 => self.say(&format!("mouseup {x} {y} {button}")),
-            10 => self.say(&format!("mouseclick {x} {y} {button} {count}")),
+            2 => self.say(&format!("text {value}")),
+            3..=5 => self.say(&format!("mousemove {x} {y}")),
+            6..=7 => self.say(&format!("mousedown {x} {y} {button}")),
+            8 => self.say(&format!("mouseup {x} {y} {button}")),
+            9 => self.say(&format!("mouseclick {x} {y} {button} {count}")),
             _ => self.say("resized"),
         }
     }
