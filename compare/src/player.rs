@@ -20,7 +20,7 @@ pub enum Mode {
     Common,
     /// Such a call is made too.
     All,
-    /// So is a call that question 3 to 7, 13 or 14 refuses.
+    /// So is a call that question 3 to 7, 13, 14 or 21 refuses.
     Unasked,
 }
 
@@ -79,7 +79,7 @@ impl Player {
     }
 
     fn call(&mut self, call: &Call, answer: u8, out: &mut Text) {
-        let unasked = self.mode == Mode::Unasked && matches!(answer, 3..=7 | 13 | 14);
+        let unasked = self.mode == Mode::Unasked && matches!(answer, 3..=7 | 13 | 14 | 21);
         let before = out.0.len();
         if answer == 0 || unasked {
             let made = panics::caught(|| self.make(call, out));
