@@ -1,0 +1,2 @@
+-- Lemmas of counts in a run of times.
+pub mod laws

@@ -1,0 +1,3 @@
+-- What the busiest second of a run is, and examples.
+pub mod Busiest
+pub mod Examples
