@@ -102,6 +102,8 @@ pub data Plays (l : Line) (ns : List ℕ) (p : Player) (a : Pixels) (r : Player)
   lends : l .kind ≡ Kind.lend → num ns 0 ≤ 1048576 → Next (lendStore (num ns 0) p) (p .session) r → b ≡ a → Plays l ns p a r b
   lends-screen : l .kind ≡ Kind.lend-screen → num ns 0 ≤ 384000 → Next (lendScreen (num ns 0) p) (p .session) r → b ≡ a → Plays l ns p a r b
   lends-list : l .kind ≡ Kind.lend-list → num ns 0 ≤ 1984 → Next (lendList (num ns 0) p) (p .session) r → b ≡ a → Plays l ns p a r b
+  -- event times
+  asks-busiest : l .kind ≡ Kind.busiest → Next p (p .session) r → b ≡ a → Plays l ns p a r b
   -- "no call"; bare geometry and bare pixels
   shows : Kind.screen ≤ l .kind → l .kind ≤ Kind.region → Next p (p .session) r → b ≡ a → Plays l ns p a r b
 

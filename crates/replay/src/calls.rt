@@ -15,6 +15,7 @@ use crate::lend;
 use crate::numbers;
 use crate::player::Player;
 use crate::text;
+use crate::times;
 use script::Line;
 use script::kind;
 use windows::Done;
@@ -23,7 +24,7 @@ use windows::NextEvent;
 use windows::Session;
 
 // A line that hands back an answer alone.
-fn plain(s: Session, line: Line, ns: &[u32; 4102]) -> Done
+fn plain(s: Session, line: Line, ns: &[u32; 4200]) -> Done
     requires { ⌜ Given s × Sound line (now ns) × (isPlain (line .kind) ≡ true) ⌝ }
     ensures { λ r. ⌜ Picked (plainCall (line .kind) (now (ns .entry))) (λ c. Meets c s r) ⌝ }
 {
@@ -41,7 +42,7 @@ fn plain(s: Session, line: Line, ns: &[u32; 4102]) -> Done
 }
 
 // A line that is lent no pixels and no list.
-pub fn call(p: Player, line: Line, ns: &[u32; 4102], out: &mut [u8; 65536]) -> Player
+pub fn call(p: Player, line: Line, ns: &[u32; 4200], out: &mut [u8; 65536]) -> Player
     requires { ⌜ Ready p × Sound line (now ns) × (isLent (line .kind) ≡ false) ⌝ }
     ensures { λ r. ⌜ ((a : Pixels) → Plays line (now (ns .entry)) p a r a) ⌝ }
 {
@@ -56,6 +57,7 @@ pub fn call(p: Player, line: Line, ns: &[u32; 4102], out: &mut [u8; 65536]) -> P
         kind::LEND => lend::lend_store(p, ns, out),
         kind::LEND_SCREEN => lend::lend_screen(p, ns, out),
         kind::LEND_LIST => lend::lend_list(p, ns, out),
+        kind::BUSIEST => times::busiest(p, line, ns, out),
         _ => {
             let s = p.session;
             let done = plain(s, line, ns);
@@ -65,7 +67,7 @@ pub fn call(p: Player, line: Line, ns: &[u32; 4102], out: &mut [u8; 65536]) -> P
 }
 
 // A start that document 01 accepts but whose store the program cannot lend is not called.
-fn start(p: Player, ns: &[u32; 4102], out: &mut [u8; 65536]) -> Player
+fn start(p: Player, ns: &[u32; 4200], out: &mut [u8; 65536]) -> Player
     requires { ⌜ Ready p ⌝ }
     ensures { λ r. ⌜ PlaysAt Kind.start (now (ns .entry)) p r ⌝ }
 {
@@ -125,7 +127,7 @@ fn put_event(event: NextEvent, out: &mut [u8; 65536], at: usize) -> usize
     }
 }
 
-fn pop(mut p: Player, ns: &[u32; 4102], out: &mut [u8; 65536]) -> Player
+fn pop(mut p: Player, ns: &[u32; 4200], out: &mut [u8; 65536]) -> Player
     requires { ⌜ Ready p ⌝ }
     ensures { λ r. ⌜ Makes (Call.Pop (idOf (now (ns .entry)))) p r ⌝ }
 {

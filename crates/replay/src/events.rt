@@ -12,7 +12,7 @@ use script::kind;
 use window::Event;
 
 // The event that a line routes.
-pub fn event(line: Line, ns: &[u32; 4102]) -> Event
+pub fn event(line: Line, ns: &[u32; 4200]) -> Event
     requires { ⌜ Sound line (now ns) × (routes (line .kind) ≡ true) ⌝ }
     ensures { λ r. ⌜ plainCall (line .kind) (now (ns .entry)) ≡ some (Call.Route r) ⌝ }
 {

@@ -7,7 +7,7 @@ use geom::Rect;
 use geom::Tested;
 use script::kind;
 
-pub fn asked(k: u8, ns: &[u32; 4102], out: &mut [u8; 65536], at: usize) -> usize
+pub fn asked(k: u8, ns: &[u32; 4200], out: &mut [u8; 65536], at: usize) -> usize
     requires { ⌜ at ≤ 65536 ⌝ }
     ensures { λ r. ⌜ r ≤ 65536 ⌝ }
 {

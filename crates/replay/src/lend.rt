@@ -19,7 +19,7 @@ use windows::Listing;
 use windows::Session;
 
 // The data of a blit are the numbers of the line after its first six.
-fn blit(s: Session, ns: &[u32; 4102], data: &[u32], store: &mut [u32]) -> Done
+fn blit(s: Session, ns: &[u32; 4200], data: &[u32], store: &mut [u32]) -> Done
     requires { ⌜ Given s ⌝ }
     ensures { λ r. ⌜ MeetsStore (Call.Blit (idOf (now (ns .entry))) (rectAt (now (ns .entry)) 1) (now («data» .entry)) (num (now (ns .entry)) 5) (now (store .entry))) s r (now (store .exit)) ⌝ }
 {
@@ -28,7 +28,7 @@ fn blit(s: Session, ns: &[u32; 4102], data: &[u32], store: &mut [u32]) -> Done
     s.blit(numbers::id(ns), area, data, stride, store)
 }
 
-fn part(s: Session, ns: &[u32; 4102], all: &[u32], count: usize, store: &mut [u32]) -> Done
+fn part(s: Session, ns: &[u32; 4200], all: &[u32], count: usize, store: &mut [u32]) -> Done
     requires { ⌜ Given s × (6 ≤ count) × (count ≤ length (now all)) ⌝ }
     ensures { λ r. ⌜ MeetsStore (Call.Blit (idOf (now (ns .entry))) (rectAt (now (ns .entry)) 1) (take (count - 6) (drop 6 (now (all .entry)))) (num (now (ns .entry)) 5) (now (store .entry))) s r (now (store .exit)) ⌝ }
 {
@@ -36,7 +36,7 @@ fn part(s: Session, ns: &[u32; 4102], all: &[u32], count: usize, store: &mut [u3
 }
 
 // The calls that write the store.
-fn write(s: Session, line: Line, ns: &[u32; 4102], store: &mut [u32]) -> Done
+fn write(s: Session, line: Line, ns: &[u32; 4200], store: &mut [u32]) -> Done
     requires { ⌜ Given s × Sound line (now ns) × (Kind.resize ≤ line .kind) × (line .kind ≤ Kind.blit) ⌝ }
     ensures { λ r. ⌜ Picked (storeCall (line .kind) (line .count) (now (ns .entry)) (now (store .entry))) (λ c. MeetsStore c s r (now (store .exit))) ⌝ }
 {
@@ -48,7 +48,7 @@ fn write(s: Session, line: Line, ns: &[u32; 4102], store: &mut [u32]) -> Done
     }
 }
 
-fn lent(s: Session, line: Line, ns: &[u32; 4102], store: &mut [u32], lent: usize) -> Done
+fn lent(s: Session, line: Line, ns: &[u32; 4200], store: &mut [u32], lent: usize) -> Done
     requires { ⌜ Given s × Sound line (now ns) × (Kind.resize ≤ line .kind) × (line .kind ≤ Kind.blit) × (lent ≤ length (now store)) ⌝ }
     ensures { λ r. ⌜ Picked (storeCall (line .kind) (line .count) (now (ns .entry)) (take lent (now (store .entry))))
         (λ c. MeetsPart c lent (now (store .entry)) s r (now (store .exit))) ⌝ }
@@ -59,7 +59,7 @@ fn lent(s: Session, line: Line, ns: &[u32; 4102], store: &mut [u32], lent: usize
 pub fn stored(
     p: Player,
     line: Line,
-    ns: &[u32; 4102],
+    ns: &[u32; 4200],
     store: &mut [u32; 1048576],
     out: &mut [u8; 65536],
 ) -> Player
@@ -73,7 +73,7 @@ pub fn stored(
 }
 
 // The calls that draw on the screen.
-fn draw(s: Session, k: u8, ns: &[u32; 4102], store: &[u32], screen: &mut [u32]) -> Done
+fn draw(s: Session, k: u8, ns: &[u32; 4200], store: &[u32], screen: &mut [u32]) -> Done
     requires { ⌜ Given s ⌝ }
     ensures { λ r. ⌜ MeetsScreen (screenCall k (now (ns .entry)) (now (store .entry)) (now (screen .entry))) s r (now (screen .exit)) ⌝ }
 {
@@ -87,7 +87,7 @@ fn draw(s: Session, k: u8, ns: &[u32; 4102], store: &[u32], screen: &mut [u32]) 
 fn draw_part(
     s: Session,
     k: u8,
-    ns: &[u32; 4102],
+    ns: &[u32; 4200],
     store: &[u32],
     lent: usize,
     screen: &mut [u32],
@@ -100,7 +100,7 @@ fn draw_part(
 }
 
 // How many pixels of the screen a line is lent: what was said, or what its size asks for.
-fn screen_len(p: Player, k: u8, ns: &[u32; 4102]) -> u64
+fn screen_len(p: Player, k: u8, ns: &[u32; 4200]) -> u64
     ensures { λ r. ⌜ r ≡ screenLen p k (now (ns .entry)) ⌝ }
 {
     if p.is_set {
@@ -115,7 +115,7 @@ fn screen_len(p: Player, k: u8, ns: &[u32; 4102]) -> u64
 fn drawn(
     mut p: Player,
     k: u8,
-    ns: &[u32; 4102],
+    ns: &[u32; 4200],
     store: &[u32; 1048576],
     screen: &mut [u32; 384000],
     len: usize,
@@ -134,7 +134,7 @@ fn drawn(
 pub fn redraw(
     p: Player,
     line: Line,
-    ns: &[u32; 4102],
+    ns: &[u32; 4200],
     store: &[u32; 1048576],
     screen: &mut [u32; 384000],
     out: &mut [u8; 65536],
@@ -150,7 +150,7 @@ pub fn redraw(
     p.refused(out)
 }
 
-fn listed(s: Session, ns: &[u32; 4102], list: &mut [u32], len: usize) -> Listing
+fn listed(s: Session, ns: &[u32; 4200], list: &mut [u32], len: usize) -> Listing
     requires { ⌜ Given s × (len ≤ length (now list)) ⌝ }
     ensures { λ r. ⌜ ListsPart (group s) (idOf (now (ns .entry))) len (now (list .entry)) r (now (list .exit)) ⌝ }
 {
@@ -179,7 +179,7 @@ fn put_listing(found: Listing, list: &[u32; 1984], out: &mut [u8; 65536], at: us
 
 pub fn visible(
     mut p: Player,
-    ns: &[u32; 4102],
+    ns: &[u32; 4200],
     list: &mut [u32; 1984],
     out: &mut [u8; 65536],
 ) -> Player
@@ -194,7 +194,7 @@ pub fn visible(
 }
 
 // The lend lines: more than the program has is refused.
-pub fn lend_store(mut p: Player, ns: &[u32; 4102], out: &mut [u8; 65536]) -> Player
+pub fn lend_store(mut p: Player, ns: &[u32; 4200], out: &mut [u8; 65536]) -> Player
     requires { ⌜ Ready p ⌝ }
     ensures { λ r. ⌜ PlaysAt Kind.lend (now (ns .entry)) p r ⌝ }
 {
@@ -206,7 +206,7 @@ pub fn lend_store(mut p: Player, ns: &[u32; 4102], out: &mut [u8; 65536]) -> Pla
     p.refused(out)
 }
 
-pub fn lend_screen(mut p: Player, ns: &[u32; 4102], out: &mut [u8; 65536]) -> Player
+pub fn lend_screen(mut p: Player, ns: &[u32; 4200], out: &mut [u8; 65536]) -> Player
     requires { ⌜ Ready p ⌝ }
     ensures { λ r. ⌜ PlaysAt Kind.lend-screen (now (ns .entry)) p r ⌝ }
 {
@@ -219,7 +219,7 @@ pub fn lend_screen(mut p: Player, ns: &[u32; 4102], out: &mut [u8; 65536]) -> Pl
     p.refused(out)
 }
 
-pub fn lend_list(mut p: Player, ns: &[u32; 4102], out: &mut [u8; 65536]) -> Player
+pub fn lend_list(mut p: Player, ns: &[u32; 4200], out: &mut [u8; 65536]) -> Player
     requires { ⌜ Ready p ⌝ }
     ensures { λ r. ⌜ PlaysAt Kind.lend-list (now (ns .entry)) p r ⌝ }
 {

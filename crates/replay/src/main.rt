@@ -12,6 +12,7 @@ mod pixels;
 mod player;
 mod show;
 mod text;
+mod times;
 
 // The arrays are made apart from where they are used: a function with no clause that does nothing else.
 fn store_pixels() -> [u32; 1048576] {
@@ -26,8 +27,8 @@ fn list_numbers() -> [u32; 1984] {
     [0u32; 1984]
 }
 
-fn line_numbers() -> [u32; 4102] {
-    [0u32; 4102]
+fn line_numbers() -> [u32; 4200] {
+    [0u32; 4200]
 }
 
 fn block() -> [u8; 65536] {

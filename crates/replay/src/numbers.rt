@@ -8,7 +8,7 @@ use geom::Rect;
 use order::WinId;
 
 // The number of a window: one above 15 is no window's, and becomes 16.
-pub fn id(ns: &[u32; 4102]) -> WinId
+pub fn id(ns: &[u32; 4200]) -> WinId
     ensures { λ r. ⌜ r .0 ≡ idOf (now (ns .entry)) ⌝ }
 {
     let n = ns[0];
@@ -18,21 +18,21 @@ pub fn id(ns: &[u32; 4102]) -> WinId
     WinId(16)
 }
 
-pub fn pos(ns: &[u32; 4102], at: usize) -> Pos
+pub fn pos(ns: &[u32; 4200], at: usize) -> Pos
     requires { ⌜ at ≤ 4 ⌝ }
     ensures { λ r. ⌜ (r .x ≡ num (now (ns .entry)) at) × (r .y ≡ num (now (ns .entry)) (at + 1)) ⌝ }
 {
     Pos::new(ns[at], ns[at + 1])
 }
 
-pub fn dims(ns: &[u32; 4102], at: usize) -> Dims
+pub fn dims(ns: &[u32; 4200], at: usize) -> Dims
     requires { ⌜ at ≤ 4 ⌝ }
     ensures { λ r. ⌜ (r .w ≡ num (now (ns .entry)) at) × (r .h ≡ num (now (ns .entry)) (at + 1)) ⌝ }
 {
     Dims::new(ns[at], ns[at + 1])
 }
 
-pub fn rect(ns: &[u32; 4102], at: usize) -> Rect
+pub fn rect(ns: &[u32; 4200], at: usize) -> Rect
     requires { ⌜ at ≤ 4 ⌝ }
     ensures { λ r. ⌜ r ≡ rectAt (now (ns .entry)) at ⌝ }
 {

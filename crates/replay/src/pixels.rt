@@ -8,7 +8,7 @@ use crate::text;
 use script::Line;
 use script::kind;
 
-pub fn asked(line: Line, ns: &mut [u32; 4102], out: &mut [u8; 65536], at: usize) -> usize
+pub fn asked(line: Line, ns: &mut [u32; 4200], out: &mut [u8; 65536], at: usize) -> usize
     requires { ⌜ Sound line (now ns) × (Kind.scanline ≤ line .kind) × (line .kind ≤ Kind.region) × (at ≤ 65536) ⌝ }
     ensures { λ r. ⌜ r ≤ 65536 ⌝ }
 {

@@ -110,7 +110,7 @@ impl Player {
     fn shown(
         mut self,
         line: Line,
-        ns: &mut [u32; 4102],
+        ns: &mut [u32; 4200],
         name: &[u8; 64],
         store: &[u32; 1048576],
         screen: &[u32; 384000],
@@ -138,7 +138,7 @@ impl Player {
     pub fn line(
         self,
         line: Line,
-        ns: &mut [u32; 4102],
+        ns: &mut [u32; 4200],
         name: &[u8; 64],
         store: &mut [u32; 1048576],
         screen: &mut [u32; 384000],

@@ -23,7 +23,7 @@ fn put(pixels: &[u32], from: usize, n: usize, out: &mut [u8; 65536], at: usize) 
 // The lines screen and picture.
 pub fn screen(
     line: Line,
-    ns: &[u32; 4102],
+    ns: &[u32; 4200],
     name: &[u8; 64],
     screen: &[u32; 384000],
     out: &mut [u8; 65536],
@@ -51,7 +51,7 @@ pub fn screen(
 // The line pixels: the window's pixels begin at its number times C in the store.
 pub fn pixels(
     s: Session,
-    ns: &[u32; 4102],
+    ns: &[u32; 4200],
     store: &[u32; 1048576],
     lent: usize,
     out: &mut [u8; 65536],

@@ -1,5 +1,6 @@
 -- Lines and what they mean, by computation.
 use Prim.Native.String.{String}
+use mathlib.Core.Bool.{true, false}
 use mathlib.Core.Path.{_≡_, refl}
 use mathlib.Core.List.{[], _∷_}
 use Rattle.script.specs.Text.{bytes}
@@ -18,8 +19,10 @@ pub calls : ("start 4294967295" means call Kind.start (4294967295 ∷ []) [])
     × ("picture 8 4 12" means call Kind.picture (8 ∷ 4 ∷ []) (bytes "12"))
     × ("begin 1" means call Kind.begin (1 ∷ []) [])
     × ("portion 8 4" means call Kind.portion (8 ∷ 4 ∷ []) [])
+    × ("busiest" means call Kind.busiest [] [])
+    × ("busiest 5 5 1004" means call Kind.busiest (5 ∷ 5 ∷ 1004 ∷ []) [])
 unfolding split words value number nameByte isName table kindOf counted ranged nameFits accepts withWord complete hears
-calls = (refl, refl, refl, refl, refl, refl, refl, refl)
+calls = (refl, refl, refl, refl, refl, refl, refl, refl, refl, refl)
 
 pub no-calls : ("" means silent)
     × ("# start 1" means silent)
@@ -37,3 +40,11 @@ pub no-calls : ("" means silent)
     × ("picture 8 4" means malformed)
 unfolding split words value number nameByte isName table kindOf counted ranged nameFits accepts withWord complete hears
 no-calls = (refl, refl, refl, refl, refl, refl, refl, refl, refl, refl, refl, refl, refl, refl)
+
+-- the most numbers of a line
+pub most : (counted Kind.blit 4102 ≡ true)
+    × (counted Kind.blit 4103 ≡ false)
+    × (counted Kind.busiest 4200 ≡ true)
+    × (counted Kind.busiest 4201 ≡ false)
+unfolding table counted
+most = (refl, refl, refl, refl)

@@ -130,6 +130,9 @@ begin = 41
 abbrev pub portion : ℕ
 portion = 42
 
+abbrev pub busiest : ℕ
+busiest = 43
+
 -- the last of them
 abbrev pub last : ℕ
-last = portion
+last = busiest

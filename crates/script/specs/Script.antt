@@ -73,20 +73,24 @@ isName w = leb (length w) 64 && (noDotFirst w && all nameByte w)
 
 -- Kinds ---------------------------------------------------------------------------------------------------------------
 
--- a row of the tables: the word that a line begins with, the line's kind, how many numbers it has, PIXELS and DATA not counted, and whether
--- these may follow
+-- a row of the tables: the word that a line begins with, the line's kind, how many numbers it has, PIXELS, DATA and times not counted, and
+-- how many of these may follow
 pub record Row : Type 0 where
   pub word : List ℕ
   pub kind : ℕ
   pub numbers : ℕ
-  pub more : Bool
+  pub more : ℕ
 
 abbrev pub row : String → ℕ → ℕ → Row
-row w k n = record { word = bytes w; kind = k; numbers = n; more = false }
+row w k n = record { word = bytes w; kind = k; numbers = n; more = 0 }
 
--- PIXELS or DATA may follow
+-- "DATA is 0 to 4,096 numbers"; "PIXELS and DATA are at most 4,096 numbers together"
 abbrev pub rowMore : String → ℕ → ℕ → Row
-rowMore w k n = record { word = bytes w; kind = k; numbers = n; more = true }
+rowMore w k n = record { word = bytes w; kind = k; numbers = n; more = 4096 }
+
+-- "0 to 4,200 times"
+abbrev pub rowTimes : String → ℕ → Row
+rowTimes w k = record { word = bytes w; kind = k; numbers = 0; more = 4200 }
 
 unfoldable pub table : List Row
 table =
@@ -131,6 +135,7 @@ table =
     ∷ rowMore "region" Kind.region 5
     ∷ row "begin" Kind.begin 1
     ∷ row "portion" Kind.portion 2
+    ∷ rowTimes "busiest" Kind.busiest
     ∷ []
 
 abbrev pub sameWord : List ℕ → List ℕ → Bool
@@ -152,10 +157,10 @@ abbrev pub rowIn : ℕ → List Row → Option Row
 rowIn k [] = none
 rowIn k (r ∷ rs) = cond (eqb k (r .kind)) (some r) (rowIn k rs)
 
--- "DATA is 0 to 4,096 numbers"; "PIXELS and DATA are at most 4,096 numbers together; more make the line malformed"
+-- "too few or too many numbers"; "more make the line malformed"
 abbrev pub countedBy : Option Row → ℕ → Bool
 countedBy none n = false
-countedBy (some r) n = leb (r .numbers) n && leb n (r .numbers + cond (r .more) 4096 0)
+countedBy (some r) n = leb (r .numbers) n && leb n (r .numbers + r .more)
 
 unfoldable pub counted : ℕ → ℕ → Bool
 counted k n = countedBy (rowIn k table) n
@@ -228,13 +233,13 @@ heardOf l ns name =
 
 -- what a program may rely on of any line: of its kind k, its n numbers, the m bytes of its name, and the numbers
 pub record Shaped (k n m : ℕ) (ns : List ℕ) : Type 0 where
-  pub few : n ≤ 4102
+  pub few : n ≤ 4200
   pub named : m ≤ 64
   pub kinds : k ≤ Kind.last
   pub blit : k ≡ Kind.blit → 6 ≤ n
   pub scan : k ≡ Kind.scanline → 5 ≤ n
   pub fills : k ≡ Kind.fill-scanline → 6 ≤ n
-  pub sets : k ≡ Kind.set-scanline → (6 ≤ n) × (6 + getD ns 5 0 ≤ n)
+  pub sets : k ≡ Kind.set-scanline → (6 ≤ n) × (6 + getD ns 5 0 ≤ n) × (n ≤ 4102)
   pub rgn : k ≡ Kind.region → 5 ≤ n
   pub down : k ≡ Kind.mousedown → getD ns 2 0 ≤ 255
   pub up : k ≡ Kind.mouseup → getD ns 2 0 ≤ 255

@@ -1,6 +1,7 @@
--- How the rows are held: 19 bytes for each, which are how many letters the word has, how many numbers a line has, `+` (43) where PIXELS or
--- DATA may follow, and the word with spaces behind it.
+-- How the rows are held: 19 bytes for each, which are how many letters the word has, how many numbers a line has, what may follow these, and
+-- the word with spaces behind it.
 use Prim.Native.Nat.{ℕ, _+_, _*_, _-_, _≤_, _<_}
+use mathlib.Core.Bool.{cond}
 use mathlib.Core.List.{List}
 use mathlib.Core.Path.{_≡_}
 use lib.Dec.{eqb}
@@ -28,10 +29,14 @@ byte rows k i = getD rows (k * 19 + i) 0
 abbrev pub wordIn : List ℕ → ℕ → List ℕ
 wordIn rows k = take (letters rows k) (drop (k * 19 + 3) rows)
 
+-- how many numbers may follow: 4,096 of PIXELS and DATA at `+` (43), 4,200 times at `*` (42)
+unfoldable pub follows : ℕ → ℕ
+follows b = cond (eqb b 43) 4096 (cond (eqb b 42) 4200 0)
+
 pub record Held (rows : List ℕ) (k : ℕ) (r : Row) : Type 0 where
   pub short : letters rows k ≤ 16
   pub numbers : byte rows k 1 ≡ r .numbers
-  pub more : eqb (byte rows k 2) 43 ≡ r .more
+  pub more : follows (byte rows k 2) ≡ r .more
   pub word : wordIn rows k ≡ r .word
 
 -- the bytes hold the rows

@@ -36,7 +36,7 @@ fn wide(n: u32) -> usize
 
 // Are the numbers of the line those that may stand there?
 fn is_ranged(kind: u8, count: usize, numbers: &[u32]) -> bool
-    requires { ⌜ length (now numbers) ≡ 4102 ⌝ }
+    requires { ⌜ length (now numbers) ≡ 4200 ⌝ }
     ensures { λ r. ⌜ r ≡ ranged kind count (now (numbers .entry)) ⌝ }
 {
     if kind == MOUSEDOWN {
@@ -85,7 +85,7 @@ fn no_call(kind: u8) -> Line
 
 // Are they, and has it a name if it must?
 fn is_right(kind: u8, count: usize, name: usize, numbers: &[u32]) -> bool
-    requires { ⌜ length (now numbers) ≡ 4102 ⌝ }
+    requires { ⌜ length (now numbers) ≡ 4200 ⌝ }
     ensures { λ r. ⌜ r ≡ ranged kind count (now (numbers .entry)) && nameFits kind name ⌝ }
 {
     if is_ranged(kind, count, numbers) {
@@ -95,7 +95,7 @@ fn is_right(kind: u8, count: usize, name: usize, numbers: &[u32]) -> bool
 }
 
 fn is_call(kind: u8, count: usize, name: usize, numbers: &[u32]) -> bool
-    requires { ⌜ length (now numbers) ≡ 4102 ⌝ }
+    requires { ⌜ length (now numbers) ≡ 4200 ⌝ }
     ensures { λ r. ⌜ r ≡ counted kind count && (ranged kind count (now (numbers .entry)) && nameFits kind name) ⌝ }
 {
     if count::is_counted(kind, count) {
@@ -106,7 +106,7 @@ fn is_call(kind: u8, count: usize, name: usize, numbers: &[u32]) -> bool
 
 // The line of this kind with so many numbers and so long a name, if it is a call; else it is malformed.
 fn checked(kind: u8, count: usize, name: usize, numbers: &[u32]) -> Line
-    requires { ⌜ (count ≤ 4102) × (name ≤ 64) × (length (now numbers) ≡ 4102) ⌝ }
+    requires { ⌜ (count ≤ 4200) × (name ≤ 64) × (length (now numbers) ≡ 4200) ⌝ }
     ensures { λ l. ⌜ Checked kind count name (now (numbers .entry)) l ⌝ }
 {
     if is_call(kind, count, name, numbers) {
@@ -125,7 +125,7 @@ fn at_most(n: usize, limit: usize) -> usize
 }
 
 pub fn line_of(reading: Reading, word: &[u8], numbers: &[u32]) -> Line
-    requires { ⌜ length (now numbers) ≡ 4102 ⌝ }
+    requires { ⌜ length (now numbers) ≡ 4200 ⌝ }
     ensures { λ l. ⌜ Ended reading (now (word .entry)) (now (numbers .entry)) l ⌝ }
 {
     let stage = reading.stage;

@@ -1,9 +1,9 @@
 // How many numbers a line has.
 ghost use mathlib.Core.Path.{_≡_};
 ghost use mathlib.Core.Option.{some};
-ghost use Prim.Native.Nat.{_<_};
+ghost use Prim.Native.Nat.{_≤_, _<_};
 ghost use Rattle.script.specs.Script.{countedBy, counted};
-ghost use Rattle.script.specs.Table.{words, rowAt, Rows};
+ghost use Rattle.script.specs.Table.{words, rowAt, follows, Rows};
 use crate::kind::LAST;
 use crate::kind::ROW;
 use crate::kind::ROWS;
@@ -12,6 +12,22 @@ use crate::kind::wide;
 
 // The most that PIXELS and DATA are together.
 const DATA: usize = 4096;
+
+// The most times.
+const TIMES: usize = 4200;
+
+// How many numbers may follow those that every line of a row has.
+fn most_more(b: u8) -> usize
+    ensures { λ r. ⌜ (r ≡ follows b) × (r ≤ 4200) ⌝ }
+{
+    if b == b'+' {
+        return DATA;
+    }
+    if b == b'*' {
+        return TIMES;
+    }
+    0
+}
 
 // Does a line of the row k have so many numbers?
 fn fits_row(rows: &[u8], k: usize, count: usize) -> bool
@@ -23,10 +39,7 @@ fn fits_row(rows: &[u8], k: usize, count: usize) -> bool
     if count < least {
         return false;
     }
-    if rows[at + 2] == b'+' {
-        return count <= least + DATA;
-    }
-    count <= least
+    count <= least + most_more(rows[at + 2])
 }
 
 // Does a line of this kind have so many numbers?

@@ -92,13 +92,15 @@ pub const BEGIN: u8 = 41;
 
 pub const PORTION: u8 = 42;
 
+pub const BUSIEST: u8 = 43;
+
 // The last of them.
-pub const LAST: u8 = PORTION;
+pub const LAST: u8 = BUSIEST;
 
 const WORDS: usize = LAST as usize - 1;
 
-// The bytes of a row of the table: how many letters the word has, how many numbers a line has at least, `+` where PIXELS or DATA may follow,
-// and the word.
+// The bytes of a row of the table: how many letters the word has, how many numbers a line has at least, `+` where PIXELS or DATA may follow
+// or `*` where times may, and the word.
 pub const ROW: usize = 19;
 
 // The words in the order of their kinds.
@@ -144,6 +146,7 @@ pub const ROWS: [u8; WORDS * ROW] = *b"\
     \x06\x05+region          \
     \x05\x01 begin           \
     \x07\x02 portion         \
+    \x07\x00*busiest         \
     ";
 
 pub fn wide(b: u8) -> usize

@@ -4,20 +4,19 @@ use mathlib.Core.Path.{_≡_, refl, sym, ap, subst, _∙_}
 use mathlib.Core.Bool.{Bool, true, false, cond, _&&_}
 use mathlib.Core.List.{List, []}
 use mathlib.Core.Option.{Option, none, some}
-use native.Mathlib.Nat.{add-zero}
 use native.Mathlib.Omega.{arith}
 use native.Mathlib.Numerals.{add-one}
 use lib.Dec.{leb, eqb}
 use lib.ListN.{length, take, getD}
 use lib.Seq.{getD-take, length-take-le, take-all, take-suc}
-use borrow.Author.Tests.{eqb-true, eq-eqb, ne-eqb, leb-true, leb-false, lt-ltb, le-ltb, le-leb, lt-leb}
+use borrow.Author.Tests.{eqb-true, ne-eqb, leb-true, leb-false, lt-ltb, le-ltb, le-leb, lt-leb}
 use Rattle.geom.proofs.basics.Tests.{fst, snd, clash}
 use Rattle.script.proofs.laws.Kinds.{row-of, no-row, at-row}
 use Rattle.script.proofs.laws.Stages.{at-stage}
 use Rattle.script.specs.declared.Reading.{Reading}
 use Rattle.script.specs.declared.shape.Line.{Line}
 use Rattle.script.specs.Kind as Kind
-use Rattle.script.specs.Table.{rowAt, byte, Held}
+use Rattle.script.specs.Table.{rowAt, byte, follows, Held}
 use Rattle.script.specs.Script.{malformed, call, begun, Row, table, rowIn, countedBy, counted, ranged, nameFits, accepts, complete, heardOf, Shaped, kindOf}
 use Rattle.script.specs.Machine.{spaces, spoiled, ends, standing, stateOf, noCall, Checked, Ended}
 
@@ -39,10 +38,14 @@ row-count k n h l =
     let e : k - Kind.start + Kind.start ≡ k = omega arith in
     ap (λ (r : Option Row). countedBy r n) (sym (row-of (k - Kind.start) (omega arith))) ∙ ap (λ (j : ℕ). counted j n) e
 
--- how many numbers a line of a row has at least
+-- how many numbers a line of a row has at least, and at most
 abbrev needed : Option Row → ℕ
 needed none = 0
 needed (some r) = r .numbers
+
+abbrev allowed : Option Row → ℕ
+allowed none = 0
+allowed (some r) = r .numbers + r .more
 
 module _ (k n : ℕ) (h : counted k n ≡ true) where
   -- the kind is that of a row
@@ -65,16 +68,24 @@ module _ (k n : ℕ) (h : counted k n ≡ true) where
       go none c = omega arith
       go (some r) c = leb-true (r .numbers) n (fst (leb (r .numbers) n) _ c)
 
-  -- no line has more than 4,102 numbers
-  pub not-over : n ≤ 4102
+  not-above : (j : ℕ) → k ≡ j → n ≤ allowed (rowIn j table)
+  unfolding counted
+  not-above j e = go (rowIn j table) (subst (λ (x : ℕ). counted x n ≡ true) e h)
+    where
+      go : (r : Option Row) → countedBy r n ≡ true → n ≤ allowed r
+      go none c = clash c refl
+      go (some r) c = leb-true n (r .numbers + r .more) (snd (leb (r .numbers) n) _ c)
+
+  -- no line has more than 4,200 numbers
+  pub not-over : n ≤ 4200
   unfolding counted table
   not-over =
       let r : Row = rowAt (k - Kind.start) in
       let c : countedBy (some r) n ≡ true = row-count k n (known .0) (known .1) ∙ h in
       omega (
         arith,
-        leb-true n (r .numbers + cond (r .more) 4096 0) (snd (leb (r .numbers) n) _ c),
-        leb-true (r .numbers + cond (r .more) 4096 0) 4102 (at-row (λ _ q. leb (q .numbers + cond (q .more) 4096 0) 4102) refl (k - Kind.start) (omega (arith, known))),
+        leb-true n (r .numbers + r .more) (snd (leb (r .numbers) n) _ c),
+        leb-true (r .numbers + r .more) 4200 (at-row (λ _ q. leb (q .numbers + q .more) 4200) refl (k - Kind.start) (omega (arith, known))),
       )
 
   -- the numbers that are tested are among the first n
@@ -100,11 +111,8 @@ module _ {rows : List ℕ} {k : ℕ} {r : Row} (q : Held rows k r) {a : ℕ} (e 
   pub too-few : {n : ℕ} → n < a → false ≡ countedBy (some r) n
   too-few {n} h = rw (is-numbers, lt-leb a n h)
 
-  pub with-more : {n : ℕ} → a ≤ n → byte rows k 2 ≡ 43 → leb n (a + 4096) ≡ countedBy (some r) n
-  with-more {n} h f = rw (is-numbers, le-leb a n h, ← q .more, eq-eqb (byte rows k 2) 43 f)
-
-  pub without-more : {n : ℕ} → a ≤ n → (byte rows k 2 ≡ 43 → ⊥) → leb n a ≡ countedBy (some r) n
-  without-more {n} h f = rw (is-numbers, le-leb a n h, ← q .more, ne-eqb (byte rows k 2) 43 f, add-zero)
+  pub with-more : {n m : ℕ} → a ≤ n → m ≡ follows (byte rows k 2) → leb n (a + m) ≡ countedBy (some r) n
+  with-more {n} h f = rw (is-numbers, le-leb a n h, ← q .more, f)
 
 -- what the code tests
 abbrev pub passes : ℕ → ℕ → ℕ → List ℕ → Bool
@@ -128,7 +136,7 @@ no-shape k ns h =
       told = λ e. omega arith;
     }
 
-module _ (k n m : ℕ) (ns : List ℕ) (few : n ≤ 4102) (long : m ≤ 64) (room : length ns ≡ 4102) where
+module _ (k n m : ℕ) (ns : List ℕ) (few : n ≤ 4200) (long : m ≤ 64) (room : length ns ≡ 4200) where
   accepts-is : (name : List ℕ) → length name ≡ 64 → accepts k (take n ns) (take m name) ≡ passes k n m ns
   unfolding accepts
   accepts-is name full =
@@ -150,7 +158,7 @@ module _ (k n m : ℕ) (ns : List ℕ) (few : n ≤ 4102) (long : m ≤ 64) (roo
         blit = λ e. enough k n h Kind.blit e;
         scan = λ e. enough k n h Kind.scanline e;
         fills = λ e. enough k n h Kind.fill-scanline e;
-        sets = λ e. (enough k n h Kind.set-scanline e, leb-true (6 + getD ns 5 0) n (subst (λ (x : ℕ). ranged x n ns ≡ true) e r));
+        sets = λ e. (enough k n h Kind.set-scanline e, leb-true (6 + getD ns 5 0) n (subst (λ (x : ℕ). ranged x n ns ≡ true) e r), not-above k n h Kind.set-scanline e);
         rgn = λ e. enough k n h Kind.region e;
         down = λ e. leb-true (getD ns 2 0) 255 (subst (λ (x : ℕ). ranged x n ns ≡ true) e r);
         up = λ e. leb-true (getD ns 2 0) 255 (subst (λ (x : ℕ). ranged x n ns ≡ true) e r);
@@ -199,8 +207,8 @@ begins k = go (eqb k Kind.malformed) refl
     go true e = rw (eqb-true k Kind.malformed e)
     go false e = rw e
 
-module _ (r : Reading) (w ns : List ℕ) (room : length ns ≡ 4102) (l : Line) where
-  pub ends-between : r .stage ≡ 3 → (n : ℕ) → n ≡ min (r .count) 4102 → Checked (r .kind) n 0 ns l → Ended r w ns l
+module _ (r : Reading) (w ns : List ℕ) (room : length ns ≡ 4200) (l : Line) where
+  pub ends-between : r .stage ≡ 3 → (n : ℕ) → n ≡ min (r .count) 4200 → Checked (r .kind) n 0 ns l → Ended r w ns l
   unfolding ends standing
   ends-between e n f c =
       record {
@@ -208,24 +216,24 @@ module _ (r : Reading) (w ns : List ℕ) (room : length ns ≡ 4102) (l : Line) 
         heard =
             λ name full.
             c .heard name full
-            ∙ ap (λ (x : List ℕ). complete (call (r .kind) x [])) (ap (λ (m : ℕ). take m ns) f ∙ take-min (r .count) 4102 ns room)
+            ∙ ap (λ (x : List ℕ). complete (call (r .kind) x [])) (ap (λ (m : ℕ). take m ns) f ∙ take-min (r .count) 4200 ns room)
             ∙ sym (ap ends (at-stage r w ns name 3 e));
       }
 
-  named : (m n : ℕ) → m ≡ min (r .named) 64 → n ≡ min (r .count) 4102 → Checked (r .kind) n m ns l → (name : List ℕ) → length name ≡ 64
+  named : (m n : ℕ) → m ≡ min (r .named) 64 → n ≡ min (r .count) 4200 → Checked (r .kind) n m ns l → (name : List ℕ) → length name ≡ 64
       → heardOf l ns name ≡ complete (call (r .kind) (take (r .count) ns) (take (r .named) name))
   named m n e f c name full =
-      c .heard name full ∙ rw (e, f, take-min (r .count) 4102 ns room, take-min (r .named) 64 name full)
+      c .heard name full ∙ rw (e, f, take-min (r .count) 4200 ns room, take-min (r .named) 64 name full)
 
-  pub ends-name : r .stage ≡ 5 → (n m : ℕ) → m ≡ min (r .named) 64 → n ≡ min (r .count) 4102 → Checked (r .kind) n m ns l → Ended r w ns l
+  pub ends-name : r .stage ≡ 5 → (n m : ℕ) → m ≡ min (r .named) 64 → n ≡ min (r .count) 4200 → Checked (r .kind) n m ns l → Ended r w ns l
   unfolding ends standing
   ends-name e n m f g c = record { shaped = c .shaped; heard = λ name full. named m n f g c name full ∙ sym (ap ends (at-stage r w ns name 5 e)) }
 
-  pub ends-after : r .stage ≡ 6 → (n m : ℕ) → m ≡ min (r .named) 64 → n ≡ min (r .count) 4102 → Checked (r .kind) n m ns l → Ended r w ns l
+  pub ends-after : r .stage ≡ 6 → (n m : ℕ) → m ≡ min (r .named) 64 → n ≡ min (r .count) 4200 → Checked (r .kind) n m ns l → Ended r w ns l
   unfolding ends standing
   ends-after e n m f g c = record { shaped = c .shaped; heard = λ name full. named m n f g c name full ∙ sym (ap ends (at-stage r w ns name 6 e)) }
 
-  pub ends-number : r .stage ≡ 4 → (n : ℕ) → n ≡ min (r .count) 4102 → n < 4102 → Checked (r .kind) (n + 1) 0 ns l → Ended r w ns l
+  pub ends-number : r .stage ≡ 4 → (n : ℕ) → n ≡ min (r .count) 4200 → n < 4200 → Checked (r .kind) (n + 1) 0 ns l → Ended r w ns l
   unfolding ends standing
   ends-number e n f h c =
       let s : n ≡ r .count = omega arith in
@@ -235,10 +243,10 @@ module _ (r : Reading) (w ns : List ℕ) (room : length ns ≡ 4102) (l : Line) 
             λ name full.
             c .heard name full
             ∙ rw (s, add-one, take-suc ns (r .count) 0 (omega arith))
-            (sym (ap ends (at-stage r w ns name 4 e) ∙ rw (length-take-le (r .count) ns (omega arith), lt-ltb (r .count) 4102 (omega arith))));
+            (sym (ap ends (at-stage r w ns name 4 e) ∙ rw (length-take-le (r .count) ns (omega arith), lt-ltb (r .count) 4200 (omega arith))));
       }
 
-  pub ends-full : r .stage ≡ 4 → (n : ℕ) → n ≡ min (r .count) 4102 → 4102 ≤ n → l ≡ noCall Kind.malformed → Ended r w ns l
+  pub ends-full : r .stage ≡ 4 → (n : ℕ) → n ≡ min (r .count) 4200 → 4200 ≤ n → l ≡ noCall Kind.malformed → Ended r w ns l
   unfolding ends standing heardOf
   ends-full e n f h i =
       subst (Ended r w ns) (sym i)
@@ -248,7 +256,7 @@ module _ (r : Reading) (w ns : List ℕ) (room : length ns ≡ 4102) (l : Line) 
             λ name full.
             sym
             (ap ends (at-stage r w ns name 4 e)
-            ∙ rw (take-all (r .count) ns (omega arith), le-ltb (length ns) 4102 (omega arith)));
+            ∙ rw (take-all (r .count) ns (omega arith), le-ltb (length ns) 4200 (omega arith)));
       })
 
   pub ends-word : r .stage ≡ 2 → (k : ℕ) → k ≡ kindOf (take (r .letters) w) → Checked k 0 0 ns l → Ended r w ns l

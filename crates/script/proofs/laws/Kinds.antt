@@ -1,7 +1,7 @@
 -- The rows and their bytes: what the search has passed gives no kind, and a word of 17 letters has none.
 use Prim.Native.Nat.{ℕ, zero, suc, _+_, _*_, _≤_, _<_}
 use mathlib.Core.Path.{_≡_, refl, sym, ap, _∙_}
-use mathlib.Core.Bool.{Bool, true, false, cond, not, _&&_}
+use mathlib.Core.Bool.{Bool, true, false, cond, _&&_}
 use mathlib.Core.Option.{none, some}
 use mathlib.Core.List.{List, [], _∷_}
 use native.Mathlib.Omega.{arith}
@@ -13,7 +13,7 @@ use borrow.Author.Tests.{eqb-true, eq-eqb, ne-eqb, leb-true}
 use Rattle.geom.proofs.basics.Tests.{fst, snd, both, clash, is-false}
 use Rattle.script.specs.Kind as Kind
 use Rattle.script.specs.Script.{Row, table, sameWord, kindIn, kindOf, rowIn}
-use Rattle.script.specs.Table.{words, noRow, rowAt, letters, byte, wordIn, Held, Rows}
+use Rattle.script.specs.Table.{words, noRow, rowAt, letters, byte, wordIn, follows, Held, Rows}
 use Rattle.script.proofs.laws.Tables.{every, at}
 
 -- Words that are the same ----------------------------------------------------------------------------------------------
@@ -35,15 +35,6 @@ same-self (x ∷ xs) = both (eq-eqb x x refl) (same-self xs)
 pub told : (v w : List ℕ) (t : Bool) → (t ≡ true → v ≡ w) → (v ≡ w → t ≡ true) → t ≡ sameWord v w
 told v w true f g = sym (ap (sameWord v) (sym (f refl)) ∙ same-self v)
 told v w false f g = sym (is-false (λ e. clash (g (same-is v w e)) refl))
-
-abbrev pub sameBool : Bool → Bool → Bool
-sameBool s t = cond s t (not t)
-
-same-bool : (s t : Bool) → sameBool s t ≡ true → s ≡ t
-same-bool true true e = refl
-same-bool true false e = clash e refl
-same-bool false true e = clash e refl
-same-bool false false e = refl
 
 -- The rows -------------------------------------------------------------------------------------------------------------
 
@@ -90,7 +81,7 @@ at-row f t k h = at noRow f table t k h
 abbrev pub holds : List ℕ → ℕ → Row → Bool
 holds rows k r =
     leb (letters rows k) 16
-    && (eqb (byte rows k 1) (r .numbers) && (sameBool (eqb (byte rows k 2) 43) (r .more) && sameWord (wordIn rows k) (r .word)))
+    && (eqb (byte rows k 1) (r .numbers) && (eqb (follows (byte rows k 2)) (r .more) && sameWord (wordIn rows k) (r .word)))
 
 pub held : (rows : List ℕ) → length rows ≡ words * 19 → every (holds rows) 0 table ≡ true → Rows rows
 held rows l e = record { bytes = l; held = λ k h. of k (rowAt k) (at-row (holds rows) e k h) }
@@ -102,8 +93,8 @@ held rows l e = record { bytes = l; held = λ k h. of k (rowAt k) (at-row (holds
         record {
           short = leb-true (letters rows k) 16 (fst (leb (letters rows k) 16) _ t);
           numbers = eqb-true (byte rows k 1) (r .numbers) (fst (eqb (byte rows k 1) (r .numbers)) _ b);
-          more = same-bool (eqb (byte rows k 2) 43) (r .more) (fst (sameBool (eqb (byte rows k 2) 43) (r .more)) _ c);
-          word = same-is (wordIn rows k) (r .word) (snd (sameBool (eqb (byte rows k 2) 43) (r .more)) _ c);
+          more = eqb-true (follows (byte rows k 2)) (r .more) (fst (eqb (follows (byte rows k 2)) (r .more)) _ c);
+          word = same-is (wordIn rows k) (r .word) (snd (eqb (follows (byte rows k 2)) (r .more)) _ c);
         }
 
 -- The search -----------------------------------------------------------------------------------------------------------

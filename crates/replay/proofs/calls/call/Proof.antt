@@ -1,7 +1,7 @@
 -- Each arm plays the line of its own kind; the kinds that are left are those of the plain calls.
 use mathlib.Core.Path.{refl}
 use native.Mathlib.Omega.{arith}
-use Rattle.replay.specs.Played.{unread, creates, pops, asks-focus, plain}
+use Rattle.replay.specs.Played.{unread, creates, pops, asks-focus, asks-busiest, plain}
 use Rattle.replay.proofs.laws.Arms.{plain-left}
 use Rattle.replay.proofs.laws.Picked.{picked-so}
 use Rattle.replay.proofs.laws.Made.{makes}
@@ -32,6 +32,9 @@ lend-screen-requires c κs = search needs
 
 lend-list-requires : tie.Need-lend-list-requires
 lend-list-requires c κs = search needs
+
+busiest-requires : tie.Need-busiest-requires
+busiest-requires c κs = search needs
 
 plain-requires : tie.Need-plain-requires
 plain-requires c κs =
@@ -71,7 +74,10 @@ returns-9 : tie.Need-returns-9
 returns-9 c = λ a. c .lend-list .ensures (c .before .before .before .args .line) a (c .before .before .match .keys9)
 
 returns-10 : tie.Need-returns-10
-returns-10 c =
+returns-10 c = λ a. asks-busiest (c .before .before .match .keys10) (c .busiest .ensures) refl
+
+returns-11 : tie.Need-returns-11
+returns-11 c =
     let p = c .before .before .before .before .before .args .p in
     let done = c .before .before .plain in
     λ a. plain (picked-so (λ k m. makes k p (c .answered .result) (done .result) m (c .answered .ensures)) (done .ensures)) refl
@@ -88,6 +94,7 @@ call-spec =
     lend-store-requires
     lend-screen-requires
     lend-list-requires
+    busiest-requires
     plain-requires
     answered-requires
     returns
@@ -99,4 +106,5 @@ call-spec =
     returns-7
     returns-8
     returns-9
-    returns-10)
+    returns-10
+    returns-11)

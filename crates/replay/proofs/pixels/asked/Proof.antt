@@ -11,7 +11,7 @@ fill-scanline-requires : tie.Need-fill-scanline-requires
 fill-scanline-requires c κs = (c .before .before .before .pre .0 .fills (c .before .before .match .keys2), search needs, c .before .before .before .pre .3)
 
 set-scanline-requires : tie.Need-set-scanline-requires
-set-scanline-requires c κs = (c .before .before .before .pre .0 .sets (c .before .before .match .keys3) .1, c .before .before .before .pre .0 .few, search needs, c .before .before .before .pre .3)
+set-scanline-requires c κs = (c .before .before .before .pre .0 .sets (c .before .before .match .keys3) .1, c .before .before .before .pre .0 .sets (c .before .before .match .keys3) .2, search needs, c .before .before .before .pre .3)
 
 region-requires : tie.Need-region-requires
 region-requires c κs = (c .before .before .before .before .pre .0 .rgn (omega (arith, c .before .before .before .before .pre .0 .kinds, c .before .before .before .match .rest)), search needs, c .before .before .before .before .pre .3)

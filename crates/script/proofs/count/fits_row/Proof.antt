@@ -1,5 +1,5 @@
--- One test after the other.
-use Rattle.script.proofs.laws.Calls.{too-few, with-more, without-more}
+-- A line has the row's numbers at least, and at most as many more as may follow.
+use Rattle.script.proofs.laws.Calls.{too-few, with-more}
 use borrow.Author.Needs.{needs}
 use Rattle.script.proofs.count.fits_row.Statement.{statement}
 use Rattle.script.proofs.count.fits_row.Tie as tie
@@ -21,11 +21,14 @@ returns c =
     let p = c .before .before .before .before in
     too-few (p .pre .1 .held (p .args .k) (p .pre .0)) (c .before .wide .ensures .0) (c .if1 .taken)
 
-add-if2 : tie.Need-add-if2
-add-if2 c = search needs
+add-most-more : tie.Need-add-most-more
+add-most-more c = search needs
 
-shared-slice-read-if2 : tie.Need-shared-slice-read-if2
-shared-slice-read-if2 c = search needs
+shared-slice-read-most-more : tie.Need-shared-slice-read-most-more
+shared-slice-read-most-more c = search needs
+
+most-more-requires : tie.Need-most-more-requires
+most-more-requires c κs = search needs
 
 add-result : tie.Need-add-result
 add-result c = search needs
@@ -33,12 +36,7 @@ add-result c = search needs
 returns-2 : tie.Need-returns-2
 returns-2 c =
     let p = c .before .before .before .before .before .before in
-    with-more (p .pre .1 .held (p .args .k) (p .pre .0)) (c .before .before .before .wide .ensures .0) (c .before .before .if1 .left) (c .if2 .taken)
-
-returns-3 : tie.Need-returns-3
-returns-3 c =
-    let p = c .before .before .before .before .before .before in
-    without-more (p .pre .1 .held (p .args .k) (p .pre .0)) (c .before .before .before .wide .ensures .0) (c .before .before .if1 .left) (c .if2 .left)
+    with-more (p .pre .1 .held (p .args .k) (p .pre .0)) (c .before .before .before .wide .ensures .0) (c .before .before .if1 .left) (c .most-more .ensures .0)
 
 pub fits-row-spec : {M : Type 1} → statement M
 fits-row-spec =
@@ -49,8 +47,8 @@ fits-row-spec =
     shared-slice-read-wide
     wide-requires
     returns
-    add-if2
-    shared-slice-read-if2
+    add-most-more
+    shared-slice-read-most-more
+    most-more-requires
     add-result
-    returns-2
-    returns-3)
+    returns-2)

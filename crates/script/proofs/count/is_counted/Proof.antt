@@ -1,5 +1,6 @@
 -- A kind that no row has, or the row of the kind.
 use Rattle.script.specs.Script.{table}
+use Rattle.script.specs.Table.{follows}
 use Rattle.script.proofs.laws.Kinds.{held}
 use Rattle.script.proofs.laws.Calls.{no-count, row-count}
 use native.Mathlib.Omega.{arith}
@@ -21,7 +22,7 @@ cast-fits-row : tie.Need-cast-fits-row
 cast-fits-row c = search needs
 
 fits-row-requires : tie.Need-fits-row-requires
-unfolding table
+unfolding table follows
 fits-row-requires c κs = (omega arith, held _ refl refl)
 
 returns-3 : tie.Need-returns-3

@@ -1,5 +1,6 @@
 -- The bytes hold the rows.
 use Rattle.script.specs.Script.{table}
+use Rattle.script.specs.Table.{follows}
 use Rattle.script.proofs.laws.Kinds.{held}
 use mathlib.Core.Path.{refl}
 use borrow.Author.Needs.{needs}
@@ -10,7 +11,7 @@ slice-aggregate-search : tie.Need-slice-aggregate-search
 slice-aggregate-search c = search needs
 
 search-requires : tie.Need-search-requires
-unfolding table
+unfolding table follows
 search-requires c κs = held _ refl refl
 
 returns : tie.Need-returns

@@ -1,0 +1,49 @@
+// The line of event times.
+ghost use mathlib.Core.Path.{_≡_};
+ghost use Prim.Native.Nat.{_≤_};
+ghost use lib.ListN.{length, take};
+ghost use Rattle.rate.specs.Busiest.{busiest};
+ghost use Rattle.replay.specs.Numbers.{Sound};
+ghost use Rattle.replay.specs.Ready.{Ready, Next};
+use crate::player::Player;
+use crate::text;
+use rate::Second;
+use script::Line;
+
+// The numbers of the line are the times.
+fn asked(ns: &[u32], count: usize) -> Second
+    requires { ⌜ count ≤ length (now ns) ⌝ }
+    ensures { λ r. ⌜ r ≡ busiest (take count (now (ns .entry))) ⌝ }
+{
+    rate::busiest(&ns[..count])
+}
+
+fn more(out: &mut [u8; 65536], at: usize, n: usize) -> usize
+    requires { ⌜ at ≤ 65536 ⌝ }
+    ensures { λ r. ⌜ r ≤ 65536 ⌝ }
+{
+    let to = text::byte(out, at, b' ');
+    text::number(out, to, n as u64)
+}
+
+fn put(second: Second, out: &mut [u8; 65536], at: usize) -> usize
+    requires { ⌜ at ≤ 65536 ⌝ }
+    ensures { λ r. ⌜ r ≤ 65536 ⌝ }
+{
+    if second.answer == 0 {
+        let to = text::number(out, at, 0);
+        let then = more(out, to, second.count);
+        let last = more(out, then, second.place);
+        return text::end(out, last);
+    }
+    text::answer(out, at, second.answer)
+}
+
+pub fn busiest(mut p: Player, line: Line, ns: &[u32; 4200], out: &mut [u8; 65536]) -> Player
+    requires { ⌜ Ready p × Sound line (now ns) ⌝ }
+    ensures { λ r. ⌜ Next p (p .session) r ⌝ }
+{
+    let second = asked(ns, line.count);
+    p.at = put(second, out, p.at);
+    p
+}
