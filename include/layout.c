@@ -20,6 +20,7 @@ SIZE(RoqUnited, 20);
 SIZE(RoqPieces, 72);
 SIZE(RoqNotIntersect, 80);
 SIZE(RoqPart, 24);
+SIZE(RoqSecond, 24);
 
 static int failed = 0;
 
@@ -135,10 +136,23 @@ static void values(void) {
     EXPECT(roq_set_scanline(screen, 64, 8, 8, 2, 0, 8, list, 4) == 0 && screen[18] == 200 && screen[16] == 0);
 }
 
+/* The busiest second, the longest run, and both refusals. */
+static void seconds(void) {
+    uint32_t times[5] = {7, 1007, 2006, 2006, 2007};
+    RoqSecond busiest = roq_busiest(times, 5);
+    EXPECT(busiest.answer == 0 && busiest.count == 3 && busiest.place == 1);
+    times[4] = 2005;
+    RoqSecond refused = roq_busiest(times, 5);
+    EXPECT(refused.answer == 27 && refused.count == 0 && refused.place == 0);
+    static const uint32_t together[4097];
+    EXPECT(roq_busiest(together, 4096).count == 4096 && roq_busiest(together, 4097).answer == 26);
+}
+
 int main(void) {
     session();
     events();
     values();
+    seconds();
     EXPECT(kept.before == GUARD && kept.after == GUARD);
     if (!failed)
         printf("roqshyn.h agrees with the library\n");

@@ -12,6 +12,8 @@
  *    7  the stride is at least 1                      14  x + w and y + h are at most 4,294,967,295
  *                                                     20  a walk was begun, and is neither over nor dropped
  *                                                     21  the event is no KeyFire, asked before every other
+ *                                                     26  the run has at most 4,096 times
+ *                                                     27  no time is below the one before it
  *
  * Sessions. A session is one that roq_start, also a refused one, and these calls made, in the caller's memory; to keep to that is all
  * that a call asks of its caller. It may be copied and moved as a whole; nobody else writes it. One thread at a time uses it.
@@ -244,6 +246,19 @@ uint32_t roq_set_scanline(uint32_t *pixels, size_t pixels_len, uint32_t width, u
 /* The rows of (x,y,w,h) in a picture whose rows begin `stride` apart, with what lies between them: (h - 1) x stride + w pixels from
  * x + y x stride on. 13 unless h is at least 1, w at most the stride, and the last of them lies in the pixels. */
 RoqPart roq_region(const uint32_t *pixels, size_t pixels_len, size_t stride, uint32_t x, uint32_t y, uint32_t w, uint32_t h);
+
+/* ---- Event times alone: these ask 26, 27 ---- */
+
+/* The greatest number of events in a second, and the place of the first event that begins such a second, counted from 0. On a no, and
+ * where there are no events, both are 0. */
+typedef struct RoqSecond {
+    uint32_t answer;
+    size_t count, place;
+} RoqSecond;
+
+/* The busiest second of a run of event times in milliseconds. A second begins at an event's time t and ends before t + 1,000, also where
+ * that is above 4,294,967,295; events of equal times are counted each. */
+RoqSecond roq_busiest(const uint32_t *times, size_t count);
 
 #ifdef __cplusplus
 }

@@ -6,4 +6,5 @@ mod calls;
 mod events;
 mod pixels;
 mod rects;
+mod times;
 mod values;
