@@ -52,10 +52,13 @@ pub enum Call {
     FillScanline(Scan, u32, Vec<u32>),
     SetScanline(Scan, Vec<u32>, Vec<u32>),
     Region(Rect, u32, Vec<u32>),
+    Busiest(Vec<u32>),
 }
 
 /// "DATA is 0 to 4,096 numbers"; "PIXELS and DATA are at most 4,096 numbers together".
 const MOST: usize = 4096;
+/// "T… is 0 to 4,200 times in milliseconds; more make the line malformed"
+const MOST_TIMES: usize = 4200;
 
 /// Reads a line, which comes without its newline.
 pub fn read(line: &[u8]) -> Line {
@@ -80,6 +83,7 @@ fn call(line: &str) -> Option<Call> {
         .or_else(|| program(word, &numbers))
         .or_else(|| geometry(word, &numbers))
         .or_else(|| pixels(word, &numbers))
+        .or_else(|| times(word, numbers))
 }
 
 /// "A number is decimal digits, 0 to 4294967295, leading zeros allowed"
@@ -181,6 +185,10 @@ fn pixels(word: &str, numbers: &[u32]) -> Option<Call> {
         _ => return None,
     };
     Some(call)
+}
+
+fn times(word: &str, numbers: Vec<u32>) -> Option<Call> {
+    (word == "busiest" && numbers.len() <= MOST_TIMES).then_some(Call::Busiest(numbers))
 }
 
 fn few(numbers: &[u32]) -> Option<Vec<u32>> {

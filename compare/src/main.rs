@@ -1,6 +1,7 @@
 //! Compares the library with the original by playing the same call scripts on both.
 mod area;
 mod bare;
+mod busiest;
 mod call;
 mod compare;
 mod damage;
@@ -16,12 +17,14 @@ mod questions;
 mod random;
 mod record;
 mod replay;
+mod runs;
 mod script;
 mod shadow;
 mod shrink;
 mod sides;
 mod tally;
 mod text;
+mod times;
 
 use player::{Mode, Player};
 use replay::Replay;
@@ -33,6 +36,7 @@ use text::Text;
 
 const USAGE: &str = "compare random REPLAY CALLS SEED
 compare portions REPLAY LISTS SEED
+compare busiest REPLAY RUNS SEED
 compare sides REPLAY all|unasked FILE
 compare record FILE STDIN STDOUT
 compare play all|unasked";
@@ -55,6 +59,7 @@ fn command(words: &[&str]) -> io::Result<bool> {
     match *words {
         ["random", replay, calls, seed] => compare::run(&Replay(replay.into()), number(calls)?, number(seed)?),
         ["portions", replay, lists, seed] => portions::run(&Replay(replay.into()), number(lists)?, number(seed)?),
+        ["busiest", replay, runs, seed] => runs::run(&Replay(replay.into()), number(runs)?, number(seed)?),
         ["sides", replay, word, file] => {
             sides::print(&Replay(replay.into()), &fs::read(file)?, mode(word)?).map(|()| true)
         }

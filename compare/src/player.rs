@@ -1,5 +1,6 @@
 //! Plays call scripts on the original.
 use crate::bare;
+use crate::busiest;
 use crate::call::{read, Call, Line};
 use crate::entry::Entry;
 use crate::events;
@@ -177,6 +178,11 @@ impl Player {
                 }
             }
             Call::Portion(..) => out.instead("no such call"),
+            // The original has no such call either: the rule answers.
+            Call::Busiest(ref times) => {
+                let second = busiest::second(times);
+                out.numbers(&[second.count, second.place]);
+            }
             _ => bare::make(call, out),
         }
     }

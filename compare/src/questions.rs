@@ -1,4 +1,5 @@
 //! The questions of document 01 that the original does not ask: all but 10, 11 and 12. And the limits of the program itself.
+use crate::busiest;
 use crate::call::{Call, Scan};
 use original::input::Event;
 use original::windows::group::Group;
@@ -73,6 +74,7 @@ fn bare(call: &Call) -> u8 {
             let inside = scan.line >= scan.h || scan.ofs >= scan.w || reaches(scan, pixels);
             first_no(&[small_scan(scan), (13, inside)])
         }
+        Call::Busiest(times) => busiest::answer(times),
         Call::Region(area, stride, pixels) => first_no(&[small_rect(area), (13, is_region(area, *stride, pixels))]),
         _ => 0,
     }

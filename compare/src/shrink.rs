@@ -24,13 +24,31 @@ pub fn print_smallest(replay: &Replay, (before, list): (&[String], &[String])) -
     }
     loop {
         let before = lines.clone();
-        lines = shrinker.fewer_lines(lines)?;
+        lines = fewer(lines, &mut |lines| shrinker.still_differs(lines))?;
         lines = shrinker.smaller_numbers(lines)?;
         if lines == before || shrinker.tries == 0 {
             break;
         }
     }
     sides::print(replay, &text_of(&lines), Mode::Common)
+}
+
+/// Leaves out what can be left out of a list that differs, at first much at a time.
+pub fn fewer<T: Clone>(mut list: Vec<T>, differs: &mut impl FnMut(&[T]) -> io::Result<bool>) -> io::Result<Vec<T>> {
+    let mut width = list.len().div_ceil(2);
+    while width > 0 {
+        let mut at = 0;
+        while at < list.len() {
+            let end = (at + width).min(list.len());
+            let fewer = [&list[..at], &list[end..]].concat();
+            match differs(&fewer)? {
+                true => list = fewer,
+                false => at = end,
+            }
+        }
+        width /= 2;
+    }
+    Ok(list)
 }
 
 impl Shrinker<'_> {
@@ -45,22 +63,9 @@ impl Shrinker<'_> {
         Ok(first_difference(&answers.0, &ours).is_some())
     }
 
-    /// Leaves lines out, at first many at a time.
-    fn fewer_lines(&mut self, mut lines: Vec<String>) -> io::Result<Vec<String>> {
-        let mut width = lines.len().div_ceil(2);
-        while width > 0 {
-            let mut at = 0;
-            while at < lines.len() && self.tries > 0 {
-                let end = (at + width).min(lines.len());
-                let fewer = [&lines[..at], &lines[end..]].concat();
-                match self.differs(&fewer)? {
-                    true => lines = fewer,
-                    false => at = end,
-                }
-            }
-            width /= 2;
-        }
-        Ok(lines)
+    /// The same, while there are tries left.
+    fn still_differs(&mut self, lines: &[String]) -> io::Result<bool> {
+        Ok(self.tries > 0 && self.differs(lines)?)
     }
 
     /// Leaves numbers out or makes them smaller.
