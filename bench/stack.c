@@ -48,7 +48,8 @@ static const RoqEvent press = {25, 25, 0, 0, 0, ROQ_MOUSE_DOWN, 1, 0};
     CALL(roq_scanline, (screen, C, WIDTH, HEIGHT, 3, 2, 100))                          \
     CALL(roq_fill_scanline, (screen, C, WIDTH, HEIGHT, 3, 2, 100, 7))                  \
     CALL(roq_set_scanline, (screen, C, WIDTH, HEIGHT, 3, 2, 100, data, 64))            \
-    CALL(roq_region, (screen, C, WIDTH, 1, 2, 3, 4))
+    CALL(roq_region, (screen, C, WIDTH, 1, 2, 3, 4))                                   \
+    CALL(roq_busiest, (data, 64))
 
 static void nothing(void) {}
 #define RUN(name, arguments) static void run_##name(void) { (void)name arguments; }

@@ -1,4 +1,5 @@
 //! What both sides are told, and what they say.
+use crate::station::Second;
 
 /// A rectangle: x, y, w, h.
 #[derive(Clone, Copy, Debug, PartialEq)]
@@ -25,6 +26,7 @@ pub enum Call {
     Begin(bool),
     Portion,
     Visible(u16),
+    Busiest(Vec<u32>),
 }
 
 impl Call {
@@ -46,6 +48,7 @@ impl Call {
             Call::Begin(_) => "roq_begin",
             Call::Portion => "roq_portion",
             Call::Visible(_) => "roq_visible",
+            Call::Busiest(_) => "roq_busiest",
         }
     }
 }
@@ -68,6 +71,7 @@ pub enum Reply {
     Event(Option<Popped>),
     /// How many rectangles a visible list has.
     Count(usize),
+    Second(Second),
 }
 
 /// All that a side shows of itself.

@@ -17,6 +17,10 @@ pub enum Beside {
     Loops,
     /// Our own library, with an undivided redraw in place of a walk's first portion and nothing in place of the others.
     Undivided,
+    /// A loop over event times in Rust, the same as ours.
+    OnePass,
+    /// A loop in Rust that counts the events of every second anew.
+    Square,
 }
 
 impl Beside {
@@ -24,7 +28,7 @@ impl Beside {
         match self {
             Beside::Original => "original",
             Beside::Pixman | Beside::PixmanAtOnce => "pixman",
-            Beside::Loops => "Rust",
+            Beside::Loops | Beside::OnePass | Beside::Square => "Rust",
             Beside::Undivided => "undivided",
         }
     }

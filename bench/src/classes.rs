@@ -9,6 +9,7 @@ use crate::scene::{
     cascade, eight, free_crossing, free_station, free_three, plans, station, Scene, DRAGGED, DRAGGED_OF_EIGHT, HEIGHT,
     STEP, WIDTH,
 };
+use crate::seconds;
 
 const LISTS: &str =
     "the original makes its visible lists here, we make them when a redraw or a visible list needs them";
@@ -37,6 +38,7 @@ pub fn table() -> Vec<Class> {
     }
     all.extend(rows::classes());
     all.extend(portions());
+    all.extend(seconds::classes());
     all
 }
 

@@ -1,5 +1,4 @@
-//! The same lists of calls on our library, on the original, on pixman and on a loop over rows: tables of times, and two plots of the full
-//! redraw.
+//! The same lists of calls on our library, on the original, on pixman and on loops in Rust: tables of times, and two plots of the full redraw.
 //!
 //! `bench FOLDER COPIES STACK` writes speed-table.md, redraw-windows.svg and redraw-pixels.svg there, puts its tables into SPEED.md and
 //! prints all of them; the two files have a number for each exported call. `bench --beside PROGRAM` compares with this benchmark linked
@@ -20,6 +19,7 @@ mod plot;
 mod report;
 mod rows;
 mod scene;
+mod seconds;
 mod station;
 mod summary;
 mod targets;
@@ -68,6 +68,7 @@ fn tables(folder: &Path, copies: &str, stack: &str) {
         ("station", summary::station(&table, of_table, &stack)),
         ("targets", targets::table(&table, of_table)),
         ("portions", summary::portions(&table, of_table)),
+        ("seconds", summary::seconds(&table, of_table)),
         ("calls", summary::calls(&table, of_table, &copies, &stack)),
     ];
     let long = tell(&table, of_table, &runs);
@@ -86,11 +87,14 @@ fn of_class(runs: &[Vec<Measured>], class: usize) -> Vec<Measured> {
 fn tell(classes: &[Class], results: &[Measured], runs: &[Vec<Measured>]) -> String {
     let table = |beside| report::table(beside, classes, results, runs);
     let (original, loops, undivided) = (table(Beside::Original), table(Beside::Loops), table(Beside::Undivided));
+    let (one_pass, square) = (table(Beside::OnePass), table(Beside::Square));
     let pixman = if pixman::INSTALLED { table(Beside::Pixman) } else { report::NO_PIXMAN.to_string() };
     format!(
         "# Speed table\n\nWritten by `bash bench/run`. [SPEED.md](SPEED.md) says what is measured.\n\n\
          ## Beside the original\n\n{original}\n{}\n## Beside pixman\n\n{pixman}\n\
-         ## Beside a loop over rows in Rust\n\n{loops}\n## Portions beside our undivided redraw\n\n{undivided}",
+         ## Beside a loop over rows in Rust\n\n{loops}\n## Portions beside our undivided redraw\n\n{undivided}\n\
+         ## Busiest second of 4,096 events beside the same loop in Rust\n\n{one_pass}\n\
+         ## Busiest second of 4,096 events beside the square form in Rust\n\n{square}",
         report::notes(classes)
     )
 }

@@ -7,6 +7,7 @@ use crate::loops::Loops;
 use crate::ours::Ours;
 use crate::pixman::Pixman;
 use crate::plain::Plain;
+use crate::seconds::InRust;
 use crate::theirs::Theirs;
 use crate::undivided::Undivided;
 use std::hint::black_box;
@@ -45,7 +46,7 @@ struct Turns<Other> {
 
 pub fn measure(class: &Class) -> Measured {
     let scene = &class.scene;
-    if class.beside == Beside::Undivided && !earlier::has_walks() {
+    if !earlier::has(class) {
         return NOTHING;
     }
     if class.is_cold {
@@ -57,6 +58,8 @@ pub fn measure(class: &Class) -> Measured {
         Beside::PixmanAtOnce => beside(class, Some(Pixman::new(scene.width, scene.height, true))),
         Beside::Loops => beside(class, Some(Loops::new(scene.width, scene.height))),
         Beside::Undivided => beside(class, Some(Undivided::new(Ours::new(scene.c, scene.width, scene.height)))),
+        Beside::OnePass => beside(class, Some(InRust::one_pass())),
+        Beside::Square => beside(class, Some(InRust::square())),
     }
 }
 
@@ -73,12 +76,21 @@ fn beside(class: &Class, mut theirs: Option<impl Side>) -> Measured {
         Limit::Redraws => Some(ours.plain(class)),
         Limit::Cleared(pixels) => Some(Plain::cleared(*pixels)),
     };
-    let times = times_in_a_turn(class, &mut ours);
-    let turn = time(class, &mut ours, times) * (times * class.parts) as f64;
-    let rounds = (BUDGET / turn).clamp(LEAST_ROUNDS, MOST_ROUNDS) as usize;
+    let (times, rounds) = plan(class, &mut ours);
     let mut turns = Turns { ours, theirs, limit };
     let all: Vec<Measured> = (0..rounds).map(|r| round(class, times, r, &mut turns)).collect();
     middle(&all)
+}
+
+/// How often the calls are made in a turn, and how many rounds there are.
+fn plan(class: &Class, ours: &mut Ours) -> (usize, usize) {
+    // A single call of the square form is a long turn.
+    if class.beside == Beside::Square {
+        return (1, LEAST_ROUNDS as usize);
+    }
+    let times = times_in_a_turn(class, ours);
+    let turn = time(class, ours, times) * (times * class.parts) as f64;
+    (times, (BUDGET / turn).clamp(LEAST_ROUNDS, MOST_ROUNDS) as usize)
 }
 
 /// Our time alone. The clock is read at each call, and stands still while the caches are emptied.

@@ -2,7 +2,7 @@
 use crate::call::{Area, Call, Popped, Reply, Side, State};
 use crate::class::Class;
 use crate::plain::{Piece, Plain};
-use crate::station::{Event, Station, MOUSE_DOWN, MOUSE_MOVE, MOUSE_UP, RESIZE};
+use crate::station::{busiest, Event, Station, MOUSE_DOWN, MOUSE_MOVE, MOUSE_UP, RESIZE};
 use std::arch::x86_64::{_mm_clflush, _mm_mfence};
 
 pub struct Ours {
@@ -120,6 +120,7 @@ impl Side for Ours {
                 return Reply::Event(popped(answer, event));
             }
             Call::Visible(id) => return Reply::Count(s.visible(id, &mut self.list).1),
+            Call::Busiest(ref times) => return Reply::Second(busiest(times)),
             Call::Show(id) => s.show(id),
             Call::Hide(id) => s.hide(id),
             Call::Drop(id) => s.drop(id),

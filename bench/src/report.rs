@@ -6,7 +6,7 @@ pub const NO_PIXMAN: &str = "pixman is not installed: its rows are left out.\n";
 
 /// Of the classes that are played beside one side: the medians of each, and the results of the single processes.
 pub fn table(beside: Beside, classes: &[Class], results: &[Measured], runs: &[Vec<Measured>]) -> String {
-    let (theirs, limit) = (beside.name(), beside != Beside::Loops && beside != Beside::Undivided);
+    let (theirs, limit) = (beside.name(), beside == Beside::Original || beside.is_pixman());
     let (title, line) = if limit { (" same rows |", "---:|") } else { ("", "") };
     let head =
         format!("| class | ours ns | {theirs} ns | ratio | from - to |{title}\n|---|---:|---:|---:|---|{line}\n");

@@ -35,6 +35,11 @@ fn scene(width: u32, height: u32, places: &[Area]) -> Scene {
     Scene { width, height, c, setup, common: true }
 }
 
+/// No window.
+pub fn empty() -> Scene {
+    Scene { width: 1, height: 1, c: 1, setup: Vec::new(), common: true }
+}
+
 /// One window that is not shown.
 pub fn alone(width: u32, height: u32) -> Scene {
     let setup = vec![Call::Create, Call::Resize(0, width, height)];

@@ -68,6 +68,15 @@ struct Placed {
     rect: Rect,
 }
 
+/// The greatest count of events in a second, and the place of the first event that begins one with it.
+#[repr(C)]
+#[derive(Clone, Copy, Debug, PartialEq)]
+pub struct Second {
+    pub answer: u32,
+    pub count: usize,
+    pub place: usize,
+}
+
 extern "C" {
     fn roq_start(s: *mut Session, c: u32) -> u32;
     fn roq_create(s: *mut Session) -> Created;
@@ -113,6 +122,7 @@ extern "C" {
     fn roq_visible(s: *const Session, id: u16, list: *mut u32, list_len: usize) -> Listing;
     fn roq_focus(s: *const Session) -> u16;
     fn roq_rect_of(s: *const Session, id: u16) -> Placed;
+    fn roq_busiest(times: *const u32, count: usize) -> Second;
 }
 
 /// A session. It can only be made by `start`, and only the calls below change it, which is all that the functions ask for.
@@ -120,6 +130,11 @@ extern "C" {
 /// SAFETY of every call below: the pointer is that of a session which `roq_start` and later calls left; a pointer and a length are
 /// those of one slice, which is lent for the call, and no two slices overlap; every other argument may be any number.
 pub struct Station(Session);
+
+/// The busiest second of a run of event times. It needs no session.
+pub fn busiest(times: &[u32]) -> Second {
+    unsafe { roq_busiest(times.as_ptr(), times.len()) }
+}
 
 fn rect(a: [u32; 4]) -> Rect {
     Rect { pos: Pos { x: a[0], y: a[1] }, dims: Dims { w: a[2], h: a[3] } }

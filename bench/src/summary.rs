@@ -1,9 +1,10 @@
 //! What a station's engineer wants to know, and what each exported call takes.
-use crate::class::{Class, COLD};
+use crate::class::{Beside, Class, COLD};
 use crate::classes::{ALL, EIGHT, LONGEST, MIX, MIX_OF_EIGHT, THREE};
 use crate::measure::Measured;
 use crate::report::{nanoseconds, whole};
 use crate::scene::{HEIGHT, WIDTH};
+use crate::seconds::{BUSIEST, EVENTS, KINDS, SQUARE};
 use crate::station::Station;
 use std::collections::{BTreeMap, BTreeSet};
 
@@ -28,7 +29,8 @@ struct Longest<'a> {
 /// Of the classes on screens up to a width. Where a class has two functions, each takes the mean of both.
 fn longest<'a>(classes: &'a [Class], results: &[Measured], width: u32) -> Vec<Longest<'a>> {
     let mut all: Vec<Longest> = Vec::new();
-    for (class, m) in classes.iter().zip(results).filter(|(class, _)| class.is_single() && class.scene.width <= width) {
+    let is_timed = |class: &Class| class.is_single() && class.beside != Beside::Square && class.scene.width <= width;
+    for (class, m) in classes.iter().zip(results).filter(|(class, _)| is_timed(class)) {
         for function in class.timed.iter().map(|call| call.function()) {
             match all.iter_mut().find(|longest| longest.function == function) {
                 Some(longest) if longest.time >= m.ours => {}
@@ -72,12 +74,14 @@ pub fn station(classes: &[Class], results: &[Measured], stack: &Numbers) -> Stri
     format!("| | one display, 800 by 480 | eight displays, 6,400 by 480 |\n|---|---|---|\n{rows}")
 }
 
+fn named<'a>(classes: &[Class], results: &'a [Measured], name: &str) -> &'a Measured {
+    let found = classes.iter().zip(results).find(|(class, _)| class.name == name);
+    found.expect("a class of this name").1
+}
+
 /// Full redraws of eight displays beside walks that draw the same.
 pub fn portions(classes: &[Class], results: &[Measured]) -> String {
-    let of = |name: String| {
-        let found = classes.iter().zip(results).find(|(class, _)| class.name == name);
-        found.expect("a class of this name").1
-    };
+    let of = |name: String| named(classes, results, &name);
     let time = |time: f64| format!("{:.2} ms", time / 1e6);
     let row = |what: &str, name: &str| {
         let (all, longest) = (of(format!("{ALL} {name}")), of(format!("{LONGEST} {name}")));
@@ -92,6 +96,22 @@ pub fn portions(classes: &[Class], results: &[Measured]) -> String {
         time(cold.0.ours),
         time(cold.1.ours),
         row("three plans, as large as windows may be, and 13 panels", THREE)
+    )
+}
+
+/// The busiest second, by the event.
+pub fn seconds(classes: &[Class], results: &[Measured]) -> String {
+    let an_event = |time: f64| nanoseconds(time / f64::from(EVENTS));
+    let row = |kind: &&str| {
+        let pass = named(classes, results, &format!("{BUSIEST}, {kind}"));
+        let square = named(classes, results, &format!("{BUSIEST}, {kind}{SQUARE}"));
+        let (ours, same, anew) = (an_event(pass.ours), an_event(pass.theirs), an_event(square.theirs));
+        format!("| {kind} | {ours} | {same} | {:.2} | {anew} |\n", pass.ratio)
+    };
+    let rows: String = KINDS.iter().map(row).collect();
+    format!(
+        "| 4,096 events | ours, ns an event | the same loop in Rust | ratio | the square form in Rust |\n\
+         |---|---:|---:|---:|---:|\n{rows}"
     )
 }
 
