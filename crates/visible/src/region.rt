@@ -69,7 +69,7 @@ pub fn draw_region(view: View, r: Rect, store: &[u32], screen: &mut [u32])
             at.dims.w as usize,
             (k.pos.x - at.pos.x) as usize,
             (k.pos.y - at.pos.y) as usize,
-            k.dims.w as usize,
+            k.dims.w as u16,
             k.dims.h as usize,
         );
     }

@@ -52,7 +52,7 @@ pub fn scanline_range(
         Place::Found { start, count } => ScanlineRange {
             answer: 0,
             start,
-            count,
+            count: count as usize,
         },
     }
 }
@@ -138,7 +138,7 @@ pub fn set_scanline(
         Place::Beside => 0,
         Place::Outside => 13,
         Place::Found { start, count } => {
-            let n = least(count, data.len());
+            let n = least(count as usize, data.len()) as u16;
             copy_part(pixels, start, data, 0, n);
             0
         }

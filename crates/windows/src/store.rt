@@ -66,7 +66,7 @@ fn fill_rect(win: Window, base: usize, area: Rect, colour: u32, store: &mut [u32
                 size.w as usize,
                 part.pos.x as usize,
                 part.pos.y as usize,
-                part.dims.w as usize,
+                part.dims.w as u16,
                 part.dims.h as usize,
                 colour,
             );
@@ -108,7 +108,7 @@ fn blit_rect(
                 size.w as usize,
                 part.pos.x as usize,
                 part.pos.y as usize,
-                part.dims.w as usize,
+                part.dims.w as u16,
                 part.dims.h as usize,
                 data,
                 stride,
@@ -131,9 +131,9 @@ fn resized(mut win: Window, base: usize, c: usize, size: Dims, store: &mut [u32]
         store,
         base,
         c,
-        old.w as usize,
+        old.w,
         old.h as usize,
-        size.w as usize,
+        size.w as u16,
         size.h as usize,
     );
     let at = Area {

@@ -64,15 +64,4 @@ returns-4 c =
 pub fill-scanline-spec : {M : Type 1} → statement M
 fill-scanline-spec =
     tie.close
-    (tie.spec
-    line-place-requires
-    enum-told
-    enum-told-2
-    enum-told-3
-    enum-known-place
-    fill-part-requires
-    returns
-    returns-2
-    returns-3
-    same-length
-    returns-4)
+    (tie.spec line-place-requires enum-told enum-told-2 enum-told-3 enum-known-place fill-part-requires returns returns-2 returns-3 same-length returns-4)

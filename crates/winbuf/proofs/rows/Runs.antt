@@ -51,6 +51,12 @@ put-is l ys row a n e k h =
     let j : a + length row ≤ length l = omega arith in
     rw (m, e, drop-drop n a l, ← k) (sym (sets-eq row l a j ∙ append-assoc (take a l) row (drop (a + length row) l)))
 
+-- the same of all that lies from a on
+pub put-end : (l ys row : List ℕ) (a : ℕ) → ys ≡ row → length row ≡ length l - a → a ≤ length l → putMid a (length l - a) l ys ≡ sets l a row
+put-end l ys row a e k h =
+    let m : length l - a ≡ a + (length l - a) - a = omega arith in
+    ap (λ (j : ℕ). putMid a j l ys) m ∙ put-is l ys row a (length l - a) e k (omega arith)
+
 -- two runs, the second right behind the first
 pub sets-append : (s : List ℕ) (at : ℕ) (xs ys : List ℕ) → sets (sets s at xs) (at + length xs) ys ≡ sets s at (xs ++ ys)
 sets-append s at [] ys = ap (λ (k : ℕ). sets s k ys) (add-zero at)

@@ -44,6 +44,9 @@ no-part-requires-4 c κs = search needs
 enum-known-place : tie.Need-enum-known-place
 enum-known-place c = search needs
 
+cast-t13 : tie.Need-cast-t13
+cast-t13 c = search needs
+
 returns : tie.Need-returns
 returns c = left (c .before .before .before) Large _ (c .before .enum-told .given .1) (c .no-part .ensures)
 
@@ -66,18 +69,4 @@ returns-5 c =
 pub scanline-range-spec : {M : Type 1} → statement M
 scanline-range-spec =
     tie.close
-    (tie.spec
-    line-place-requires
-    enum-told
-    no-part-requires
-    enum-told-2
-    no-part-requires-2
-    no-part-requires-3
-    enum-told-3
-    no-part-requires-4
-    enum-known-place
-    returns
-    returns-2
-    returns-3
-    returns-4
-    returns-5)
+    (tie.spec line-place-requires enum-told no-part-requires enum-told-2 no-part-requires-2 no-part-requires-3 enum-told-3 no-part-requires-4 enum-known-place cast-t13 returns returns-2 returns-3 returns-4 returns-5)

@@ -39,8 +39,14 @@ enum-told-3 c = search needs
 enum-known-place : tie.Need-enum-known-place
 enum-known-place c = search needs
 
+cast-least : tie.Need-cast-least
+cast-least c = omega arith
+
 least-requires : tie.Need-least-requires
 least-requires c κs = search needs
+
+cast-n : tie.Need-cast-n
+cast-n c = omega arith
 
 copy-part-requires : tie.Need-copy-part-requires
 copy-part-requires c κs =
@@ -76,16 +82,4 @@ returns-4 c =
 pub set-scanline-spec : {M : Type 1} → statement M
 set-scanline-spec =
     tie.close
-    (tie.spec
-    line-place-requires
-    enum-told
-    enum-told-2
-    enum-told-3
-    enum-known-place
-    least-requires
-    copy-part-requires
-    returns
-    returns-2
-    returns-3
-    same-length
-    returns-4)
+    (tie.spec line-place-requires enum-told enum-told-2 enum-told-3 enum-known-place cast-least least-requires cast-n copy-part-requires returns returns-2 returns-3 same-length returns-4)

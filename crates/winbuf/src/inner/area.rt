@@ -9,7 +9,7 @@ use super::row::copy_part;
 use super::row::fill_part;
 
 // n rows of w pixels become `v`.
-pub fn fill_rows(px: &mut [u32], at: usize, pitch: usize, w: usize, n: usize, v: u32)
+pub fn fill_rows(px: &mut [u32], at: usize, pitch: usize, w: u16, n: usize, v: u32)
     requires { ⌜ Fit (length (now px)) at pitch w n ⌝ }
     ensures { λ _. ⌜ now (px .exit) ≡ writeRows n (λ r. at + r * pitch) (λ r. replicate w v) (now (px .entry)) ⌝ }
 {
@@ -28,7 +28,7 @@ pub fn copy_rows(
     src: &[u32],
     from: usize,
     step: usize,
-    w: usize,
+    w: u16,
     n: usize,
 )
     requires { ⌜ Fit (length (now px)) at pitch w n × Fit (length (now src)) from step w n ⌝ }
@@ -48,7 +48,7 @@ pub fn blit_rows(
     pitch: usize,
     src: &[u32],
     stride: usize,
-    w: usize,
+    w: u16,
     n: usize,
 )
     requires { ⌜ Fit (length (now px)) at pitch w n ⌝ }
@@ -58,7 +58,7 @@ pub fn blit_rows(
     let mut from: usize = 0;
     while r < n {
         let chunk = least(stride, src.len() - from);
-        let m = least(w, chunk);
+        let m = least(w as usize, chunk) as u16;
         copy_part(px, at + r * pitch, src, from, m);
         from += chunk;
         r += 1;
@@ -72,7 +72,7 @@ pub fn fill_area(
     pitch: usize,
     left: usize,
     top: usize,
-    w: usize,
+    w: u16,
     n: usize,
     v: u32,
 )
@@ -89,7 +89,7 @@ pub fn blit_area(
     pitch: usize,
     left: usize,
     top: usize,
-    w: usize,
+    w: u16,
     n: usize,
     src: &[u32],
     stride: usize,
@@ -111,7 +111,7 @@ pub fn draw_area(
     step: usize,
     x: usize,
     y: usize,
-    w: usize,
+    w: u16,
     n: usize,
 )
     requires { ⌜ Inside (length (now px)) 0 pitch left top w n × Inside (length (now src)) base step x y w n ⌝ }

@@ -12,7 +12,7 @@ pub enum Place {
     Beside,
     // The part does not lie in the pixels.
     Outside,
-    Found { start: usize, count: usize },
+    Found { start: usize, count: u16 },
 }
 
 fn small_line(width: u32, height: u32, line: u32, ofs: u32, len: u32) -> bool
@@ -34,8 +34,8 @@ pub fn line_place(total: usize, width: u32, height: u32, line: u32, ofs: u32, le
     if small_line(width, height, line, ofs, len) {
         if on_line(width, height, line, ofs) {
             let start = line as usize * width as usize + ofs as usize;
-            let count = least(len as usize, (width - ofs) as usize);
-            if start + count <= total {
+            let count = least(len as usize, (width - ofs) as usize) as u16;
+            if start + count as usize <= total {
                 Place::Found { start, count }
             } else {
                 Place::Outside

@@ -6,25 +6,26 @@ ghost use lib.ListN.{length, replicate};
 ghost use Rattle.winbuf.specs.Pixels.{writeRows, part, resizedAt};
 ghost use Rattle.winbuf.specs.Rows.{resized};
 use super::least;
+use super::row::fill_all;
 use super::row::fill_part;
 use super::shift::move_down;
 use super::shift::move_up;
 
 // n rows of w0 pixels become rows of w1, no more than w0: of each row the first w1.
-pub fn narrow(px: &mut [u32], w0: usize, w1: usize, n: usize)
+pub fn narrow(px: &mut [u32], w0: u16, w1: u16, n: usize)
     requires { ⌜ (w1 ≤ w0) × (n * w0 ≤ length (now px)) ⌝ }
     ensures { λ _. ⌜ now (px .exit) ≡ writeRows n (λ r. r * w1) (λ r. part (r * w0) w1 (now (px .entry))) (now (px .entry)) ⌝ }
 {
     // row 0 is in place
     let mut r: usize = 1;
     while r < n {
-        move_down(px, r * w1, r * w0, w1);
+        move_down(px, r * w1 as usize, r * w0 as usize, w1);
         r += 1;
     }
 }
 
 // n rows of w0 pixels become rows of w1, no less than w0: each row and then zeros.
-pub fn widen(px: &mut [u32], w0: usize, w1: usize, n: usize)
+pub fn widen(px: &mut [u32], w0: u16, w1: u16, n: usize)
     requires { ⌜ (w0 ≤ w1) × (n * w1 ≤ length (now px)) ⌝ }
     ensures { λ _. ⌜ now (px .exit) ≡ writeRows n (λ r. r * w1) (λ r. part (r * w0) w0 (now (px .entry)) ++ replicate (w1 - w0) 0) (now (px .entry)) ⌝ }
 {
@@ -33,17 +34,17 @@ pub fn widen(px: &mut [u32], w0: usize, w1: usize, n: usize)
         let mut left = n;
         while left > 1 {
             let r = left - 1;
-            move_up(px, r * w1, r * w0, w0);
-            fill_part(px, r * w1 + w0, w1 - w0, 0);
+            move_up(px, r * w1 as usize, r * w0 as usize, w0);
+            fill_part(px, r * w1 as usize + w0 as usize, w1 - w0, 0);
             left -= 1;
         }
         // row 0 is in place
-        fill_part(px, w0, w1 - w0, 0)
+        fill_part(px, w0 as usize, w1 - w0, 0)
     }
 }
 
 // n rows of w0 pixels become rows of w1: what both widths hold, and then zeros.
-pub fn set_width(px: &mut [u32], w0: usize, w1: usize, n: usize)
+pub fn set_width(px: &mut [u32], w0: u16, w1: u16, n: usize)
     requires { ⌜ (n * w0 ≤ length (now px)) × (n * w1 ≤ length (now px)) ⌝ }
     ensures { λ _. ⌜ now (px .exit) ≡ writeRows n (λ r. r * w1) (λ r. part (r * w0) (min w1 w0) (now (px .entry)) ++ replicate (w1 - min w1 w0) 0) (now (px .entry)) ⌝ }
 {
@@ -57,15 +58,14 @@ pub fn set_width(px: &mut [u32], w0: usize, w1: usize, n: usize)
 }
 
 // A window's pixels as it goes from w0 by h0 to w1 by h1: what both hold stays, and all else is 0.
-pub fn resize_rows(px: &mut [u32], w0: usize, h0: usize, w1: usize, h1: usize)
+pub fn resize_rows(px: &mut [u32], w0: u16, h0: usize, w1: u16, h1: usize)
     requires { ⌜ (w0 * h0 ≤ length (now px)) × (w1 * h1 ≤ length (now px)) ⌝ }
     ensures { λ _. ⌜ now (px .exit) ≡ resized (length (now (px .entry))) w0 h0 w1 h1 (now (px .entry)) ⌝ }
 {
     let n = least(h1, h0);
     set_width(px, w0, w1, n);
-    let used = n * w1;
-    let rest = px.len() - used;
-    fill_part(px, used, rest, 0)
+    let used = n * w1 as usize;
+    fill_all(&mut px[used..], 0)
 }
 
 // The same in a store, where the window's c pixels begin at `base`.
@@ -73,9 +73,9 @@ pub fn resize_store(
     store: &mut [u32],
     base: usize,
     c: usize,
-    w0: usize,
+    w0: u16,
     h0: usize,
-    w1: usize,
+    w1: u16,
     h1: usize,
 )
     requires { ⌜ (base + c ≤ length (now store)) × (w0 * h0 ≤ c) × (w1 * h1 ≤ c) ⌝ }

@@ -17,24 +17,24 @@ pub fn move_eight(px: &mut [u32], dst: usize, src: usize)
 }
 
 // n pixels from `src` on go to `dst` on, where `dst` is not after `src`.
-pub fn move_down(px: &mut [u32], dst: usize, src: usize, n: usize)
+pub fn move_down(px: &mut [u32], dst: usize, src: usize, n: u16)
     requires { ⌜ (dst ≤ src) × (src + n ≤ length (now px)) ⌝ }
     ensures { λ _. ⌜ now (px .exit) ≡ sets (now (px .entry)) dst (part src n (now (px .entry))) ⌝ }
 {
-    let mut i: usize = 0;
+    let mut i: u16 = 0;
     while i < n {
         if n - i >= 8 {
-            move_eight(px, dst + i, src + i);
+            move_eight(px, dst + i as usize, src + i as usize);
             i += 8;
         } else {
-            px[dst + i] = px[src + i];
+            px[dst + i as usize] = px[src + i as usize];
             i += 1;
         }
     }
 }
 
 // The same where `dst` is not before `src`.
-pub fn move_up(px: &mut [u32], dst: usize, src: usize, n: usize)
+pub fn move_up(px: &mut [u32], dst: usize, src: usize, n: u16)
     requires { ⌜ (src ≤ dst) × (dst + n ≤ length (now px)) ⌝ }
     ensures { λ _. ⌜ now (px .exit) ≡ sets (now (px .entry)) dst (part src n (now (px .entry))) ⌝ }
 {
@@ -42,10 +42,10 @@ pub fn move_up(px: &mut [u32], dst: usize, src: usize, n: usize)
     while i > 0 {
         if i >= 8 {
             i -= 8;
-            move_eight(px, dst + i, src + i);
+            move_eight(px, dst + i as usize, src + i as usize);
         } else {
             i -= 1;
-            px[dst + i] = px[src + i];
+            px[dst + i as usize] = px[src + i as usize];
         }
     }
 }

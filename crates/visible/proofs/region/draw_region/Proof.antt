@@ -4,6 +4,7 @@ use mathlib.Core.Bool.{true}
 use Rattle.geom.specs.Geom.{meets}
 use Rattle.geom.specs.Inner.{Fits}
 use Rattle.visible.proofs.laws.Shown.{placed-fits, Cut, cut, on-screen, in-store, region-drawn, region-off}
+use native.Mathlib.Omega.{arith}
 use borrow.Author.Needs.{needs}
 use Rattle.visible.proofs.region.draw_region.Statement.{statement}
 use Rattle.visible.proofs.region.draw_region.Tie as tie
@@ -66,7 +67,7 @@ cast-draw-area-6 : tie.Need-cast-draw-area-6
 cast-draw-area-6 c = search needs
 
 cast-draw-area-7 : tie.Need-cast-draw-area-7
-cast-draw-area-7 c = search needs
+cast-draw-area-7 c = omega (arith, inside (c .before .before .before .before .before .before .before .before .before .before) .screen .east, c .before .before .before .before .before .before .before .before .before .before .before .before .before .before .before .before .before .before .before .before .before .before .pre .0 .sw≤)
 
 cast-draw-area-8 : tie.Need-cast-draw-area-8
 cast-draw-area-8 c = search needs

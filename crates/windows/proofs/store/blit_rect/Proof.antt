@@ -1,10 +1,11 @@
 -- As in `fill_rect`, with the data's chunks for the colour; the area is added uncut, whether or not a part of it is in the window.
 use mathlib.Core.Path.{_≡_, sym, _∙_}
 use mathlib.Core.Bool.{true, false}
+use native.Mathlib.Omega.{arith}
 use lib.ListN.{length}
 use Rattle.geom.specs.Geom.{isEmpty, meets, common}
 use Rattle.geom.proofs.geometry.Answers.{common-is, apart-is, not-refused}
-use Rattle.windows.proofs.laws.Pixels.{Cut, fits, in-window, room, dirty-win, not-blit, blit-win, some-blit, no-blit}
+use Rattle.windows.proofs.laws.Pixels.{Cut, fits, in-window, room, part-small, dirty-win, not-blit, blit-win, some-blit, no-blit}
 use borrow.Author.Needs.{needs}
 use Rattle.windows.proofs.store.blit_rect.Statement.{statement}
 use Rattle.windows.proofs.store.blit_rect.Tie as tie
@@ -60,7 +61,10 @@ cast-blit-area-3 : tie.Need-cast-blit-area-3
 cast-blit-area-3 c = search needs
 
 cast-blit-area-4 : tie.Need-cast-blit-area-4
-cast-blit-area-4 c = search needs
+cast-blit-area-4 c =
+    let k = c .before .before .before .before .before .before in
+    let q = own (k .before .before .before) in
+    omega (arith, part-small q (in-window q (met k .0) (met k .1)) .width≤)
 
 cast-blit-area-5 : tie.Need-cast-blit-area-5
 cast-blit-area-5 c = search needs

@@ -1,6 +1,7 @@
 -- The part of the area in the window has room in the store; without one nothing changes.
 use mathlib.Core.Path.{_≡_}
 use mathlib.Core.Bool.{true}
+use native.Mathlib.Omega.{arith}
 use lib.ListN.{length}
 use Rattle.geom.specs.Geom.{meets, common}
 use Rattle.geom.proofs.geometry.Answers.{common-is, apart-is, not-refused}
@@ -38,7 +39,10 @@ cast-fill-area-3 : tie.Need-cast-fill-area-3
 cast-fill-area-3 c = search needs
 
 cast-fill-area-4 : tie.Need-cast-fill-area-4
-cast-fill-area-4 c = search needs
+cast-fill-area-4 c =
+    let k = c .before .before .before .before .before .before in
+    let q = own (k .before .before .before) in
+    omega (arith, part-small q (in-window q (met k .0) (met k .1)) .width≤)
 
 cast-fill-area-5 : tie.Need-cast-fill-area-5
 cast-fill-area-5 c = search needs

@@ -45,30 +45,27 @@ cast-resize-store-2 c = search needs
 cast-resize-store-3 : tie.Need-cast-resize-store-3
 cast-resize-store-3 c = search needs
 
-cast-resize-store-4 : tie.Need-cast-resize-store-4
-cast-resize-store-4 c = search needs
-
 resize-store-requires : tie.Need-resize-store-requires
 resize-store-requires c κs = search needs
 
-cast-t18 : tie.Need-cast-t18
-cast-t18 c = search needs
+cast-t15 : tie.Need-cast-t15
+cast-t15 c = search needs
 
-cast-t19 : tie.Need-cast-t19
-cast-t19 c = search needs
+cast-t17 : tie.Need-cast-t17
+cast-t17 c = search needs
 
 whole-requires : tie.Need-whole-requires
 whole-requires c κs = search needs
 
 push-requires : tie.Need-push-requires
-push-requires c κs = (c .before .before .before .before .before .before .before .before .before .before .before .before .before .before .pre .rep .queue, tt)
+push-requires c κs = (c .before .before .before .before .before .before .before .before .before .before .before .before .before .pre .rep .queue, tt)
 
 same-length : tie.Need-same-length
 same-length c = search needs
 
 returns : tie.Need-returns
 returns c =
-    let s = c .before .before .before .before .before .before .before .before .before .before .before .before .before .before .before in
+    let s = c .before .before .before .before .before .before .before .before .before .before .before .before .before .before in
     let a = s .args in (
       made-is (a .win) (a .size .w) (a .size .h) (c .before .before .whole .result) (c .push .result) (s .pre .rep) (s .pre .width≤) (s .pre .height≤)
           (c .before .before .whole .ensures) (c .push .ensures),
@@ -78,15 +75,4 @@ returns c =
 pub resized-spec : {M : Type 1} → statement M
 resized-spec =
     tie.close
-    (tie.spec
-    cast-resize-store
-    cast-resize-store-2
-    cast-resize-store-3
-    cast-resize-store-4
-    resize-store-requires
-    cast-t18
-    cast-t19
-    whole-requires
-    push-requires
-    same-length
-    returns)
+    (tie.spec cast-resize-store cast-resize-store-2 cast-resize-store-3 resize-store-requires cast-t15 cast-t17 whole-requires push-requires same-length returns)

@@ -32,6 +32,9 @@ least-requires c κs = tt
 least-requires-2 : tie.Need-least-requires-2 Inv-loop μ-loop
 least-requires-2 c κs = tt
 
+cast-m : tie.Need-cast-m Inv-loop μ-loop
+cast-m c = omega arith
+
 -- the row that a turn writes
 row : (c : tie.In-loop Inv-loop μ-loop)
     → let a = c .before .before .before .before .args in a .at + c .before .loop .r * a .pitch + a .w ≤ length (a .px .now)
@@ -85,19 +88,4 @@ returns c =
 pub blit-rows-spec : {M : Type 1} → statement M
 blit-rows-spec =
     tie.close
-    (tie.spec
-    Inv-loop
-    μ-loop
-    loop-holds
-    sub-least
-    least-requires
-    least-requires-2
-    mul-copy-part
-    add-copy-part
-    copy-part-requires
-    add-from
-    add-r
-    loop-less
-    loop-again
-    same-length
-    returns)
+    (tie.spec Inv-loop μ-loop loop-holds sub-least least-requires least-requires-2 cast-m mul-copy-part add-copy-part copy-part-requires add-from add-r loop-less loop-again same-length returns)

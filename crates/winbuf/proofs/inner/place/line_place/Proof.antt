@@ -42,6 +42,14 @@ cast-least c = search needs
 least-requires : tie.Need-least-requires
 least-requires c κs = search needs
 
+cast-count : tie.Need-cast-count
+cast-count c =
+    let a = c .before .before .before .before .before .args in
+    omega (arith, line-small (a .width) (a .height) (a .line) (a .ofs) (a .len) (small (c .before .before .before)))
+
+cast-if3 : tie.Need-cast-if3
+cast-if3 c = omega arith
+
 add-if3 : tie.Need-add-if3
 add-if3 c =
     let a = c .before .before .before .before .before .args in
@@ -73,16 +81,4 @@ returns-4 c =
 pub line-place-spec : {M : Type 1} → statement M
 line-place-spec =
     tie.close
-    (tie.spec
-    small-line-requires
-    on-line-requires
-    mul-start
-    add-start
-    sub-least
-    cast-least
-    least-requires
-    add-if3
-    returns
-    returns-2
-    returns-3
-    returns-4)
+    (tie.spec small-line-requires on-line-requires mul-start add-start sub-least cast-least least-requires cast-count cast-if3 add-if3 returns returns-2 returns-3 returns-4)

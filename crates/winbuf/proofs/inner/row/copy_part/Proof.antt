@@ -1,69 +1,88 @@
--- `copy_part`: a part that is lent and comes back is a run of stores.
-use mathlib.Core.Path.{_∙_}
+-- `copy_part`: what is left to be copied, from here, gives the same.
+use mathlib.Core.Path.{_≡_, refl, sym, ap, _∙_}
+use Prim.Native.Nat.{ℕ, _+_, _-_, _≤_, _<_}
 use native.Mathlib.Omega.{arith}
+use native.Mathlib.Nat.{sub-zero, add-zero}
+use lib.ListN.{length, length-set}
+use lib.Seq.{sets}
 use Rattle.winbuf.specs.Pixels.{part}
-use Rattle.winbuf.proofs.rows.Runs.{put-is, full-part, part-is}
-use borrow.Author.Needs.{needs}
+use Rattle.winbuf.proofs.rows.Columns.{copy-turn}
 use Rattle.winbuf.proofs.inner.row.copy_part.Statement.{statement}
 use Rattle.winbuf.proofs.inner.row.copy_part.Tie as tie
 
-add-copy-row : tie.Need-add-copy-row
-add-copy-row c = search needs
+abbrev Inv-loop : tie.InvT-loop
+Inv-loop px₀ at src from n i₀ px i =
+    (sets px (at + i) (part (from + i) (n - i) src) ≡ sets px₀ at (part from n src)) × (length px ≡ length px₀) × (i ≤ n)
 
-mul-copy-row : tie.Need-mul-copy-row
-mul-copy-row c = search needs
+abbrev μ-loop : tie.MeasureT-loop
+μ-loop px₀ at src from n i₀ px i = n - i
 
-sub-copy-row : tie.Need-sub-copy-row
-sub-copy-row c = search needs
+loop-holds : tie.Need-loop-holds Inv-loop μ-loop
+loop-holds c = (rw (sub-zero, add-zero, add-zero) refl, refl, omega arith)
 
-part-copy-row-start : tie.Need-part-copy-row-start
-part-copy-row-start c = search needs
+cast-px : tie.Need-cast-px Inv-loop μ-loop
+cast-px c = omega arith
 
-part-copy-row-end : tie.Need-part-copy-row-end
-part-copy-row-end c = search needs
+add-px : tie.Need-add-px Inv-loop μ-loop
+add-px c = omega arith
 
-add-copy-row-2 : tie.Need-add-copy-row-2
-add-copy-row-2 c = search needs
+mul-px : tie.Need-mul-px Inv-loop μ-loop
+mul-px c = omega arith
 
-mul-copy-row-2 : tie.Need-mul-copy-row-2
-mul-copy-row-2 c = search needs
+shared-slice-read-px : tie.Need-shared-slice-read-px Inv-loop μ-loop
+shared-slice-read-px c = omega arith
 
-sub-copy-row-2 : tie.Need-sub-copy-row-2
-sub-copy-row-2 c = search needs
+cast-px-2 : tie.Need-cast-px-2 Inv-loop μ-loop
+cast-px-2 c = omega arith
 
-part-copy-row-start-2 : tie.Need-part-copy-row-start-2
-part-copy-row-start-2 c = search needs
+add-px-2 : tie.Need-add-px-2 Inv-loop μ-loop
+add-px-2 c = omega arith
 
-part-copy-row-end-2 : tie.Need-part-copy-row-end-2
-part-copy-row-end-2 c = search needs
+mul-px-2 : tie.Need-mul-px-2 Inv-loop μ-loop
+mul-px-2 c = omega arith
 
-copy-row-requires : tie.Need-copy-row-requires
-copy-row-requires c κs = search needs
+slice-write-px : tie.Need-slice-write-px Inv-loop μ-loop
+slice-write-px c = omega arith
 
-same-length : tie.Need-same-length
-same-length c = search needs
+add-i : tie.Need-add-i Inv-loop μ-loop
+add-i c = omega arith
 
-returns : tie.Need-returns
+loop-less : tie.Need-loop-less Inv-loop μ-loop
+loop-less c = omega arith
+
+loop-again : tie.Need-loop-again Inv-loop μ-loop
+loop-again c =
+    let a = c .before .before .before .args in
+    let l = c .before .before .loop in
+    (copy-turn (l .px) (a .src .now) (a .at) (a .from) (a .n) (l .i) (omega arith) (omega arith) ∙ l .inv .0, rw length-set (l .inv .1), omega arith)
+
+same-length : tie.Need-same-length Inv-loop μ-loop
+same-length c = c .before .loop .inv .1
+
+returns : tie.Need-returns Inv-loop μ-loop
 returns c =
-    let a = c .before .before .before .before .before .before .before .args in
-    put-is (a .px .now) (c .before .before .copy-row .last .0) (part (a .from) (a .n) (a .src .now)) (a .at) (a .n)
-    (c .before .before .copy-row .ensures ∙ part-is (a .src .now) (a .from) (a .n))
-    (full-part (a .src .now) (a .from) (a .n) (omega arith)) (omega arith)
+    let a = c .before .before .args in
+    let l = c .before .loop in
+    let z : a .n - l .i ≡ 0 = omega arith in
+    sym (ap (λ (k : ℕ). sets (l .px) (a .at + l .i) (part (a .from + l .i) k (a .src .now))) z) ∙ l .inv .0
 
 pub copy-part-spec : {M : Type 1} → statement M
 copy-part-spec =
     tie.close
     (tie.spec
-    add-copy-row
-    mul-copy-row
-    sub-copy-row
-    part-copy-row-start
-    part-copy-row-end
-    add-copy-row-2
-    mul-copy-row-2
-    sub-copy-row-2
-    part-copy-row-start-2
-    part-copy-row-end-2
-    copy-row-requires
+    Inv-loop
+    μ-loop
+    loop-holds
+    cast-px
+    add-px
+    mul-px
+    shared-slice-read-px
+    cast-px-2
+    add-px-2
+    mul-px-2
+    slice-write-px
+    add-i
+    loop-less
+    loop-again
     same-length
     returns)

@@ -1,51 +1,71 @@
--- `fill_part`: a part that is lent and comes back is a run of stores.
-use mathlib.Core.Path.{ap, _∙_}
-use Prim.Native.Nat.{ℕ, _+_, _≤_}
-use lib.ListN.{length, replicate, length-replicate}
-use Rattle.winbuf.proofs.rows.Runs.{put-is, full-part, part-is}
-use borrow.Author.Needs.{needs}
+-- `fill_part`: what is left to be filled, from here, gives the same.
+use mathlib.Core.Path.{_≡_, refl, sym, ap, _∙_}
+use Prim.Native.Nat.{ℕ, _+_, _-_, _≤_}
+use native.Mathlib.Omega.{arith}
+use native.Mathlib.Nat.{sub-zero, add-zero}
+use lib.ListN.{length, length-set, replicate}
+use lib.Seq.{sets}
+use Rattle.winbuf.proofs.rows.Columns.{fill-turn}
 use Rattle.winbuf.proofs.inner.row.fill_part.Statement.{statement}
 use Rattle.winbuf.proofs.inner.row.fill_part.Tie as tie
 
-add-fill-row : tie.Need-add-fill-row
-add-fill-row c = search needs
+abbrev Inv-loop : tie.InvT-loop
+Inv-loop px₀ at n v i₀ px i =
+    (sets px (at + i) (replicate (n - i) v) ≡ sets px₀ at (replicate n v)) × (length px ≡ length px₀) × (i ≤ n)
 
-mul-fill-row : tie.Need-mul-fill-row
-mul-fill-row c = search needs
+abbrev μ-loop : tie.MeasureT-loop
+μ-loop px₀ at n v i₀ px i = n - i
 
-sub-fill-row : tie.Need-sub-fill-row
-sub-fill-row c = search needs
+loop-holds : tie.Need-loop-holds Inv-loop μ-loop
+loop-holds c = (rw (sub-zero, add-zero) refl, refl, omega arith)
 
-part-fill-row-start : tie.Need-part-fill-row-start
-part-fill-row-start c = search needs
+cast-px : tie.Need-cast-px Inv-loop μ-loop
+cast-px c = omega arith
 
-part-fill-row-end : tie.Need-part-fill-row-end
-part-fill-row-end c = search needs
+add-px : tie.Need-add-px Inv-loop μ-loop
+add-px c = omega arith
 
-fill-row-requires : tie.Need-fill-row-requires
-fill-row-requires c κs = search needs
+mul-px : tie.Need-mul-px Inv-loop μ-loop
+mul-px c = omega arith
 
-same-length : tie.Need-same-length
-same-length c = search needs
+slice-write-px : tie.Need-slice-write-px Inv-loop μ-loop
+slice-write-px c = omega arith
 
-returns : tie.Need-returns
+add-i : tie.Need-add-i Inv-loop μ-loop
+add-i c = omega arith
+
+loop-less : tie.Need-loop-less Inv-loop μ-loop
+loop-less c = omega arith
+
+loop-again : tie.Need-loop-again Inv-loop μ-loop
+loop-again c =
+    let a = c .before .before .args in
+    let l = c .before .loop in
+    (fill-turn (l .px) (a .at) (a .n) (a .v) (l .i) (omega arith) ∙ l .inv .0, rw length-set (l .inv .1), omega arith)
+
+same-length : tie.Need-same-length Inv-loop μ-loop
+same-length c = c .before .loop .inv .1
+
+returns : tie.Need-returns Inv-loop μ-loop
 returns c =
-    let a = c .before .before .before .before .before .args in
-    let h : a .at + a .n ≤ length (a .px .now) = c .before .before .before .before .before .pre in
-    put-is (a .px .now) (c .before .before .fill-row .last .0) (replicate (a .n) (a .v)) (a .at) (a .n)
-    (c .before .before .fill-row .ensures
-    ∙ ap (λ (k : ℕ). replicate k (a .v)) (ap length (part-is (a .px .now) (a .at) (a .n)) ∙ full-part (a .px .now) (a .at) (a .n) h))
-    (length-replicate (a .n) (a .v)) h
+    let a = c .before .before .args in
+    let l = c .before .loop in
+    let z : a .n - l .i ≡ 0 = omega arith in
+    sym (ap (λ (k : ℕ). sets (l .px) (a .at + l .i) (replicate k (a .v))) z) ∙ l .inv .0
 
 pub fill-part-spec : {M : Type 1} → statement M
 fill-part-spec =
     tie.close
     (tie.spec
-    add-fill-row
-    mul-fill-row
-    sub-fill-row
-    part-fill-row-start
-    part-fill-row-end
-    fill-row-requires
+    Inv-loop
+    μ-loop
+    loop-holds
+    cast-px
+    add-px
+    mul-px
+    slice-write-px
+    add-i
+    loop-less
+    loop-again
     same-length
     returns)

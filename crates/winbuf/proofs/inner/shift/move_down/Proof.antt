@@ -23,8 +23,14 @@ loop-holds c = (rw (sub-zero, add-zero, add-zero) refl, refl, omega arith)
 sub-if1 : tie.Need-sub-if1 Inv-loop μ-loop
 sub-if1 c = omega arith
 
+cast-move-eight : tie.Need-cast-move-eight Inv-loop μ-loop
+cast-move-eight c = omega arith
+
 add-move-eight : tie.Need-add-move-eight Inv-loop μ-loop
 add-move-eight c = omega arith
+
+cast-move-eight-2 : tie.Need-cast-move-eight-2 Inv-loop μ-loop
+cast-move-eight-2 c = omega arith
 
 add-move-eight-2 : tie.Need-add-move-eight-2 Inv-loop μ-loop
 add-move-eight-2 c = omega arith
@@ -48,6 +54,9 @@ loop-again c =
       omega arith,
     )
 
+cast-px : tie.Need-cast-px Inv-loop μ-loop
+cast-px c = omega arith
+
 add-px : tie.Need-add-px Inv-loop μ-loop
 add-px c = omega arith
 
@@ -56,6 +65,9 @@ mul-px c = omega arith
 
 slice-read-px : tie.Need-slice-read-px Inv-loop μ-loop
 slice-read-px c = omega arith
+
+cast-px-2 : tie.Need-cast-px-2 Inv-loop μ-loop
+cast-px-2 c = omega arith
 
 add-px-2 : tie.Need-add-px-2 Inv-loop μ-loop
 add-px-2 c = omega arith
@@ -92,25 +104,4 @@ returns c =
 pub move-down-spec : {M : Type 1} → statement M
 move-down-spec =
     tie.close
-    (tie.spec
-    Inv-loop
-    μ-loop
-    loop-holds
-    sub-if1
-    add-move-eight
-    add-move-eight-2
-    move-eight-requires
-    add-i
-    loop-less
-    loop-again
-    add-px
-    mul-px
-    slice-read-px
-    add-px-2
-    mul-px-2
-    slice-write-px
-    add-i-2
-    loop-less-2
-    loop-again-2
-    same-length
-    returns)
+    (tie.spec Inv-loop μ-loop loop-holds sub-if1 cast-move-eight add-move-eight cast-move-eight-2 add-move-eight-2 move-eight-requires add-i loop-less loop-again cast-px add-px mul-px slice-read-px cast-px-2 add-px-2 mul-px-2 slice-write-px add-i-2 loop-less-2 loop-again-2 same-length returns)

@@ -18,8 +18,14 @@ abbrev μ-loop : tie.MeasureT-loop
 loop-holds : tie.Need-loop-holds Inv-loop μ-loop
 loop-holds c = (refl, refl, omega arith)
 
+cast-move-eight : tie.Need-cast-move-eight Inv-loop μ-loop
+cast-move-eight c = omega arith
+
 add-move-eight : tie.Need-add-move-eight Inv-loop μ-loop
 add-move-eight c = omega arith
+
+cast-move-eight-2 : tie.Need-cast-move-eight-2 Inv-loop μ-loop
+cast-move-eight-2 c = omega arith
 
 add-move-eight-2 : tie.Need-add-move-eight-2 Inv-loop μ-loop
 add-move-eight-2 c = omega arith
@@ -43,6 +49,9 @@ loop-again c =
 sub-i : tie.Need-sub-i Inv-loop μ-loop
 sub-i c = omega arith
 
+cast-px : tie.Need-cast-px Inv-loop μ-loop
+cast-px c = omega arith
+
 add-px : tie.Need-add-px Inv-loop μ-loop
 add-px c = omega arith
 
@@ -51,6 +60,9 @@ mul-px c = omega arith
 
 slice-read-px : tie.Need-slice-read-px Inv-loop μ-loop
 slice-read-px c = omega arith
+
+cast-px-2 : tie.Need-cast-px-2 Inv-loop μ-loop
+cast-px-2 c = omega arith
 
 add-px-2 : tie.Need-add-px-2 Inv-loop μ-loop
 add-px-2 c = omega arith
@@ -89,23 +101,4 @@ returns c =
 pub move-up-spec : {M : Type 1} → statement M
 move-up-spec =
     tie.close
-    (tie.spec
-    Inv-loop
-    μ-loop
-    loop-holds
-    add-move-eight
-    add-move-eight-2
-    move-eight-requires
-    loop-less
-    loop-again
-    sub-i
-    add-px
-    mul-px
-    slice-read-px
-    add-px-2
-    mul-px-2
-    slice-write-px
-    loop-less-2
-    loop-again-2
-    same-length
-    returns)
+    (tie.spec Inv-loop μ-loop loop-holds cast-move-eight add-move-eight cast-move-eight-2 add-move-eight-2 move-eight-requires loop-less loop-again sub-i cast-px add-px mul-px slice-read-px cast-px-2 add-px-2 mul-px-2 slice-write-px loop-less-2 loop-again-2 same-length returns)

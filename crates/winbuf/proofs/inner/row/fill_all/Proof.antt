@@ -1,11 +1,11 @@
--- `fill_row`: the first i of the row are v, the rest as they were.
+-- `fill_all`: the first i of the row are v, the rest as they were.
 use mathlib.Core.Path.{_≡_, refl, sym, ap, _∙_}
 use Prim.Native.Nat.{_-_, _≤_}
 use native.Mathlib.Omega.{arith}
 use lib.ListN.{length, replicate, length-replicate}
 use Rattle.winbuf.proofs.rows.Fill.{mixed, mixed-none, mixed-all, filled-more, length-mixed}
-use Rattle.winbuf.proofs.inner.row.fill_row.Statement.{statement}
-use Rattle.winbuf.proofs.inner.row.fill_row.Tie as tie
+use Rattle.winbuf.proofs.inner.row.fill_all.Statement.{statement}
+use Rattle.winbuf.proofs.inner.row.fill_all.Tie as tie
 
 abbrev Inv-loop : tie.InvT-loop
 Inv-loop dst₀ v n i₀ dst i = (dst ≡ mixed i (replicate (length dst₀) v) dst₀) × (i ≤ length dst₀) × (n ≡ length dst₀)
@@ -46,8 +46,8 @@ same-length c = ap length (c .before .loop .inv .0) ∙ length-mixed _ _ _ (leng
 returns : tie.Need-returns Inv-loop μ-loop
 returns c = c .before .loop .inv .0 ∙ mixed-all _ _ _ (length-replicate _ _) (rw length-replicate (omega arith)) (rw length-replicate (omega arith))
 
-pub fill-row-spec : {M : Type 1} → statement M
-fill-row-spec =
+pub fill-all-spec : {M : Type 1} → statement M
+fill-all-spec =
     tie.close
     (tie.spec
     Inv-loop
