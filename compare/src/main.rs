@@ -25,6 +25,7 @@ mod sides;
 mod tally;
 mod text;
 mod times;
+mod wide;
 
 use player::{Mode, Player};
 use replay::Replay;

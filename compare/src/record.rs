@@ -4,13 +4,14 @@ use crate::player::Mode;
 use crate::random::Random;
 use crate::script::{text_of, Script};
 use crate::tally::Tally;
+use crate::wide;
 use std::fs;
 use std::io;
 
 /// The script ends with the first list that reaches so many lines.
 const LINES: usize = 4000;
 
-/// Records the lines of the first file, and then random lists.
+/// Records the lines of the first file, those of a wide window, and then random lists.
 pub fn write(first: &str, stdin: &str, stdout: &str) -> io::Result<()> {
     let mut script = Script::new(Mode::Common);
     let mut tally = Tally::default();
@@ -19,6 +20,10 @@ pub fn write(first: &str, stdin: &str, stdout: &str) -> io::Result<()> {
         played.map_err(|entry| {
             io::Error::other(format!("{first}: {line}: not in the common ground: {}", entry.text()))
         })?;
+    }
+    for line in wide::lines() {
+        let played = script.play(&line, &mut tally);
+        played.map_err(|entry| io::Error::other(format!("a wide window is not in the common ground: {}", entry.text())))?;
     }
     let mut seed = 0;
     while script.lines.len() < LINES {
