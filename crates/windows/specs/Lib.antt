@@ -1,6 +1,7 @@
--- How a session holds a group, what its calls promise, and demand 3 of the program; then what our own functions say.
+-- How a session holds a group, what its calls promise, and demand 3 and two panels of the program; then what our own functions say.
 pub mod View
 pub mod Run
+pub mod Panels
 pub mod One
 pub mod Frames
 pub mod Drawing

@@ -1,0 +1,47 @@
+-- Document 02, "Two panels written in either order", of the program: the calls that the panels made, each meeting its contract.
+use Prim.Native.Nat.{ℕ}
+use mathlib.Core.Path.{_≡_}
+use mathlib.Core.Bool.{Bool}
+use mathlib.Core.List.{List, [], _∷_, map}
+use mathlib.Core.Logic.{_≢_}
+use Rattle.rules.specs.Calls.{Made, Redraw}
+use Rattle.rules.specs.Panels.{Write, fill, blit, mark, Act, on, callOf, Interleaves}
+use Rattle.windows.specs.declared.Session.{Session}
+use Rattle.windows.specs.View.{group}
+use Rattle.windows.specs.Run.{Kept, Run}
+
+-- The calls that were made ----------------------------------------------------------------------------------------------
+
+-- the store after a call, which was p before it; a mark is lent none
+abbrev pub storeLeft : Write → List ℕ → Made → List ℕ
+storeLeft (fill a v) p m = m .store
+storeLeft (blit a d stride) p m = m .store
+storeLeft mark p m = p
+
+-- "lists of fills, blits and marks": these calls, made in this order from session s and store p on, each getting the session and, where it is
+-- lent one, the store that the last one gave, led to session t and store q
+pub data Acted : Session → List ℕ → List Act → Session → List ℕ → Type 0 where
+  none : {s : Session} {p : List ℕ} → Acted s p [] s p
+  next : {s s′ t : Session} {p q : List ℕ} {a : Act} {zs : List Act} {m : Made}
+      → m .call ≡ callOf (a .window) (a .write) p → Kept m s s′ → Acted s′ (storeLeft (a .write) p m) zs t q → Acted s p (a ∷ zs) t q
+
+-- What they promise -----------------------------------------------------------------------------------------------------
+
+-- of two such lists, which led to session t and store q, and to session t′ and store q′
+pub record SameEnd (t : Session) (q : List ℕ) (t′ : Session) (q′ : List ℕ) : Type 0 where
+  -- "gives the same session and store": sessions that hold the same group
+  pub session : group t ≡ group t′
+  pub store : q ≡ q′
+  -- "and so the same next redraw": r is a redraw of the one end and r′ of the other, with the same arguments and lent the same screen. They
+  -- answer the same, and leave the same screen and the same session
+  pub redraw : (told : Bool) (w h : ℕ) (screen : List ℕ) (r r′ : Made) (u u′ : Session)
+      → r .call ≡ Redraw told w h q screen → r′ .call ≡ Redraw told w h q′ screen → Kept r t u → Kept r′ t′ u′
+      → (r .answer ≡ r′ .answer) × (r .screen ≡ r′ .screen) × (group u ≡ group u′)
+
+-- "From any one session and store, for every two lists of fills, blits and marks, one on each of two different windows, every interleaving
+-- that keeps each list's own order gives the same session and store, and so the same next redraw": any two interleavings, after any run
+unfoldable pub ProgramEitherOrder : Type 0
+ProgramEitherOrder =
+    (c : ℕ) (ms : List Made) (s : Session) → Run c ms s → (p : List ℕ) (i j : ℕ) → i ≢ j → (us vs : List Write) (zs zs′ : List Act) →
+    Interleaves (map (on i) us) (map (on j) vs) zs → Interleaves (map (on i) us) (map (on j) vs) zs′ →
+    (t t′ : Session) (q q′ : List ℕ) → Acted s p zs t q → Acted s p zs′ t′ q′ → SameEnd t q t′ q′
