@@ -8,6 +8,8 @@ mod damage;
 mod entry;
 mod events;
 mod lists;
+mod pairs;
+mod panels;
 mod panics;
 mod picture;
 mod places;
@@ -38,6 +40,7 @@ use text::Text;
 const USAGE: &str = "compare random REPLAY CALLS SEED
 compare portions REPLAY LISTS SEED
 compare busiest REPLAY RUNS SEED
+compare panels REPLAY PAIRS SEED
 compare sides REPLAY all|unasked FILE
 compare record FILE STDIN STDOUT
 compare play all|unasked";
@@ -61,6 +64,7 @@ fn command(words: &[&str]) -> io::Result<bool> {
         ["random", replay, calls, seed] => compare::run(&Replay(replay.into()), number(calls)?, number(seed)?),
         ["portions", replay, lists, seed] => portions::run(&Replay(replay.into()), number(lists)?, number(seed)?),
         ["busiest", replay, runs, seed] => runs::run(&Replay(replay.into()), number(runs)?, number(seed)?),
+        ["panels", replay, pairs, seed] => panels::run(&Replay(replay.into()), number(pairs)?, number(seed)?),
         ["sides", replay, word, file] => {
             sides::print(&Replay(replay.into()), &fs::read(file)?, mode(word)?).map(|()| true)
         }
