@@ -8,3 +8,4 @@ pub mod Pieces
 pub mod Apart
 pub mod Bound
 pub mod Remains
+pub mod Areas

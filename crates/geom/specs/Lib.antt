@@ -2,6 +2,7 @@
 pub mod Questions
 pub mod Geom
 pub mod Lists
+pub mod Areas
 pub mod Bare
 pub mod Inner
 pub mod Limits
