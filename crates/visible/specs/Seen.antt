@@ -1,7 +1,8 @@
 -- The visible list of some parts of a window, and what is drawn of it: the rules for the parts that the depth-first search has reached.
 use Prim.Native.Nat.{ℕ, _+_, _*_, _≤_}
 use mathlib.Core.Path.{_≡_}
-use mathlib.Core.List.{List, map}
+use mathlib.Core.Bool.{Bool, cond}
+use mathlib.Core.List.{List, [], _∷_, map}
 use lib.ListN.{length, getD}
 use Rattle.geom.specs.declared.Rect.{Rect}
 use Rattle.geom.specs.Geom.{rect, width, height}
@@ -13,6 +14,11 @@ use Rattle.visible.specs.declared.region.View.{View}
 -- the parts `rs` of a window at `at`, outside each of `bs`, relative to the window
 unfoldable pub seen : Rect → List Rect → List Rect → List Rect
 seen at rs bs = map (relative at) (outsideAll rs bs)
+
+-- how many parts there are, or how many pixels they have
+abbrev pub amount : Bool → List Rect → ℕ
+amount t [] = 0
+amount t (r ∷ rs) = cond t (width r * height r) 1 + amount t rs
 
 -- what they have in common with the dirty entries `ds`
 unfoldable pub regions : Rect → List Rect → List Rect → List Rect → List Rect

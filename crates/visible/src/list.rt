@@ -1,49 +1,61 @@
-// The visible list, counted and written.
+// The visible list, counted and written; and its pixels, counted.
 ghost use mathlib.Core.Path.{_≡_};
 ghost use mathlib.Core.List.{[], _∷_, _++_, map};
 ghost use Prim.Native.Nat.{_+_, _*_, _≤_};
 ghost use lib.ListN.{length, drop};
 ghost use lib.Dec.{leb};
 ghost use lib.Seq.{sets};
+ghost use Rattle.geom.specs.Areas.{areas};
 ghost use Rattle.geom.specs.Geom.{ifAny};
 ghost use Rattle.geom.specs.Inner.{Fits, Within};
 ghost use Rattle.geom.specs.Lists.{outsideAll, relative, numbers};
 ghost use Rattle.geom.specs.Lists as rule;
 ghost use Rattle.rules.specs.Visible.{rectsOf};
 ghost use Rattle.visible.specs.Lent.{Lent};
-ghost use Rattle.visible.specs.Seen.{seen};
+ghost use Rattle.visible.specs.Seen.{seen, amount};
 use crate::around;
 use crate::rects;
 use geom::Rect;
 use geom::inner;
 
-// How many parts of `part` lie outside the rectangles from the i-th of the n on.
-fn count_seen(part: Rect, above: &[u32], i: usize, n: usize) -> usize
+// What a part counts for: one, or the pixels that it has.
+fn amount(part: Rect, in_pixels: bool) -> usize
+    requires { ⌜ Fits part ⌝ }
+    ensures { λ r. ⌜ r ≡ amount in_pixels (part ∷ []) ⌝ }
+{
+    if in_pixels {
+        return part.dims.w as usize * part.dims.h as usize;
+    }
+    1
+}
+
+// How many parts of `part`, or pixels, lie outside the rectangles from the i-th of the n on.
+fn count_seen(part: Rect, above: &[u32], i: usize, n: usize, in_pixels: bool) -> usize
     requires { ⌜ Fits part × Lent n (now above) × (i ≤ n) × (n ≤ 16) ⌝ }
-    ensures { λ r. ⌜ r ≡ length (outsideAll (part ∷ []) (drop i (rectsOf n (now (above .entry))))) ⌝ }
+    ensures { λ r. ⌜ r ≡ amount in_pixels (outsideAll (part ∷ []) (drop i (rectsOf n (now (above .entry))))) ⌝ }
 {
     let k = rects::first_met(part, above, i, n);
     if k == n {
-        return 1;
+        return amount(part, in_pixels);
     }
     let both = inner::common(part, rects::rect_at(above, k));
     let next = k + 1;
-    let a = count_piece(around::above(part, both), above, next, n);
-    let l = count_piece(around::left(part, both), above, next, n);
-    let r = count_piece(around::right(part, both), above, next, n);
-    let b = count_piece(around::below(part, both), above, next, n);
+    let a = count_piece(around::above(part, both), above, next, n, in_pixels);
+    let l = count_piece(around::left(part, both), above, next, n, in_pixels);
+    let r = count_piece(around::right(part, both), above, next, n, in_pixels);
+    let b = count_piece(around::below(part, both), above, next, n, in_pixels);
     a + l + r + b
 }
 
 // The same of a piece, which may have no pixel.
-fn count_piece(piece: Rect, above: &[u32], i: usize, n: usize) -> usize
+fn count_piece(piece: Rect, above: &[u32], i: usize, n: usize, in_pixels: bool) -> usize
     requires { ⌜ Fits piece × Lent n (now above) × (i ≤ n) × (n ≤ 16) ⌝ }
-    ensures { λ r. ⌜ r ≡ length (outsideAll (ifAny piece) (drop i (rectsOf n (now (above .entry))))) ⌝ }
+    ensures { λ r. ⌜ r ≡ amount in_pixels (outsideAll (ifAny piece) (drop i (rectsOf n (now (above .entry))))) ⌝ }
 {
     if inner::is_empty(piece) {
         return 0;
     }
-    count_seen(piece, above, i, n)
+    count_seen(piece, above, i, n, in_pixels)
 }
 
 // How many parts of `at` lie outside the n rectangles above it.
@@ -51,7 +63,15 @@ pub fn count(at: Rect, above: &[u32], n: usize) -> usize
     requires { ⌜ Fits at × Lent n (now above) × (n ≤ 16) ⌝ }
     ensures { λ r. ⌜ r ≡ length (outsideAll (at ∷ []) (rectsOf n (now (above .entry)))) ⌝ }
 {
-    count_seen(at, above, 0, n)
+    count_seen(at, above, 0, n, false)
+}
+
+// How many pixels of `at` lie outside them: the areas of those parts, added up as they are found.
+pub fn pixels(at: Rect, above: &[u32], n: usize) -> usize
+    requires { ⌜ Fits at × Lent n (now above) × (n ≤ 16) ⌝ }
+    ensures { λ r. ⌜ r ≡ areas (outsideAll (at ∷ []) (rectsOf n (now (above .entry)))) ⌝ }
+{
+    count_seen(at, above, 0, n, true)
 }
 
 // The most parts that n rectangles can leave.

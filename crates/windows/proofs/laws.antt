@@ -11,6 +11,7 @@ pub mod Hidden
 pub mod Store
 pub mod Pixels
 pub mod Listed
+pub mod InView
 pub mod Full
 pub mod Cleaned
 pub mod Drawn

@@ -13,6 +13,7 @@ use Rattle.window.specs.Window.{Win}
 use Rattle.window.specs.Held.{winOf, RepWindow}
 use Rattle.rules.specs.Group.{Group, start, used, win}
 use Rattle.rules.specs.Group as Rule
+use Rattle.rules.specs.Share.{share}
 use Rattle.rules.specs.Visible.{visibleList}
 use Rattle.rules.specs.Calls.{Call, does, after}
 use Rattle.order.specs.declared.due.Walk.{Walk}
@@ -27,6 +28,7 @@ use Rattle.windows.specs.declared.NextEvent.the-variants as NextEvent
 use Rattle.windows.specs.declared.Popped.{Popped}
 use Rattle.windows.specs.declared.Placed.{Placed}
 use Rattle.windows.specs.declared.Listing.{Listing}
+use Rattle.windows.specs.declared.InView.{InView}
 
 -- The view --------------------------------------------------------------------------------------------------------------
 
@@ -134,6 +136,12 @@ pub record Lists (g : Group) (id : ℕ) (before : List ℕ) (r : Listing) (after
   pub answer : r .answer ≡ visibleList g id before .answer
   pub count : r .count ≡ visibleList g id before .count
   pub list : after ≡ visibleList g id before .list
+
+-- the share in view: answer, percent and remainder are the rule's
+pub record Shares (g : Group) (id : ℕ) (r : InView) : Type 0 where
+  pub answer : r .answer ≡ share g id .answer
+  pub percent : r .percent ≡ share g id .percent
+  pub remainder : r .remainder ≡ share g id .remainder
 
 -- position and size of a window: question 3, "any other number handed back 0"
 abbrev pub placed : Group → ℕ → Placed

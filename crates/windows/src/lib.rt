@@ -23,6 +23,7 @@ mod list;
 pub mod one;
 pub mod portion;
 pub mod redraw;
+mod share;
 mod small;
 pub mod store;
 
@@ -109,6 +110,14 @@ pub struct Popped {
 pub struct Listing {
     pub answer: u32,
     pub count: usize,
+}
+
+// The share of a window that is in view, as whole percent and what is left over of w × h; both are 0 where the answer is 3 or 24.
+#[repr(C)]
+pub struct InView {
+    pub answer: u32,
+    pub percent: u32,
+    pub remainder: u32,
 }
 
 // The position and size of a window: (0,0,0,0) where the answer is 3.

@@ -1,7 +1,7 @@
 -- A part under the rectangles: those that it does not meet leave it whole, and the first that it meets splits it into pieces.
 use Prim.Native.Nat.{ℕ, _+_, _-_, _*_, _≤_, _<_}
 use mathlib.Core.Path.{_≡_, refl, sym, ap, subst, _∙_}
-use mathlib.Core.Bool.{true, false}
+use mathlib.Core.Bool.{Bool, true, false}
 use mathlib.Core.List.{List, [], _∷_, _++_, map}
 use native.Mathlib.Nat.{zero-add}
 use native.Mathlib.Omega.{arith}
@@ -15,12 +15,12 @@ use Rattle.geom.proofs.geometry.Facts.{says-meet, common-within}
 use Rattle.rules.specs.Visible.{rectsOf}
 use Rattle.visible.specs.Lent.{rectAt, Missed}
 use Rattle.visible.specs.declared.region.View.{View}
-use Rattle.visible.specs.Seen.{seen, regions, drawn}
+use Rattle.visible.specs.Seen.{seen, amount, regions, drawn}
 use Rattle.visible.proofs.laws.Numbers.{length-rects, rects-next}
 use Rattle.visible.proofs.laws.Depth.{outsideAll-append, outsideAll-end, outsideAll-miss, outsideAll-met, four}
 use Rattle.visible.proofs.laws.Parts.{above-within, left-within, right-within, below-within}
 use Rattle.visible.proofs.laws.Regions.{seen-append, seen-end, length-seen, regions-same, regions-append}
-use Rattle.visible.proofs.laws.Turns.{length-numbers, length-four, Written, written-both, drawn-both}
+use Rattle.visible.proofs.laws.Turns.{length-numbers, length-four, amount-four, Written, written-both, drawn-both}
 
 -- Rectangles that are missed -------------------------------------------------------------------------------------------
 
@@ -49,8 +49,8 @@ module _ (a : Rect) (n : ℕ) (l : List ℕ) (i : ℕ) where
         ∙ ap (outsideAll (a ∷ [])) (drop-of-length-le (rectsOf n l) {i = k} (omega (arith, length-rects n l)))
         ∙ outsideAll-end (a ∷ [])
 
-    pub count-leaf : 1 ≡ length (outsideAll (a ∷ []) (drop i (rectsOf n l)))
-    count-leaf = sym (ap length missed-all)
+    pub count-leaf : (t : Bool) → amount t (a ∷ []) ≡ amount t (outsideAll (a ∷ []) (drop i (rectsOf n l)))
+    count-leaf t = sym (ap (amount t) missed-all)
 
     pub seen-leaf : (at : Rect) → seen at (a ∷ []) (drop i (rectsOf n l)) ≡ relative at a ∷ []
     unfolding seen
@@ -121,12 +121,12 @@ module _ {a : Rect} {n : ℕ} {l : List ℕ} {i k : ℕ} {c : Rect} (s : Splits 
         → f (around a c) ≡ f (ifAny p) ++ (f (ifAny q) ++ (f (ifAny r) ++ f (ifAny u)))
     named f add = rw (ep, eq, er, eu) (four f add a c)
 
-    pub counted-four : {x y z w : ℕ} → let bs = drop (k + 1) (rectsOf n l) in x ≡ length (outsideAll (ifAny p) bs) → y ≡ length (outsideAll (ifAny q) bs)
-        → z ≡ length (outsideAll (ifAny r) bs) → w ≡ length (outsideAll (ifAny u) bs) → x + y + z + w ≡ length (outsideAll (a ∷ []) (drop i (rectsOf n l)))
-    counted-four ex ey ez ew =
+    pub counted-four : (t : Bool) {x y z w : ℕ} → let bs = drop (k + 1) (rectsOf n l) in x ≡ amount t (outsideAll (ifAny p) bs) → y ≡ amount t (outsideAll (ifAny q) bs)
+        → z ≡ amount t (outsideAll (ifAny r) bs) → w ≡ amount t (outsideAll (ifAny u) bs) → x + y + z + w ≡ amount t (outsideAll (a ∷ []) (drop i (rectsOf n l)))
+    counted-four t ex ey ez ew =
         let bs = drop (k + 1) (rectsOf n l) in
         let e = outside-split ∙ named (λ (rs : List Rect). outsideAll rs bs) (λ xs ys. outsideAll-append xs ys bs) in
-        omega (arith, ap length e ∙ length-four (outsideAll (ifAny p) bs) (outsideAll (ifAny q) bs) (outsideAll (ifAny r) bs) (outsideAll (ifAny u) bs))
+        omega (arith, ap (amount t) e ∙ amount-four t (outsideAll (ifAny p) bs) (outsideAll (ifAny q) bs) (outsideAll (ifAny r) bs) (outsideAll (ifAny u) bs))
 
     module _ (at : Rect) where
       seen-four : let bs = drop (k + 1) (rectsOf n l) in

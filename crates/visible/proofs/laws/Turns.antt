@@ -1,20 +1,24 @@
 -- One piece after the other: counted, written and drawn they give the same as the pieces together.
 use Prim.Native.Nat.{ℕ, suc, _+_, _-_, _*_, _/_, _≤_}
 use mathlib.Core.Path.{_≡_, refl, sym, ap, _∙_}
-use mathlib.Core.Bool.{true}
+use mathlib.Core.Bool.{Bool, true, false}
 use mathlib.Core.List.{List, [], _∷_, _++_}
 use native.Mathlib.Omega.{arith}
-use native.Mathlib.Nat.{mul-le-mul-left, le-trans, add-zero, add-suc, suc-add}
+use native.Mathlib.Nat.{mul-le-mul, mul-le-mul-left, le-trans, add-zero, add-suc, suc-add}
 use lib.Dec.{leb}
 use lib.ListN.{length, drop, set, length-append, length-drop}
 use lib.Seq.{sets}
 use Rattle.geom.specs.declared.Rect.{Rect}
+use Rattle.geom.specs.Geom.{width, height}
+use Rattle.geom.specs.Inner.{Fits}
+use Rattle.geom.specs.Areas.{areas}
 use Rattle.geom.specs.Lists.{outsideAll, numbers, most}
 use Rattle.geom.proofs.basics.Tests.{says-le, passes, same}
 use Rattle.geom.proofs.geometry.Bound.{outsideAll-few}
+use Rattle.geom.proofs.geometry.Areas.{remains-most}
 use Rattle.rules.specs.Visible.{rectsOf}
 use Rattle.visible.specs.declared.region.View.{View}
-use Rattle.visible.specs.Seen.{drawn}
+use Rattle.visible.specs.Seen.{amount, drawn}
 use Rattle.visible.proofs.laws.Numbers.{length-rects}
 use Rattle.visible.proofs.laws.Regions.{drawn-append}
 
@@ -32,6 +36,29 @@ pub few-left : (a : Rect) (n : ℕ) (l : List ℕ) (i : ℕ) → n ≤ 16 → le
 few-left a n l i h =
     let e : length (drop i (rectsOf n l)) ≡ n - i = length-drop i (rectsOf n l) ∙ ap (λ (m : ℕ). m - i) (length-rects n l) in
     le-trans (outsideAll-few a (drop i (rectsOf n l))) (rw e (most-small (n - i) (omega arith)))
+
+-- How many, or how many pixels ------------------------------------------------------------------------------------------
+
+pub amount-parts : (rs : List Rect) → amount false rs ≡ length rs
+amount-parts [] = refl
+amount-parts (r ∷ rs) = omega (arith, amount-parts rs)
+
+pub amount-pixels : (rs : List Rect) → amount true rs ≡ areas rs
+amount-pixels [] = refl
+amount-pixels (r ∷ rs) = ap (λ (n : ℕ). width r * height r + n) (amount-pixels rs)
+
+-- the pixels of a rectangle whose sides are numbers of 32 bits
+pub pixels-fit : (a : Rect) → Fits a → width a * height a ≤ 18446744065119617025
+pixels-fit a f =
+    let w : width a ≤ 4294967295 = omega (arith, f .east) in
+    let h : height a ≤ 4294967295 = omega (arith, f .south) in
+    mul-le-mul w h
+
+-- both are numbers of 64 bits
+pub amount-fits : (a : Rect) (n : ℕ) (l : List ℕ) (i : ℕ) → Fits a → n ≤ 16 → (t : Bool)
+    → amount t (outsideAll (a ∷ []) (drop i (rectsOf n l))) ≤ 18446744065119617025
+amount-fits a n l i f h true = rw (amount-pixels (outsideAll (a ∷ []) (drop i (rectsOf n l)))) (le-trans (remains-most a (drop i (rectsOf n l))) (pixels-fit a f))
+amount-fits a n l i f h false = rw (amount-parts (outsideAll (a ∷ []) (drop i (rectsOf n l)))) (omega (arith, few-left a n l i h))
 
 -- a list of `len` numbers has places for n rectangles, four numbers each
 pub places : (n len : ℕ) → leb n (len / 4) ≡ leb (4 * n) len
@@ -78,6 +105,13 @@ pub room-one : (i n room : ℕ) → n ≡ 1 → 4 * (i + n) ≤ room → 4 * (i 
 room-one i n room e h = omega arith
 
 -- Two lists of rectangles, one after the other ----------------------------------------------------------------------------
+
+amount-append : (t : Bool) (xs ys : List Rect) → amount t (xs ++ ys) ≡ amount t xs + amount t ys
+amount-append t [] ys = omega arith
+amount-append t (r ∷ xs) ys = omega (arith, amount-append t xs ys)
+
+pub amount-four : (t : Bool) (xs ys zs us : List Rect) → amount t (xs ++ (ys ++ (zs ++ us))) ≡ amount t xs + amount t ys + amount t zs + amount t us
+amount-four t xs ys zs us = omega (arith, amount-append t xs (ys ++ (zs ++ us)), amount-append t ys (zs ++ us), amount-append t zs us)
 
 pub length-four : (xs ys zs us : List Rect) → length (xs ++ (ys ++ (zs ++ us))) ≡ length xs + length ys + length zs + length us
 length-four xs ys zs us = omega (arith, length-append xs (ys ++ (zs ++ us)), length-append ys (zs ++ us), length-append zs us)

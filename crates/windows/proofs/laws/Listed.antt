@@ -40,13 +40,13 @@ visible-is s id p r y u a e =
     rw (y, a, w)
 
 module _ (s : Session) (h : Given s) (id p : ℕ) (at : some p ≡ renderIdx id (ids (s .shared .shown) (s .shared .order))) where
-  in-use : used (group s) id ≡ true
+  pub in-use : used (group s) id ≡ true
   in-use = given-ok s h .shown-used id (is-shown s h id p at)
 
   pub id-low : id < 16
   id-low = used-small (group s) id (given-ok s h) in-use
 
-  behind : above id (group s .order) ≡ drop (suc p) (group s .order)
+  pub behind : above id (group s .order) ≡ drop (suc p) (group s .order)
   unfolding group
   behind = above-place id (group s .order) ∙ ap (λ (k : ℕ). drop (suc k) (group s .order)) (sym (has-place s h id p at))
 

@@ -1,20 +1,21 @@
--- The counts of the four pieces are the count of the part. A piece has the rectangles behind the one that split the part.
+-- The counts of the four pieces, or of their pixels, add up to that of the part. A piece has the rectangles behind the one that split the part.
 use Prim.Native.Nat.{ℕ, _+_, _-_, _*_, _≤_, _<_}
 use mathlib.Core.Path.{_≡_, sym, ap, subst, _∙_}
 use mathlib.Core.List.{List, [], _∷_}
 use native.Mathlib.Omega.{arith}
 use borrow.Author.Needs.{needs}
-use lib.ListN.{length, drop}
+use lib.ListN.{drop}
 use Rattle.geom.specs.declared.Rect.{Rect}
 use Rattle.geom.specs.Geom.{meets, common}
 use Rattle.geom.specs.Inner.{Fits, Within}
 use Rattle.geom.specs.Lists.{outsideAll}
 use Rattle.rules.specs.Visible.{rectsOf}
 use Rattle.visible.specs.Lent.{Lent}
+use Rattle.visible.specs.Seen.{amount}
 use Rattle.visible.proofs.laws.Numbers.{room-at, fits-at}
 use Rattle.visible.proofs.laws.Depth.{outsideAll-none}
 use Rattle.visible.proofs.laws.Parts.{within-fits}
-use Rattle.visible.proofs.laws.Turns.{few-left}
+use Rattle.visible.proofs.laws.Turns.{amount-fits}
 use Rattle.visible.proofs.laws.Split.{missed-more, count-leaf, Splits, split-within, above-in, left-in, right-in, below-in, fewer, counted-four, piece-none, piece-one}
 use borrow.Fn.Kinds.{In}
 use borrow.Fn.PlainCycle.{Measures, is, falls, and}
@@ -26,6 +27,7 @@ use Rattle.visible.proofs.list.count_seen.Kinds as count-seen-kinds
 use Rattle.visible.proofs.list.+count_piece+count_seen.Lts-count_seen as count-seen-lts
 use Rattle.geom.proofs.inner.common.Reads as common-reads
 use Rattle.geom.proofs.inner.is_empty.Reads as is-empty-reads
+use Rattle.visible.proofs.list.amount.Reads as amount-reads
 use Rattle.visible.proofs.around.above.Reads as above-reads
 use Rattle.visible.proofs.around.below.Reads as below-reads
 use Rattle.visible.proofs.around.left.Reads as left-reads
@@ -66,7 +68,7 @@ count-piece-returns : (t : ℕ) → count-piece-lts.Need-returns (piece-calls t)
 count-piece-returns t c =
     let s = c .before .before .before in
     let bs = drop (s .args .i) (rectsOf (s .args .n) (s .args .above .now)) in
-    sym (ap (λ (rs : List Rect). length (outsideAll rs bs)) (piece-none (s .args .piece) (sym (c .before .is-empty .ensures) ∙ c .if1 .taken)) ∙ ap length (outsideAll-none bs))
+    sym (ap (λ (rs : List Rect). amount (s .args .in-pixels) (outsideAll rs bs)) (piece-none (s .args .piece) (sym (c .before .is-empty .ensures) ∙ c .if1 .taken)) ∙ ap (amount (s .args .in-pixels)) (outsideAll-none bs))
 
 count-piece-count-seen-requires : (t : ℕ) → count-piece-lts.Need-count-seen-requires (piece-calls t) (count-piece-at t) count-piece.Post
 count-piece-count-seen-requires t c κs =
@@ -78,7 +80,7 @@ count-piece-returns-2 t c =
     let s = c .before .before .before .before in
     let bs = drop (s .args .i) (rectsOf (s .args .n) (s .args .above .now)) in
     c .count-seen .ensures
-    ∙ sym (ap (λ (rs : List Rect). length (outsideAll rs bs)) (piece-one (s .args .piece) (sym (c .before .before .is-empty .ensures) ∙ c .before .if1 .left)))
+    ∙ sym (ap (λ (rs : List Rect). amount (s .args .in-pixels) (outsideAll rs bs)) (piece-one (s .args .piece) (sym (c .before .before .is-empty .ensures) ∙ c .before .if1 .left)))
 
 -- A part --------------------------------------------------------------------------------------------------------------
 
@@ -86,6 +88,8 @@ abbrev seen-calls : ℕ → count-seen-lts.Claims
 seen-calls t = (
   first-met-reads.Asked,
   first-met-reads.Learnt,
+  amount-reads.Asked,
+  amount-reads.Learnt,
   rect-at-reads.Asked,
   rect-at-reads.Learnt,
   common-reads.Asked,
@@ -107,10 +111,14 @@ count-seen-first-met-requires t c κs =
     let s = c .before in
     (s .pre .1 .0, s .pre .1 .1, s .pre .1 .2)
 
+count-seen-amount-requires : (t : ℕ) → count-seen-lts.Need-amount-requires (seen-calls t) (count-seen-at t) count-seen.Post
+count-seen-amount-requires t c κs = c .before .before .before .pre .1 .0
+
 count-seen-returns : (t : ℕ) → count-seen-lts.Need-returns (seen-calls t) (count-seen-at t) count-seen.Post
 count-seen-returns t c =
-    let s = c .before .before .before in
-    count-leaf (s .args .part) (s .args .n) (s .args .above .now) (s .args .i) (c .before .first-met .result) (c .before .first-met .ensures .0) (c .if1 .taken)
+    let s = c .before .before .before .before in
+    c .amount .ensures
+    ∙ count-leaf (s .args .part) (s .args .n) (s .args .above .now) (s .args .i) (c .before .before .first-met .result) (c .before .before .first-met .ensures .0) (c .before .if1 .taken) (s .args .in-pixels)
 
 count-seen-rect-at-requires : (t : ℕ) → count-seen-lts.Need-rect-at-requires (seen-calls t) (count-seen-at t) count-seen.Post
 count-seen-rect-at-requires t c κs =
@@ -173,18 +181,18 @@ count-seen-count-piece-requires-4 t c κs = asks t (c .before .before .before .b
 total : (t : ℕ) (c : count-seen-lts.After-count-piece4 (seen-calls t) (count-seen-at t) count-seen.Post)
     → let s = c .before .before .before .before .before .before .before .before .before .before .before .before .before .args in
     c .before .before .before .before .before .before .count-piece .result + c .before .before .before .before .count-piece2 .result + c .before .before .count-piece3 .result + c .count-piece4 .result
-    ≡ length (outsideAll (s .part ∷ []) (drop (s .i) (rectsOf (s .n) (s .above .now))))
+    ≡ amount (s .in-pixels) (outsideAll (s .part ∷ []) (drop (s .i) (rectsOf (s .n) (s .above .now))))
 total t c =
     counted-four (known t (c .before .before .before .before .before .before .before .before))
-    (c .before .before .before .before .before .before .before .above .ensures) (c .before .before .before .before .before .left .ensures) (c .before .before .before .right .ensures) (c .before .below .ensures)
+    (c .before .before .before .before .before .before .before .above .ensures) (c .before .before .before .before .before .left .ensures) (c .before .before .before .right .ensures) (c .before .below .ensures) (c .before .before .before .before .before .before .before .before .before .before .before .before .before .args .in-pixels)
     (c .before .before .before .before .before .before .count-piece .ensures) (c .before .before .before .before .count-piece2 .ensures) (c .before .before .count-piece3 .ensures) (c .count-piece4 .ensures)
 
--- there are few
+-- the sum is a number of 64 bits
 small : (t : ℕ) (c : count-seen-lts.After-count-piece4 (seen-calls t) (count-seen-at t) count-seen.Post)
-    → c .before .before .before .before .before .before .count-piece .result + c .before .before .before .before .count-piece2 .result + c .before .before .count-piece3 .result + c .count-piece4 .result ≤ 561
+    → c .before .before .before .before .before .before .count-piece .result + c .before .before .before .before .count-piece2 .result + c .before .before .count-piece3 .result + c .count-piece4 .result ≤ 18446744065119617025
 small t c =
     let s = c .before .before .before .before .before .before .before .before .before .before .before .before .before in
-    omega (arith, total t c, few-left (s .args .part) (s .args .n) (s .args .above .now) (s .args .i) (s .pre .1 .3))
+    omega (arith, total t c, amount-fits (s .args .part) (s .args .n) (s .args .above .now) (s .args .i) (s .pre .1 .0) (s .pre .1 .3) (s .args .in-pixels))
 
 count-seen-add-result : (t : ℕ) → count-seen-lts.Need-add-result (seen-calls t) (count-seen-at t) count-seen.Post
 count-seen-add-result t c = omega (arith, small t c)
@@ -210,6 +218,7 @@ pub +count-piece+count-seen-spec : {M : Type 1} → statement M
     (count-seen-at t)
     count-seen.Post
     (count-seen-first-met-requires t)
+    (count-seen-amount-requires t)
     (count-seen-returns t)
     (count-seen-rect-at-requires t)
     (count-seen-common-requires t)

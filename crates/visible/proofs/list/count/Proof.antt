@@ -1,0 +1,20 @@
+-- The search begins at the first rectangle.
+use mathlib.Core.Path.{_∙_}
+use mathlib.Core.List.{[], _∷_}
+use Rattle.geom.specs.Lists.{outsideAll}
+use Rattle.rules.specs.Visible.{rectsOf}
+use Rattle.visible.proofs.laws.Turns.{amount-parts}
+use borrow.Author.Needs.{needs}
+use Rattle.visible.proofs.list.count.Statement.{statement}
+use Rattle.visible.proofs.list.count.Tie as tie
+
+count-seen-requires : tie.Need-count-seen-requires
+count-seen-requires c κs = search needs
+
+returns : tie.Need-returns
+returns c =
+    let a = c .before .before .args in
+    c .count-seen .ensures ∙ amount-parts (outsideAll (a .at ∷ []) (rectsOf (a .n) (a .above .now)))
+
+pub count-spec : {M : Type 1} → statement M
+count-spec = tie.close (tie.spec count-seen-requires returns)

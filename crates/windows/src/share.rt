@@ -1,0 +1,74 @@
+// How much of a window is in view. Document 02, N11.
+ghost use mathlib.Core.Path.{_≡_};
+ghost use mathlib.Core.Option.{some};
+ghost use Rattle.windows.specs.View.{group, Given, Shares};
+ghost use Rattle.order.specs.Ids.{ids};
+ghost use Rattle.order.specs.Order.{renderIdx};
+use crate::InView;
+use crate::Session;
+use geom::inner::is_empty;
+use order::Place;
+use order::RenderIdx;
+use order::WinId;
+use order::get_render_idx;
+use order::rects;
+
+impl Session {
+    // The share of a window in use, which stands at a place of the order. Its pixels are at most C, so that 100 times as many are a number of 32 bits.
+    fn share_shown(self, id: WinId, p: Place) -> InView
+        requires { ⌜ Given self × (some (p .0) ≡ renderIdx (id .0) (ids (self .shared .shown) (self .shared .order))) ⌝ }
+        ensures { λ r. ⌜ Shares (group self) (id .0) r ⌝ }
+    {
+        let frames = self.frames();
+        let areas = frames.areas;
+        let order = self.shared.order;
+        let at = id.0 as usize;
+        let area = areas[at];
+        let r = area.rect();
+        if is_empty(r) {
+            return InView {
+                answer: 24,
+                percent: 0,
+                remainder: 0,
+            };
+        }
+        let above = rects::from(areas, order, self.shared.shown, p.next());
+        let numbers = above.numbers;
+        let n = above.len;
+        let seen = 100 * visible::list::pixels(r, &numbers, n) as u32;
+        let size = r.dims.w * r.dims.h;
+        InView {
+            answer: 0,
+            percent: seen / size,
+            remainder: seen % size,
+        }
+    }
+
+    // The share of a window that no higher window covers, off the screen too.
+    pub fn share(self, id: WinId) -> InView
+        requires { ⌜ Given self ⌝ }
+        ensures { λ r. ⌜ Shares (group self) (id .0) r ⌝ }
+    {
+        let mut answer: u32 = 3;
+        let k = id.0;
+        if k < 16 {
+            let at = k as usize;
+            let frames = self.frames();
+            let used = frames.used;
+            if used[at] {
+                let n = self.shared.shown;
+                let order = self.shared.order;
+                let idx = get_render_idx(order, n, id);
+                if let RenderIdx::At(p) = idx {
+                    return self.share_shown(id, p);
+                }
+                answer = 24;
+            }
+        }
+        InView {
+            answer,
+            percent: 0,
+            remainder: 0,
+        }
+    }
+}
