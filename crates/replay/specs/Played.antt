@@ -104,6 +104,8 @@ pub data Plays (l : Line) (ns : List ℕ) (p : Player) (a : Pixels) (r : Player)
   lends-list : l .kind ≡ Kind.lend-list → num ns 0 ≤ 1984 → Next (lendList (num ns 0) p) (p .session) r → b ≡ a → Plays l ns p a r b
   -- event times
   asks-busiest : l .kind ≡ Kind.busiest → Next p (p .session) r → b ≡ a → Plays l ns p a r b
+  -- "the share of the window that no higher window covers"
+  asks-share : l .kind ≡ Kind.share → Next p (p .session) r → b ≡ a → Plays l ns p a r b
   -- "no call"; bare geometry and bare pixels
   shows : Kind.screen ≤ l .kind → l .kind ≤ Kind.region → Next p (p .session) r → b ≡ a → Plays l ns p a r b
 

@@ -14,6 +14,7 @@ use crate::events;
 use crate::lend;
 use crate::numbers;
 use crate::player::Player;
+use crate::share;
 use crate::text;
 use crate::times;
 use script::Line;
@@ -58,6 +59,7 @@ pub fn call(p: Player, line: Line, ns: &[u32; 4200], out: &mut [u8; 65536]) -> P
         kind::LEND_SCREEN => lend::lend_screen(p, ns, out),
         kind::LEND_LIST => lend::lend_list(p, ns, out),
         kind::BUSIEST => times::busiest(p, line, ns, out),
+        kind::SHARE => share::share(p, ns, out),
         _ => {
             let s = p.session;
             let done = plain(s, line, ns);

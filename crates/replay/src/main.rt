@@ -10,6 +10,7 @@ mod numbers;
 mod picture;
 mod pixels;
 mod player;
+mod share;
 mod show;
 mod text;
 mod times;

@@ -21,8 +21,9 @@ pub calls : ("start 4294967295" means call Kind.start (4294967295 ∷ []) [])
     × ("portion 8 4" means call Kind.portion (8 ∷ 4 ∷ []) [])
     × ("busiest" means call Kind.busiest [] [])
     × ("busiest 5 5 1004" means call Kind.busiest (5 ∷ 5 ∷ 1004 ∷ []) [])
+    × ("share 3" means call Kind.share (3 ∷ []) [])
 unfolding split words value number nameByte isName table kindOf counted ranged nameFits accepts withWord complete hears
-calls = (refl, refl, refl, refl, refl, refl, refl, refl, refl, refl)
+calls = (refl, refl, refl, refl, refl, refl, refl, refl, refl, refl, refl)
 
 pub no-calls : ("" means silent)
     × ("# start 1" means silent)

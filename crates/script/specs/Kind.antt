@@ -133,6 +133,9 @@ portion = 42
 abbrev pub busiest : ℕ
 busiest = 43
 
+abbrev pub share : ℕ
+share = 44
+
 -- the last of them
 abbrev pub last : ℕ
-last = busiest
+last = share

@@ -136,6 +136,7 @@ table =
     ∷ row "begin" Kind.begin 1
     ∷ row "portion" Kind.portion 2
     ∷ rowTimes "busiest" Kind.busiest
+    ∷ row "share" Kind.share 1
     ∷ []
 
 abbrev pub sameWord : List ℕ → List ℕ → Bool

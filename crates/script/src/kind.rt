@@ -94,8 +94,10 @@ pub const PORTION: u8 = 42;
 
 pub const BUSIEST: u8 = 43;
 
+pub const SHARE: u8 = 44;
+
 // The last of them.
-pub const LAST: u8 = BUSIEST;
+pub const LAST: u8 = SHARE;
 
 const WORDS: usize = LAST as usize - 1;
 
@@ -147,6 +149,7 @@ pub const ROWS: [u8; WORDS * ROW] = *b"\
     \x05\x01 begin           \
     \x07\x02 portion         \
     \x07\x00*busiest         \
+    \x05\x01 share           \
     ";
 
 pub fn wide(b: u8) -> usize

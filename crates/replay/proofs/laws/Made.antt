@@ -19,7 +19,7 @@ use Rattle.replay.specs.Played.{Pixels, Makes, Begins, MeetsPart, DrawsP
 use Rattle.replay.specs.Called.{Picked}
 use Rattle.replay.proofs.laws.Sizes.{counted}
 use Rattle.replay.proofs.laws.Picked.{picked-so}
-use Rattle.replay.specs.Played.{unread, beyond, starts, creates, plain, stores, pops, redraws, lists, asks-focus, lends, lends-screen, lends-list, asks-busiest, shows}
+use Rattle.replay.specs.Played.{unread, beyond, starts, creates, plain, stores, pops, redraws, lists, asks-focus, lends, lends-screen, lends-list, asks-busiest, asks-share, shows}
 
 -- the session that r has is the next
 own : {p : Player} {s : Session} {r : Player} → Next p s r → Next p (r .session) r
@@ -86,4 +86,5 @@ ready-of (lends k j n e) = n .ready
 ready-of (lends-screen k j n e) = n .ready
 ready-of (lends-list k j n e) = n .ready
 ready-of (asks-busiest k n e) = n .ready
+ready-of (asks-share k n e) = n .ready
 ready-of (shows k j n e) = n .ready

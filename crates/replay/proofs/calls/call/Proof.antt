@@ -1,7 +1,7 @@
 -- Each arm plays the line of its own kind; the kinds that are left are those of the plain calls.
 use mathlib.Core.Path.{refl}
 use native.Mathlib.Omega.{arith}
-use Rattle.replay.specs.Played.{unread, creates, pops, asks-focus, asks-busiest, plain}
+use Rattle.replay.specs.Played.{unread, creates, pops, asks-focus, asks-busiest, asks-share, plain}
 use Rattle.replay.proofs.laws.Arms.{plain-left}
 use Rattle.replay.proofs.laws.Picked.{picked-so}
 use Rattle.replay.proofs.laws.Made.{makes}
@@ -35,6 +35,9 @@ lend-list-requires c κs = search needs
 
 busiest-requires : tie.Need-busiest-requires
 busiest-requires c κs = search needs
+
+share-requires : tie.Need-share-requires
+share-requires c κs = search needs
 
 plain-requires : tie.Need-plain-requires
 plain-requires c κs =
@@ -77,7 +80,10 @@ returns-10 : tie.Need-returns-10
 returns-10 c = λ a. asks-busiest (c .before .before .match .keys10) (c .busiest .ensures) refl
 
 returns-11 : tie.Need-returns-11
-returns-11 c =
+returns-11 c = λ a. asks-share (c .before .before .match .keys11) (c .share .ensures) refl
+
+returns-12 : tie.Need-returns-12
+returns-12 c =
     let p = c .before .before .before .before .before .args .p in
     let done = c .before .before .plain in
     λ a. plain (picked-so (λ k m. makes k p (c .answered .result) (done .result) m (c .answered .ensures)) (done .ensures)) refl
@@ -95,6 +101,7 @@ call-spec =
     lend-screen-requires
     lend-list-requires
     busiest-requires
+    share-requires
     plain-requires
     answered-requires
     returns
@@ -107,4 +114,5 @@ call-spec =
     returns-8
     returns-9
     returns-10
-    returns-11)
+    returns-11
+    returns-12)
