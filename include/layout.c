@@ -13,6 +13,7 @@ SIZE(RoqSession, 5640);
 SIZE(RoqCreated, 8);
 SIZE(RoqPopped, 24);
 SIZE(RoqListing, 16);
+SIZE(RoqShare, 12);
 SIZE(RoqPlaced, 20);
 SIZE(RoqTested, 8);
 SIZE(RoqIntersection, 24);
@@ -64,6 +65,16 @@ static void walk(void) {
     EXPECT(roq_portion(s, 8, 8, store, 16 * C, screen, 64) == 20);
 }
 
+/* The share of the window below, of which the other one covers two pixels of three; of the other one; and both refusals. */
+static void shares(void) {
+    EXPECT(roq_share(s, 7).answer == 24);
+    EXPECT(roq_resize(s, 7, 3, 1, store, 16 * C) == 0 && roq_move(s, 7, 2999, 4000) == 0);
+    RoqShare third = roq_share(s, 7), whole = roq_share(s, LAST);
+    EXPECT(third.answer == 0 && third.percent == 33 && third.remainder == 1);
+    EXPECT(whole.answer == 0 && whole.percent == 100 && whole.remainder == 0);
+    EXPECT(roq_share(s, 8).answer == 24 && roq_share(s, 16).answer == 3);
+}
+
 /* A session as large as the library's: its last words hold C and the focus, the walk's next place, whether it is on and full, and the debt;
  * nothing is written beyond. */
 static void session(void) {
@@ -85,6 +96,7 @@ static void session(void) {
     uint32_t data[6] = {11, 12, 13, 21, 22, 23};
     EXPECT(roq_blit(s, LAST, rect(20, 30, 2, 2), 3, data, 6, store, 16 * C) == 0);
     EXPECT(store[LAST * C + 31 * 200 + 21] == 22 && store[LAST * C + 31 * 200 + 22] == 0);
+    shares();
     RoqPlaced at = roq_rect_of(s, LAST);
     EXPECT(at.answer == 0 && is_rect(at.rect, 3000, 4000, 200, 150));
 }

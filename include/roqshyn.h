@@ -12,6 +12,7 @@
  *    7  the stride is at least 1                      14  x + w and y + h are at most 4,294,967,295
  *                                                     20  a walk was begun, and is neither over nor dropped
  *                                                     21  the event is no KeyFire, asked before every other
+ *                                                     24  the window is shown and has pixels
  *                                                     26  the run has at most 4,096 times
  *                                                     27  no time is below the one before it
  *
@@ -158,6 +159,15 @@ typedef struct RoqListing {
 /* The visible rectangles of a window, relative to it, as x, y, w, h each. Writes the front of the list; 1,984 numbers always suffice.
  * A hidden window has none. Asks 3, 9. */
 RoqListing roq_visible(const RoqSession *s, uint16_t id, uint32_t *list, size_t list_len);
+
+/* How much of a window is in view: on a no percent and remainder are 0. */
+typedef struct RoqShare {
+    uint32_t answer, percent, remainder;
+} RoqShare;
+
+/* 100 x its unobscured pixels, divided by w x h, as whole percent and remainder: 100 x the pixels = percent x w x h + remainder. Pixels
+ * off the screen count too. Asks 3, 24. */
+RoqShare roq_share(const RoqSession *s, uint16_t id);
 
 /* The window that has the focus; 0 where none is shown. Asks nothing. */
 uint16_t roq_focus(const RoqSession *s);

@@ -4,7 +4,7 @@
 // Before `roq_start` the memory holds zeros or a session; before any other call, a session that `roq_start` and later calls left.
 ghost use mathlib.Core.Path.{_≡_};
 ghost use Rattle.rules.specs.Calls.{Call};
-ghost use Rattle.windows.specs.View.{group, done, Given, Meets, MeetsStore, MeetsScreen, Starts, Lists, placed};
+ghost use Rattle.windows.specs.View.{group, done, Given, Meets, MeetsStore, MeetsScreen, Starts, Lists, Shares, placed};
 ghost use Rattle.station.specs.Answers.{Creates, Pops};
 ghost use Rattle.station.specs.Events.{eventOf, Routes};
 use crate::events::RoqEvent;
@@ -13,6 +13,7 @@ use crate::values::RoqCreated;
 use crate::values::RoqPopped;
 use geom::Rect;
 use order::WinId;
+use windows::InView;
 use windows::Listing;
 use windows::Placed;
 use windows::Session;
@@ -266,6 +267,14 @@ pub extern "C" fn roq_visible(s: &Session, id: WinId, list: &mut [u32]) -> Listi
     ensures { λ r. ⌜ Lists (group (now (s .entry))) (id .0) (now (list .entry)) r (now (list .exit)) ⌝ }
 {
     (*s).visible(id, list)
+}
+
+#[no_mangle]
+pub extern "C" fn roq_share(s: &Session, id: WinId) -> InView
+    requires { ⌜ Given (now s) ⌝ }
+    ensures { λ r. ⌜ Shares (group (now (s .entry))) (id .0) r ⌝ }
+{
+    (*s).share(id)
 }
 
 #[no_mangle]

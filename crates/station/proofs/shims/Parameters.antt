@@ -34,6 +34,8 @@ use Rattle.windows.proofs.FreeSlot as FreeSlot
 use Rattle.windows.proofs.FreeSlot.Laws as FreeSlot′
 use Rattle.windows.proofs.Listing as Listing
 use Rattle.windows.proofs.Listing.Laws as Listing′
+use Rattle.windows.proofs.InView as InView
+use Rattle.windows.proofs.InView.Laws as InView′
 use Rattle.windows.proofs.Placed as Placed
 use Rattle.windows.proofs.Placed.Laws as Placed′
 use Rattle.windows.proofs.redraw.Drawn as Drawn
@@ -87,6 +89,9 @@ rect = ofStruct Rect.the-type Rect′.the-laws Rect′.the-plain Rect′.mir ref
 
 abbrev pub listing : Plain
 listing = ofStruct Listing.the-type Listing′.the-laws Listing′.the-plain Listing′.mir refl
+
+abbrev pub inView : Plain
+inView = ofStruct InView.the-type InView′.the-laws InView′.the-plain InView′.mir refl
 
 abbrev pub placed : Plain
 placed = ofStruct Placed.the-type Placed′.the-laws Placed′.the-plain Placed′.mir refl
