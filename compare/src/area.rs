@@ -25,6 +25,9 @@ impl Area {
     pub fn is_empty(&self) -> bool {
         self.left == self.right || self.top == self.bottom
     }
+    pub fn has(&self, x: u32, y: u32) -> bool {
+        (self.left..self.right).contains(&x) && (self.top..self.bottom).contains(&y)
+    }
     /// The pixels of both.
     pub fn common(&self, other: &Area) -> Option<Area> {
         let left = self.left.max(other.left);

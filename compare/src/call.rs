@@ -36,6 +36,7 @@ pub enum Call {
     Portion(u32, u32),
     Visible(u32),
     Focus,
+    Share(u32),
     Lend(u32),
     LendScreen(u32),
     LendList(u32),
@@ -117,6 +118,7 @@ fn session(word: &str, numbers: &[u32]) -> Option<Call> {
         ("portion", &[w, h]) => Call::Portion(w, h),
         ("visible", &[id]) => Call::Visible(id),
         ("focus", &[]) => Call::Focus,
+        ("share", &[id]) => Call::Share(id),
         _ => return None,
     })
 }

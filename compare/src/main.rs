@@ -22,6 +22,7 @@ mod replay;
 mod runs;
 mod script;
 mod shadow;
+mod share;
 mod shrink;
 mod sides;
 mod tally;

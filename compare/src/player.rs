@@ -8,6 +8,7 @@ use crate::panics;
 use crate::picture;
 use crate::questions::{answer, cannot, Lent, SCREEN};
 use crate::shadow::{Seen, Shadow};
+use crate::share;
 use crate::text::Text;
 use original::metadevs::video::lent::{lend_screen, Pixels};
 use original::sync::mutex::Mutex;
@@ -178,11 +179,12 @@ impl Player {
                 }
             }
             Call::Portion(..) => out.instead("no such call"),
-            // The original has no such call either: the rule answers.
+            // The original has no such calls either: the rule answers.
             Call::Busiest(ref times) => {
                 let second = busiest::second(times);
                 out.numbers(&[second.count, second.place]);
             }
+            Call::Share(id) => out.numbers(&share::percent_and_remainder(&self.group, id)),
             _ => bare::make(call, out),
         }
     }

@@ -1,6 +1,7 @@
 //! The questions of document 01 that the original does not ask: all but 10, 11 and 12. And the limits of the program itself.
 use crate::busiest;
 use crate::call::{Call, Scan};
+use crate::share;
 use original::input::Event;
 use original::windows::group::Group;
 use original::Rect;
@@ -56,6 +57,7 @@ pub fn answer(call: &Call, group: &Group, lent: &Lent, is_walking: bool) -> u8 {
             let room = u64::from(lent.list.unwrap_or(LIST));
             first_no(&[used(*id), (9, needed(*id) <= room)])
         }
+        Call::Share(id) => first_no(&[used(*id), (24, share::is_given(group, *id))]),
         _ => bare(call),
     }
 }

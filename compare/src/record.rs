@@ -23,7 +23,9 @@ pub fn write(first: &str, stdin: &str, stdout: &str) -> io::Result<()> {
     }
     for line in wide::lines() {
         let played = script.play(&line, &mut tally);
-        played.map_err(|entry| io::Error::other(format!("a wide window is not in the common ground: {}", entry.text())))?;
+        played.map_err(|entry| {
+            io::Error::other(format!("a wide window is not in the common ground: {}", entry.text()))
+        })?;
     }
     let mut seed = 0;
     while script.lines.len() < LINES {

@@ -8,6 +8,7 @@ pub struct Tally {
     words: BTreeMap<String, u64>,
     answers: BTreeMap<String, u64>,
     entries: BTreeMap<Entry, u64>,
+    shares: BTreeMap<String, u64>,
     /// Calls in the common ground: accepted, or refused by 10, 11 or 12, and so made on both. A begin is nothing to the original.
     pub calls: u64,
     pub lists: u64,
@@ -16,18 +17,21 @@ pub struct Tally {
 }
 
 /// Lines that make no call of the original.
-const NO_CALL: [&str; 7] = ["lend", "lend-screen", "lend-list", "screen", "pixels", "picture", "busiest"];
+const NO_CALL: [&str; 8] = ["lend", "lend-screen", "lend-list", "screen", "pixels", "picture", "busiest", "share"];
 
 impl Tally {
     /// Counts a line and its answer.
     pub fn count(&mut self, line: &str, answer: &[u8]) {
-        let answer = String::from_utf8_lossy(answer);
-        let answer = answer.split_whitespace().next().unwrap_or("");
+        let written = String::from_utf8_lossy(answer);
+        let answer = written.split_whitespace().next().unwrap_or("");
         let word = line.split_whitespace().next().unwrap_or("");
         if matches!(answer, "?" | "!") {
             return add(&mut self.answers, answer);
         }
         add(&mut self.words, word);
+        if word == "share" {
+            add(&mut self.shares, how_much(written.trim_end()));
+        }
         if NO_CALL.contains(&word) {
             return;
         }
@@ -62,6 +66,8 @@ impl Tally {
         for answer in (0..=14).chain([20]).map(|answer| answer.to_string()).chain(["?".into(), "!".into()]) {
             println!("  {answer:14} {:9}", self.answers.get(&answer).unwrap_or(&0));
         }
+        println!("shares in view:");
+        self.shares.iter().for_each(|(how, count)| println!("  {how:14} {count:9}"));
         println!("damage:");
         let seen = &self.seen;
         let damage = [("contained", seen.contained), ("merged right", seen.right), ("merged down", seen.down)];
@@ -74,6 +80,18 @@ impl Tally {
             println!("  {:44} {:9}", entry.text(), self.entries.get(&entry).unwrap_or(&0));
         }
         println!("{} lists", self.lists);
+    }
+}
+
+/// What the answer to a `share` says.
+fn how_much(written: &str) -> &'static str {
+    match written {
+        "3" => "refused by 3",
+        "24" => "refused by 24",
+        "0 0 0" => "none",
+        "0 100 0" => "all",
+        _ if written.ends_with(" 0") => "whole percent",
+        _ => "with remainder",
     }
 }
 

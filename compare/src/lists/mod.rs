@@ -81,6 +81,7 @@ impl<'a> Maker<'a> {
             (14, Maker::pop),
             (1, Maker::flood),
             (12, Maker::look),
+            (5, Maker::share),
             (8, Maker::geometry),
             (6, Maker::bare_pixels),
             (3, Maker::wrong),

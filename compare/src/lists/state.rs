@@ -27,6 +27,11 @@ impl Maker<'_> {
         Ok(())
     }
 
+    pub fn share(&mut self) -> Step {
+        let id = self.id();
+        self.say(&format!("share {id}"))
+    }
+
     /// All of it: lists, pixels, events, focus and screen.
     pub fn whole_state(&mut self) -> Step {
         self.say("focus")?;

@@ -36,6 +36,10 @@ impl Group {
             None => &[],
         }
     }
+    /// The shown windows and where they are, lowest first.
+    pub fn shown(&self) -> Vec<(u32, Rect)> {
+        self.0.render_order.iter().map(|&(id, _)| (u32::from(id), self.rect(id))).collect()
+    }
     pub fn pixels(&self, id: u32) -> Vec<u32> {
         let buffer = self.window(id).get_buffer();
         let size = buffer.dims();
@@ -93,6 +97,10 @@ impl Group {
         Routed::Taken
     }
 
+    fn rect(&self, id: u16) -> Rect {
+        let (pos, window) = &self.0.windows[usize::from(id)];
+        Rect::new_pd(*pos, window.dims())
+    }
     fn window(&self, id: u32) -> &Window {
         &self.0.windows[id as usize].1
     }
