@@ -1,5 +1,5 @@
 //! What both sides are told, and what they say.
-use crate::station::Second;
+use crate::station::{Second, Share};
 
 /// A rectangle: x, y, w, h.
 #[derive(Clone, Copy, Debug, PartialEq)]
@@ -26,6 +26,7 @@ pub enum Call {
     Begin(bool),
     Portion,
     Visible(u16),
+    Share(u16),
     Busiest(Vec<u32>),
 }
 
@@ -48,6 +49,7 @@ impl Call {
             Call::Begin(_) => "roq_begin",
             Call::Portion => "roq_portion",
             Call::Visible(_) => "roq_visible",
+            Call::Share(_) => "roq_share",
             Call::Busiest(_) => "roq_busiest",
         }
     }
@@ -71,6 +73,7 @@ pub enum Reply {
     Event(Option<Popped>),
     /// How many rectangles a visible list has.
     Count(usize),
+    Share(Share),
     Second(Second),
 }
 

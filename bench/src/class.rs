@@ -17,6 +17,8 @@ pub enum Beside {
     Loops,
     /// Our own library, with an undivided redraw in place of a walk's first portion and nothing in place of the others.
     Undivided,
+    /// Our own library, with a visible list in place of a share.
+    Listed,
     /// A loop over event times in Rust, the same as ours.
     OnePass,
     /// A loop in Rust that counts the events of every second anew.
@@ -30,6 +32,7 @@ impl Beside {
             Beside::Pixman | Beside::PixmanAtOnce => "pixman",
             Beside::Loops | Beside::OnePass | Beside::Square => "Rust",
             Beside::Undivided => "undivided",
+            Beside::Listed => "visible list",
         }
     }
     pub fn is_pixman(self) -> bool {

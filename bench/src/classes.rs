@@ -10,6 +10,7 @@ use crate::scene::{
     STEP, WIDTH,
 };
 use crate::seconds;
+use crate::shares;
 
 const LISTS: &str =
     "the original makes its visible lists here, we make them when a redraw or a visible list needs them";
@@ -39,6 +40,7 @@ pub fn table() -> Vec<Class> {
     all.extend(rows::classes());
     all.extend(portions());
     all.extend(seconds::classes());
+    all.extend(shares::classes());
     all
 }
 

@@ -1,9 +1,12 @@
-//! Archives of earlier commits, which have no walks or no busiest second: there these functions answer 20 and 26. Where an archive has its own,
-//! those are linked.
+//! Archives of earlier commits, which have no walks, no busiest second or no share: there these functions answer 20, 26 and 24. Where an archive
+//! has its own, those are linked.
+use crate::call::Call;
 use crate::class::{Beside, Class};
 use crate::station::{busiest, Station};
 
 std::arch::global_asm!(".weak roq_begin", "roq_begin:", ".weak roq_portion", "roq_portion:", "mov eax, 20", "ret");
+// The struct goes back in two registers.
+std::arch::global_asm!(".weak roq_share", "roq_share:", "mov eax, 24", "xor edx, edx", "ret");
 // The caller hands over where the struct goes.
 std::arch::global_asm!(
     ".weak roq_busiest",
@@ -17,6 +20,9 @@ std::arch::global_asm!(
 
 /// Whether the archive has the calls of a class.
 pub fn has(class: &Class) -> bool {
+    if let [Call::Share(_)] = class.timed[..] {
+        return Station::start(1).1.share(0).answer == 3;
+    }
     match class.beside {
         Beside::Undivided => Station::start(1).1.begin(false) == 0,
         Beside::OnePass | Beside::Square => busiest(&[]).answer == 0,

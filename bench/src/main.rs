@@ -20,6 +20,7 @@ mod report;
 mod rows;
 mod scene;
 mod seconds;
+mod shares;
 mod station;
 mod summary;
 mod targets;
@@ -87,14 +88,15 @@ fn of_class(runs: &[Vec<Measured>], class: usize) -> Vec<Measured> {
 fn tell(classes: &[Class], results: &[Measured], runs: &[Vec<Measured>]) -> String {
     let table = |beside| report::table(beside, classes, results, runs);
     let (original, loops, undivided) = (table(Beside::Original), table(Beside::Loops), table(Beside::Undivided));
-    let (one_pass, square) = (table(Beside::OnePass), table(Beside::Square));
+    let (one_pass, square, listed) = (table(Beside::OnePass), table(Beside::Square), table(Beside::Listed));
     let pixman = if pixman::INSTALLED { table(Beside::Pixman) } else { report::NO_PIXMAN.to_string() };
     format!(
         "# Speed table\n\nWritten by `bash bench/run`. [SPEED.md](SPEED.md) says what is measured.\n\n\
          ## Beside the original\n\n{original}\n{}\n## Beside pixman\n\n{pixman}\n\
          ## Beside a loop over rows in Rust\n\n{loops}\n## Portions beside our undivided redraw\n\n{undivided}\n\
          ## Busiest second of 4,096 events beside the same loop in Rust\n\n{one_pass}\n\
-         ## Busiest second of 4,096 events beside the square form in Rust\n\n{square}",
+         ## Busiest second of 4,096 events beside the square form in Rust\n\n{square}\n\
+         ## Share in view beside our visible list and the sum of its areas\n\n{listed}",
         report::notes(classes)
     )
 }

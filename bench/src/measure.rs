@@ -8,6 +8,7 @@ use crate::ours::Ours;
 use crate::pixman::Pixman;
 use crate::plain::Plain;
 use crate::seconds::InRust;
+use crate::shares::Listed;
 use crate::theirs::Theirs;
 use crate::undivided::Undivided;
 use std::hint::black_box;
@@ -58,6 +59,7 @@ pub fn measure(class: &Class) -> Measured {
         Beside::PixmanAtOnce => beside(class, Some(Pixman::new(scene.width, scene.height, true))),
         Beside::Loops => beside(class, Some(Loops::new(scene.width, scene.height))),
         Beside::Undivided => beside(class, Some(Undivided::new(Ours::new(scene.c, scene.width, scene.height)))),
+        Beside::Listed => beside(class, Some(Listed(Ours::new(scene.c, scene.width, scene.height)))),
         Beside::OnePass => beside(class, Some(InRust::one_pass())),
         Beside::Square => beside(class, Some(InRust::square())),
     }

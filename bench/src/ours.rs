@@ -2,7 +2,8 @@
 use crate::call::{Area, Call, Popped, Reply, Side, State};
 use crate::class::Class;
 use crate::plain::{Piece, Plain};
-use crate::station::{busiest, Event, Station, MOUSE_DOWN, MOUSE_MOVE, MOUSE_UP, RESIZE};
+use crate::shares;
+use crate::station::{busiest, Event, Share, Station, MOUSE_DOWN, MOUSE_MOVE, MOUSE_UP, RESIZE};
 use std::arch::x86_64::{_mm_clflush, _mm_mfence};
 
 pub struct Ours {
@@ -82,6 +83,13 @@ impl Ours {
         let (_, count) = self.station.visible(id, &mut self.list);
         self.list[..4 * count].chunks(4).map(|r| Area(r[0], r[1], r[2], r[3])).collect()
     }
+
+    /// The share of a window by the areas of its visible list.
+    pub fn listed_share(&mut self, id: u16) -> Share {
+        let [_, _, w, h] = self.station.rect_of(id).unwrap_or_default();
+        let (_, count) = self.station.visible(id, &mut self.list);
+        shares::share(self.list[..4 * count].chunks(4).map(|r| r[2] * r[3]).sum(), w * h)
+    }
 }
 
 fn mouse(kind: u8, x: u32, y: u32) -> Event {
@@ -120,6 +128,7 @@ impl Side for Ours {
                 return Reply::Event(popped(answer, event));
             }
             Call::Visible(id) => return Reply::Count(s.visible(id, &mut self.list).1),
+            Call::Share(id) => return Reply::Share(s.share(id)),
             Call::Busiest(ref times) => return Reply::Second(busiest(times)),
             Call::Show(id) => s.show(id),
             Call::Hide(id) => s.hide(id),

@@ -1,6 +1,8 @@
 //! Pixman's side: a region for what is visible of a window, and clipped compositing of its pixels. It knows the calls of a scene's setup, full
-//! redraws and visible lists.
+//! redraws, visible lists and shares.
 use crate::call::{Area, Call, Popped, Reply, Side, State};
+use crate::shares;
+use crate::station::Share;
 use std::ffi::c_void;
 use std::ptr::null_mut;
 
@@ -178,6 +180,12 @@ impl Pixman {
         }
     }
 
+    fn share(&self, id: usize) -> Share {
+        let Area(_, _, w, h) = self.windows[id].at;
+        let area = |b: &Box32| ((b.x2 - b.x1) * (b.y2 - b.y1)) as u32;
+        shares::share(self.seen(id).rectangles().iter().map(area).sum(), w * h)
+    }
+
     fn visible(&self, id: usize) -> Vec<Area> {
         let Area(x, y, ..) = self.windows[id].at;
         let area = |b: &Box32| (b.x1 as u32 - x, b.y1 as u32 - y, (b.x2 - b.x1) as u32, (b.y2 - b.y1) as u32);
@@ -204,6 +212,7 @@ impl Side for Pixman {
             Call::Show(_) => {}
             Call::Redraw(true) => self.redraw(),
             Call::Visible(id) => return Reply::Count(self.seen(usize::from(id)).rectangles().len()),
+            Call::Share(id) => return Reply::Share(self.share(usize::from(id))),
             _ => unreachable!("{call:?}"),
         }
         Reply::Answer(0)

@@ -62,6 +62,15 @@ struct Listing {
     count: usize,
 }
 
+/// How much of a window is in view: 100 times its unobscured pixels, divided by all its pixels.
+#[repr(C)]
+#[derive(Clone, Copy, Debug, PartialEq)]
+pub struct Share {
+    pub answer: u32,
+    pub percent: u32,
+    pub remainder: u32,
+}
+
 #[repr(C)]
 struct Placed {
     answer: u32,
@@ -120,6 +129,7 @@ extern "C" {
         screen_len: usize,
     ) -> u32;
     fn roq_visible(s: *const Session, id: u16, list: *mut u32, list_len: usize) -> Listing;
+    fn roq_share(s: *const Session, id: u16) -> Share;
     fn roq_focus(s: *const Session) -> u16;
     fn roq_rect_of(s: *const Session, id: u16) -> Placed;
     fn roq_busiest(times: *const u32, count: usize) -> Second;
@@ -201,6 +211,9 @@ impl Station {
     pub fn visible(&self, id: u16, list: &mut [u32]) -> (u32, usize) {
         let listing = unsafe { roq_visible(&self.0, id, list.as_mut_ptr(), list.len()) };
         (listing.answer, listing.count)
+    }
+    pub fn share(&self, id: u16) -> Share {
+        unsafe { roq_share(&self.0, id) }
     }
     pub fn focus(&self) -> u16 {
         unsafe { roq_focus(&self.0) }

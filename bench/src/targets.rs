@@ -5,6 +5,7 @@ use crate::measure::Measured;
 use crate::pixman;
 use crate::report::{range, NO_PIXMAN};
 use crate::seconds::BUSIEST;
+use crate::shares::SHARE;
 
 #[derive(Clone, Copy)]
 enum Bound {
@@ -35,7 +36,7 @@ const WIDE_FILLS: &[&str] = &["fill 300 by", "fill 800 by", "fill 4000 by", "fil
 const NARROW_BLITS: &[&str] = &["blit 8 by", "blit 16 by", "blit 32 by", "blit 64 by", "blit 100 by"];
 const WIDE_BLITS: &[&str] = &["blit 300 by", "blit 800 by", "blit 4000 by", "blit 32767 by"];
 
-const TARGETS: [Target; 20] = [
+const TARGETS: [Target; 22] = [
     target("mark", Beside::Original, &["mark"], Time(1.0)),
     target("move", Beside::Original, &["move, "], Time(1.0)),
     target("show, hide", Beside::Original, &["hide or show"], Time(1.0)),
@@ -55,6 +56,8 @@ const TARGETS: [Target; 20] = [
     target("fill, 300 and wider", Beside::Loops, WIDE_FILLS, Time(1.15)),
     target("blit, narrower than 300", Beside::Loops, NARROW_BLITS, Time(1.0)),
     target("blit, 300 and wider", Beside::Loops, WIDE_BLITS, Time(1.15)),
+    target("share in view", Beside::Pixman, &[SHARE], Time(1.0)),
+    target("share in view", Beside::Listed, &[SHARE], Time(1.0)),
     target("busiest second of 4,096 events", Beside::OnePass, &[BUSIEST], Time(1.1)),
 ];
 
@@ -70,6 +73,7 @@ impl Target {
             (_, Beside::Pixman | Beside::PixmanAtOnce) => "pixman, time",
             (_, Beside::Loops) => "a loop in Rust, time",
             (_, Beside::Undivided) => "our undivided redraw, time",
+            (_, Beside::Listed) => "our visible list, time",
             (_, Beside::OnePass) => "the same loop in Rust, time",
             (_, Beside::Square) => "the square form in Rust, time",
         }

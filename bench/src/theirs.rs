@@ -75,7 +75,9 @@ impl Side for Theirs {
             Call::Fill(id, a, colour) => g.fill(u32::from(id), rect(a), colour),
             Call::Blit(id, a, ref data) => g.blit(u32::from(id), rect(a), data, a.2 as usize),
             Call::Redraw(told) => g.redraw(told || self.owed),
-            Call::Begin(_) | Call::Portion | Call::Busiest(_) => unreachable!("the original has no such call"),
+            Call::Begin(_) | Call::Portion | Call::Share(_) | Call::Busiest(_) => {
+                unreachable!("the original has no such call")
+            }
         }
         match call {
             Call::Redraw(_) => self.owed = false,

@@ -1,0 +1,54 @@
+//! The share of a window that is in view, beside two other ways to it: our visible list, and a region of pixman. There the areas of the
+//! rectangles are added up in Rust.
+use crate::call::{Call, Reply, Side, State};
+use crate::class::{Beside, Class};
+use crate::ours::Ours;
+use crate::pixman;
+use crate::scene::free_crossing;
+use crate::station::Share;
+
+/// How the names of the classes begin.
+pub const SHARE: &str = "share in view";
+
+pub fn classes() -> Vec<Class> {
+    let mut all = vec![lowest(Beside::Listed, "")];
+    if pixman::INSTALLED {
+        all.push(lowest(Beside::Pixman, ""));
+        all.push(lowest(Beside::PixmanAtOnce, ", those above as one region"));
+    }
+    all
+}
+
+fn lowest(beside: Beside, way: &str) -> Class {
+    let name = format!("{SHARE} of the lowest, crossing windows: 16{way}");
+    Class::new(name, free_crossing(16), vec![Call::Share(0)]).beside(beside)
+}
+
+/// The share of a window of `size` pixels.
+pub fn share(unobscured: u32, size: u32) -> Share {
+    if size == 0 {
+        return Share { answer: 24, percent: 0, remainder: 0 };
+    }
+    let hundred = 100 * unobscured;
+    Share { answer: 0, percent: hundred / size, remainder: hundred % size }
+}
+
+/// Our library without shares.
+pub struct Listed(pub Ours);
+
+impl Side for Listed {
+    fn call(&mut self, call: &Call) -> Reply {
+        match *call {
+            Call::Share(id) => Reply::Share(self.0.listed_share(id)),
+            _ => self.0.call(call),
+        }
+    }
+
+    fn is_screen(&self, like: &dyn Fn(&[u32]) -> bool) -> bool {
+        self.0.is_screen(like)
+    }
+
+    fn state(&mut self) -> State {
+        self.0.state()
+    }
+}
