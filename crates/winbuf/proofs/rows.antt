@@ -6,6 +6,7 @@ pub mod Fill
 pub mod Columns
 pub mod Move
 pub mod Written
+pub mod Altered
 pub mod Turns
 pub mod Places
 pub mod Flat

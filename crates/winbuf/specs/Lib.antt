@@ -1,4 +1,5 @@
 -- What everybody must believe of pixels; then what our own functions say, and the limits.
+pub mod Altered
 pub mod Pixels
 pub mod Bare
 pub mod Rows

@@ -5,7 +5,8 @@ use mathlib.Core.List.{List, [], _∷_, map}
 use lib.ListN.{replicate}
 use Rattle.winbuf.specs.declared.ScanlineRange.{ScanlineRange}
 use Rattle.winbuf.specs.Pixels as Pixels
-use Rattle.winbuf.specs.Pixels.{Part, scanlineRange, scanline, fillScanline, setScanline, region}
+use Rattle.winbuf.specs.Altered as Altered
+use Rattle.winbuf.specs.Pixels.{Part, Write, scanlineRange, scanline, fillScanline, setScanline, region}
 
 -- what a call gives, and what document 01 says
 pub record Limit : Type 0 where
@@ -16,6 +17,11 @@ pub record Limit : Type 0 where
 infix 10 _gives_
 _gives_ : Part → List ℕ → Limit
 p gives l = record { gives = p .answer ∷ p .pixels; says = l }
+
+-- the answer, then how many pixels differ, then the pixels
+infix 10 _leaves_
+_leaves_ : Write → List ℕ → Limit
+p leaves l = record { gives = p .answer ∷ p .altered ∷ p .pixels; says = l }
 
 -- the answer, then where the part begins and how many pixels it has
 infix 10 _lies_
@@ -28,9 +34,9 @@ six = 1 ∷ 2 ∷ 3 ∷ 4 ∷ 5 ∷ 6 ∷ []
 pub table : List Limit
 table =
     -- a row of 32,767 passes, and 32,768 of anything is 5
-    (fillScanline (9 ∷ []) 32767 1 0 0 1 7 gives (0 ∷ 7 ∷ []))
+    (fillScanline (9 ∷ []) 32767 1 0 0 1 7 leaves (0 ∷ 1 ∷ 7 ∷ []))
     ∷ (scanline (replicate 32767 8) 32767 1 0 32766 32767 gives (0 ∷ 8 ∷ []))
-    ∷ (fillScanline (9 ∷ []) 32768 1 0 0 1 7 gives (5 ∷ 9 ∷ []))
+    ∷ (fillScanline (9 ∷ []) 32768 1 0 0 1 7 leaves (5 ∷ 0 ∷ 9 ∷ []))
     ∷ (scanline six 3 32768 0 0 1 gives (5 ∷ []))
     ∷ (scanline six 3 2 32768 0 1 gives (5 ∷ []))
     ∷ (scanline six 3 2 0 32768 1 gives (5 ∷ []))
@@ -55,12 +61,15 @@ table =
     ∷ (scanlineRange 6 3 2 1 3 1 lies (13 ∷ 0 ∷ 0 ∷ []))
     ∷ (scanlineRange 6 0 2 7 7 7 lies (0 ∷ 0 ∷ 0 ∷ []))
     -- filling and setting beside the picture do nothing; past the end of the pixels they are 13
-    ∷ (fillScanline six 3 2 2 0 1 7 gives (0 ∷ six))
-    ∷ (setScanline six 3 2 0 3 1 (7 ∷ []) gives (0 ∷ six))
-    ∷ (fillScanline six 3 9 2 0 1 7 gives (13 ∷ six))
+    ∷ (fillScanline six 3 2 2 0 1 7 leaves (0 ∷ 0 ∷ six))
+    ∷ (setScanline six 3 2 0 3 1 (7 ∷ []) leaves (0 ∷ 0 ∷ six))
+    ∷ (fillScanline six 3 9 2 0 1 7 leaves (13 ∷ 0 ∷ six))
     -- data of no pixels, and more data than the part
-    ∷ (setScanline six 3 2 0 0 3 [] gives (0 ∷ six))
-    ∷ (setScanline six 3 2 0 1 1 (7 ∷ 8 ∷ []) gives (0 ∷ 1 ∷ 7 ∷ 3 ∷ 4 ∷ 5 ∷ 6 ∷ []))
+    ∷ (setScanline six 3 2 0 0 3 [] leaves (0 ∷ 0 ∷ six))
+    ∷ (setScanline six 3 2 0 1 1 (7 ∷ 8 ∷ []) leaves (0 ∷ 1 ∷ 1 ∷ 7 ∷ 3 ∷ 4 ∷ 5 ∷ 6 ∷ []))
+    -- a pixel that gets the value it has is not altered: of three written two, and of three none
+    ∷ (fillScanline six 3 2 0 0 3 2 leaves (0 ∷ 2 ∷ 2 ∷ 2 ∷ 2 ∷ 4 ∷ 5 ∷ 6 ∷ []))
+    ∷ (setScanline six 3 2 1 0 3 (4 ∷ 5 ∷ 6 ∷ []) leaves (0 ∷ 0 ∷ six))
     -- a region: a stride greater than the width, its last pixel, one row too many, no row, wider than its stride
     ∷ (region six 3 1 0 1 2 gives (0 ∷ 2 ∷ 3 ∷ 4 ∷ 5 ∷ []))
     ∷ (region six 3 2 1 1 1 gives (0 ∷ 6 ∷ []))
@@ -70,5 +79,5 @@ table =
     ∷ []
 
 pub holds : map (λ l. l .gives) table ≡ map (λ l. l .says) table
-unfolding table _gives_ _lies_ six Pixels.scanlineRange Pixels.lineWritten Pixels.region
+unfolding table _gives_ _leaves_ _lies_ six Altered.altered Pixels.scanlineRange Pixels.lineWritten Pixels.region
 holds = refl

@@ -6,6 +6,7 @@ use lib.Dec.{leb, ltb, eqb}
 use lib.ListN.{length, take, drop, replicate}
 use lib.Seq.{sets}
 use Rattle.geom.specs.Questions.{_is_, asked, small}
+use Rattle.winbuf.specs.Altered.{altered}
 use Rattle.winbuf.specs.declared.ScanlineRange.{ScanlineRange}
 
 -- rows 0 to n-1 written in their order, row r from place `at r` on: the form of every write of pixels
@@ -26,10 +27,16 @@ resizedAt base c w0 h0 w1 h1 s =
 
 -- Bare pixels: "These calls take lent pixels with a width and height, and no session." -----------------------------------
 
--- what such a call leaves: its answer, and the part handed back or the pixels after it
+-- what a call that hands back a part leaves: its answer and the part
 pub record Part : Type 0 where
   pub answer : ℕ
   pub pixels : List ℕ
+
+-- what a call that writes leaves: its answer, the pixels after it, and how many of them differ from those before it
+pub record Write : Type 0 where
+  pub answer : ℕ
+  pub pixels : List ℕ
+  pub altered : ℕ
 
 -- where "a scanline (line, ofs, len)" begins, and how long it is, "cut to width − ofs"
 abbrev pub lineStart : ℕ → ℕ → ℕ → ℕ
@@ -68,17 +75,19 @@ scanline ps w h line ofs len =
     record { answer = r .answer; pixels = part (r .start) (r .count) ps }
 
 -- "Filling or setting with line ≥ height or ofs ≥ width does nothing and answers 0; past the end of the pixels it is 13."
--- The values `vs` are written from the scanline's start on.
-unfoldable pub lineWritten : List ℕ → ℕ → ℕ → ℕ → ℕ → ℕ → List ℕ → Part
+-- The values `vs` are written from the scanline's start on. "Filling or setting a scanline gives, beside its answer, the number of pixels whose
+-- value differs afterwards"; "A refused call gives 0 pixels."
+unfoldable pub lineWritten : List ℕ → ℕ → ℕ → ℕ → ℕ → ℕ → List ℕ → Write
 lineWritten ps w h line ofs len vs =
     let a : ℕ = asked ((5 is smallLine w h line ofs len) ∷ (13 is (not (onLine w h line ofs) || inSlice (length ps) w line ofs len)) ∷ []) in
-    record { answer = a; pixels = cond (eqb a 0 && onLine w h line ofs) (sets ps (lineStart w line ofs) vs) ps }
+    let after : List ℕ = cond (eqb a 0 && onLine w h line ofs) (sets ps (lineStart w line ofs) vs) ps in
+    record { answer = a; pixels = after; altered = cond (eqb a 0) (altered ps after) 0 }
 
-abbrev pub fillScanline : List ℕ → ℕ → ℕ → ℕ → ℕ → ℕ → ℕ → Part
+abbrev pub fillScanline : List ℕ → ℕ → ℕ → ℕ → ℕ → ℕ → ℕ → Write
 fillScanline ps w h line ofs len v = lineWritten ps w h line ofs len (replicate (lineLength w ofs len) v)
 
 -- "Setting ends with the shorter of part and data."
-abbrev pub setScanline : List ℕ → ℕ → ℕ → ℕ → ℕ → ℕ → List ℕ → Part
+abbrev pub setScanline : List ℕ → ℕ → ℕ → ℕ → ℕ → ℕ → List ℕ → Write
 setScanline ps w h line ofs len vs = lineWritten ps w h line ofs len (take (lineLength w ofs len) vs)
 
 -- question 5 of a region; its stride is none of the coordinates and sizes

@@ -1,7 +1,9 @@
 -- What the functions of `inner` say beside the rules of Pixels: a window's rows at a new size, and rows that have room.
 use Prim.Native.Nat.{ℕ, _+_, _*_, _≤_, _<_, min}
+use mathlib.Core.Path.{_≡_}
 use mathlib.Core.List.{List}
 use lib.ListN.{replicate}
+use Rattle.winbuf.specs.Altered.{altered}
 use Rattle.winbuf.specs.Pixels.{writeRows, part}
 
 -- a window's own c pixels after it went from w0 by h0 to w1 by h1: `resizedAt` without the store around them
@@ -18,3 +20,8 @@ pub record Inside (len base pitch left top w n : ℕ) : Type 0 where
   pub high : base + (top + n) * pitch ≤ len
   -- a number that keeps base + top * pitch + left in 64 bits
   pub small : pitch ≤ 65535
+
+-- what a function that writes and counts leaves: the pixels are the rule's, and n of them differ from those before it
+pub record Counted (rule before after : List ℕ) (n : ℕ) : Type 0 where
+  pub pixels : after ≡ rule
+  pub altered : n ≡ altered before after

@@ -3,14 +3,14 @@
 // The calls here take any arguments and ask questions 5 and 13. Our own crates, which know what they lend, call `inner`.
 ghost use mathlib.Core.Path.{_≡_};
 ghost use Rattle.winbuf.specs.Pixels.{lineStart, noPart, scanlineRange, scanline, fillScanline, setScanline, region};
-ghost use Rattle.winbuf.specs.Bare.{Gives, Hands, regionStart};
+ghost use Rattle.winbuf.specs.Bare.{Gives, Hands, none, regionStart};
 use inner::least;
 use inner::place::Place;
 use inner::place::line_place;
 use inner::region::region_fits;
 use inner::region::small_area;
-use inner::row::copy_part;
 use inner::row::fill_part;
+use inner::row::set_part;
 
 pub mod inner;
 
@@ -20,6 +20,13 @@ pub struct ScanlineRange {
     pub answer: u32,
     pub start: usize,
     pub count: usize,
+}
+
+// The answer of a call that writes pixels, and how many of them differ afterwards: none where it was refused. Document 02, N3.
+#[repr(C)]
+pub struct Altered {
+    pub answer: u32,
+    pub altered: usize,
 }
 
 fn no_part(answer: u32) -> ScanlineRange
@@ -96,6 +103,13 @@ pub fn scanline_rgn_mut<'a>(
     &mut pixels[start..start + count]
 }
 
+// A call that wrote nothing.
+fn unaltered(answer: u32) -> Altered
+    ensures { λ r. ⌜ r ≡ none answer ⌝ }
+{
+    Altered { answer, altered: 0 }
+}
+
 // A line or an offset beside the picture does nothing, here and in `set_scanline`.
 pub fn fill_scanline(
     pixels: &mut [u32],
@@ -105,17 +119,17 @@ pub fn fill_scanline(
     ofs: u32,
     len: u32,
     value: u32,
-) -> u32
+) -> Altered
     ensures { λ r. ⌜ Gives (fillScanline (now (pixels .entry)) width height line ofs len value) r (now (pixels .exit)) ⌝ }
 {
     let place = line_place(pixels.len(), width, height, line, ofs, len);
     match place {
-        Place::Large => 5,
-        Place::Beside => 0,
-        Place::Outside => 13,
+        Place::Large => unaltered(5),
+        Place::Beside => unaltered(0),
+        Place::Outside => unaltered(13),
         Place::Found { start, count } => {
-            fill_part(pixels, start, count, value);
-            0
+            let altered = fill_part(pixels, start, count, value);
+            Altered { answer: 0, altered }
         }
     }
 }
@@ -129,18 +143,18 @@ pub fn set_scanline(
     ofs: u32,
     len: u32,
     data: &[u32],
-) -> u32
+) -> Altered
     ensures { λ r. ⌜ Gives (setScanline (now (pixels .entry)) width height line ofs len (now («data» .entry))) r (now (pixels .exit)) ⌝ }
 {
     let place = line_place(pixels.len(), width, height, line, ofs, len);
     match place {
-        Place::Large => 5,
-        Place::Beside => 0,
-        Place::Outside => 13,
+        Place::Large => unaltered(5),
+        Place::Beside => unaltered(0),
+        Place::Outside => unaltered(13),
         Place::Found { start, count } => {
             let n = least(count as usize, data.len()) as u16;
-            copy_part(pixels, start, data, 0, n);
-            0
+            let altered = set_part(pixels, start, data, 0, n);
+            Altered { answer: 0, altered }
         }
     }
 }

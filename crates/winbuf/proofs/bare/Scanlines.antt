@@ -15,9 +15,13 @@ use Rattle.geom.proofs.basics.Tests.{snd, on-cond, says-and, says-le}
 use Rattle.winbuf.specs.declared.inner.place.Place.{Place}
 use Rattle.winbuf.specs.declared.inner.place.Place.the-variants.{Large, Beside, Outside, Found}
 use Rattle.winbuf.specs.declared.ScanlineRange.{ScanlineRange}
-use Rattle.winbuf.specs.Pixels.{Part, part, lineStart, lineLength, smallLine, onLine, inSlice, noPart, scanlineRange, scanline, lineWritten}
+use Rattle.winbuf.specs.declared.Altered.{Altered}
+use Rattle.winbuf.specs.Pixels.{Write, part, lineStart, lineLength, smallLine, onLine, inSlice, noPart, scanlineRange, scanline, lineWritten}
+use Rattle.winbuf.specs.Altered.{altered}
 use Rattle.winbuf.specs.Bare.{Gives, Hands}
+use Rattle.winbuf.specs.Rows.{Counted}
 use Rattle.winbuf.specs.Places.{linePlace}
+use Rattle.winbuf.proofs.rows.Altered.{altered-same}
 use Rattle.winbuf.proofs.rows.Paint.{length-part}
 
 -- Small numbers ------------------------------------------------------------------------------------------------------
@@ -73,11 +77,11 @@ ranged none Beside = noPart (cond none 0 13)
 ranged none Large = noPart 5
 
 -- a part written: n values of f
-abbrev pub put : (ℕ → List ℕ) → List ℕ → Place → Part
-put f ps (Found a n) = record { answer = 0; pixels = sets ps a (f n) }
-put f ps Outside = record { answer = 13; pixels = ps }
-put f ps Beside = record { answer = 0; pixels = ps }
-put f ps Large = record { answer = 5; pixels = ps }
+abbrev pub put : (ℕ → List ℕ) → List ℕ → Place → Write
+put f ps (Found a n) = record { answer = 0; pixels = sets ps a (f n); altered = altered ps (sets ps a (f n)) }
+put f ps Outside = record { answer = 13; pixels = ps; altered = 0 }
+put f ps Beside = record { answer = 0; pixels = ps; altered = 0 }
+put f ps Large = record { answer = 5; pixels = ps; altered = 0 }
 
 module _ (total w h line ofs len : ℕ) where
   range-is : scanlineRange total w h line ofs len ≡ ranged (eqb w 0) (linePlace total w h line ofs len)
@@ -139,26 +143,42 @@ module _ (ps : List ℕ) (w h line ofs len : ℕ) where
       n : ℕ
       n = lineLength w ofs len
 
-      leaves : Bool → Bool → Bool → Part
+      leaves : Bool → Bool → Bool → Write
       leaves a b i =
           let k : ℕ = asked ((5 is a) ∷ (13 is (not b || i)) ∷ []) in
-          record { answer = k; pixels = cond (eqb k 0 && b) (sets ps s (f n)) ps }
+          let after : List ℕ = cond (eqb k 0 && b) (sets ps s (f n)) ps in
+          record { answer = k; pixels = after; altered = cond (eqb k 0) (altered ps after) 0 }
+
+      wrote : ℕ → Write
+      wrote m = record { answer = 0; pixels = ps; altered = m }
 
       go : (a b i : Bool) → leaves a b i ≡ put f ps (cond a (cond b (cond i (Found s n) Outside) Beside) Large)
       go false b i = refl
       go true true true = refl
       go true true false = refl
-      go true false i = refl
+      go true false i = ap wrote (altered-same ps)
+
+-- what an accepted call hands back
+abbrev accepted : ℕ → Altered
+accepted m = record { answer = 0; altered = m }
+
+-- what was counted is what the rule counts
+pub counted : {rule before after : List ℕ} {n : ℕ} → Counted rule before after n → accepted n ≡ accepted (altered before rule)
+counted {before = before} w = ap accepted (w .altered ∙ ap (altered before) (w .pixels))
 
 -- Calls: p is the place that the code found, q the case that it took -----------------------------------------------------
 
 module _ (ps : List ℕ) (w h line ofs len : ℕ) (p q : Place) (e : p ≡ linePlace (length ps) w h line ofs len) (k : p ≡ q) where
-  pub gives-written : (f : ℕ → List ℕ) (a : ℕ) (qs : List ℕ) → a ≡ put f ps q .answer → qs ≡ put f ps q .pixels
-      → Gives (lineWritten ps w h line ofs len (f (lineLength w ofs len))) a qs
-  gives-written f a qs ea eq =
-      let r : lineWritten ps w h line ofs len (f (lineLength w ofs len)) ≡ put f ps q =
+  pub gives : (f : ℕ → List ℕ) (r : Altered) (qs : List ℕ) → r ≡ record { answer = put f ps q .answer; altered = put f ps q .altered }
+      → qs ≡ put f ps q .pixels → Gives (lineWritten ps w h line ofs len (f (lineLength w ofs len))) r qs
+  gives f r qs er eq =
+      let y : lineWritten ps w h line ofs len (f (lineLength w ofs len)) ≡ put f ps q =
       written-is ps w h line ofs len f ∙ ap (put f ps) (sym e ∙ k) in
-      record { answer = ea ∙ sym (ap (λ (x : Part). x .answer) r); pixels = eq ∙ sym (ap (λ (x : Part). x .pixels) r) }
+      record {
+        answer = ap (λ (x : Altered). x .answer) er ∙ sym (ap (λ (x : Write). x .answer) y);
+        altered = ap (λ (x : Altered). x .altered) er ∙ sym (ap (λ (x : Write). x .altered) y);
+        pixels = eq ∙ sym (ap (λ (x : Write). x .pixels) y);
+      }
 
 -- the part that a range names is the rule's
 module _ (lent : RefT (List ℕ)) (w h line ofs len : ℕ) (g : ScanlineRange) (e : g ≡ scanlineRange (length (now lent)) w h line ofs len) where

@@ -22,6 +22,10 @@ rows-all at row s p r n e h l =
     let k : r ≡ n = omega arith in
     e ∙ ap (λ (j : ℕ). writeRows j at row s) k
 
+-- where the next row begins
+pub next-row : (r pitch : ℕ) → (r + 1) * pitch ≡ r * pitch + pitch
+next-row r pitch = rw (add-one r) (suc-mul r pitch)
+
 -- Chunks -------------------------------------------------------------------------------------------------------------
 
 cut-both : (w k d chunk m : ℕ) → chunk ≡ min k d → m ≡ min w chunk → m ≡ min (min w k) d
@@ -50,5 +54,4 @@ chunk-is l k stride w from chunk m ef ec em = go (lt-or-le (length l) k)
 
 pub next-chunk : (len r stride from chunk : ℕ) → from ≡ min (r * stride) len → chunk ≡ min stride (len - from) → from + chunk ≡ min ((r + 1) * stride) len
 next-chunk len r stride from chunk ef ec =
-    let e : (r + 1) * stride ≡ r * stride + stride = rw (add-one r) (suc-mul r stride) in
-    omega arith
+    omega (arith, next-row r stride)

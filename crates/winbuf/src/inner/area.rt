@@ -1,23 +1,26 @@
-// The rows of a rectangle of pixels: filled, or copied from another slice.
+// The rows of a rectangle of pixels: filled, or copied from another slice. What fills or blits returns how many pixels differ afterwards.
 ghost use mathlib.Core.Path.{_≡_};
-ghost use Prim.Native.Nat.{_+_, _*_};
+ghost use Prim.Native.Nat.{_+_, _*_, _≤_};
 ghost use lib.ListN.{length, take, replicate};
 ghost use Rattle.winbuf.specs.Pixels.{writeRows, part};
-ghost use Rattle.winbuf.specs.Rows.{Fit, Inside};
+ghost use Rattle.winbuf.specs.Rows.{Fit, Inside, Counted};
 use super::least;
 use super::row::copy_part;
 use super::row::fill_part;
+use super::row::set_part;
 
 // n rows of w pixels become `v`.
-pub fn fill_rows(px: &mut [u32], at: usize, pitch: usize, w: u16, n: usize, v: u32)
-    requires { ⌜ Fit (length (now px)) at pitch w n ⌝ }
-    ensures { λ _. ⌜ now (px .exit) ≡ writeRows n (λ r. at + r * pitch) (λ r. replicate w v) (now (px .entry)) ⌝ }
+pub fn fill_rows(px: &mut [u32], at: usize, pitch: usize, w: u16, n: usize, v: u32) -> usize
+    requires { ⌜ Fit (length (now px)) at pitch w n × (w ≤ pitch) ⌝ }
+    ensures { λ k. ⌜ Counted (writeRows n (λ r. at + r * pitch) (λ r. replicate w v) (now (px .entry))) (now (px .entry)) (now (px .exit)) k ⌝ }
 {
+    let mut altered: usize = 0;
     let mut r: usize = 0;
     while r < n {
-        fill_part(px, at + r * pitch, w, v);
+        altered += fill_part(px, at + r * pitch, w, v);
         r += 1;
     }
+    altered
 }
 
 // n rows of w pixels, from rows `step` apart in `src`.
@@ -50,19 +53,21 @@ pub fn blit_rows(
     stride: usize,
     w: u16,
     n: usize,
-)
-    requires { ⌜ Fit (length (now px)) at pitch w n ⌝ }
-    ensures { λ _. ⌜ now (px .exit) ≡ writeRows n (λ r. at + r * pitch) (λ r. take w (part (r * stride) stride (now (src .entry)))) (now (px .entry)) ⌝ }
+) -> usize
+    requires { ⌜ Fit (length (now px)) at pitch w n × (w ≤ pitch) ⌝ }
+    ensures { λ k. ⌜ Counted (writeRows n (λ r. at + r * pitch) (λ r. take w (part (r * stride) stride (now (src .entry)))) (now (px .entry))) (now (px .entry)) (now (px .exit)) k ⌝ }
 {
+    let mut altered: usize = 0;
     let mut r: usize = 0;
     let mut from: usize = 0;
     while r < n {
         let chunk = least(stride, src.len() - from);
         let m = least(w as usize, chunk) as u16;
-        copy_part(px, at + r * pitch, src, from, m);
+        altered += set_part(px, at + r * pitch, src, from, m);
         from += chunk;
         r += 1;
     }
+    altered
 }
 
 // An area of a window becomes `v`.
@@ -75,9 +80,9 @@ pub fn fill_area(
     w: u16,
     n: usize,
     v: u32,
-)
+) -> usize
     requires { ⌜ Inside (length (now px)) base pitch left top w n ⌝ }
-    ensures { λ _. ⌜ now (px .exit) ≡ writeRows n (λ r. base + (top + r) * pitch + left) (λ r. replicate w v) (now (px .entry)) ⌝ }
+    ensures { λ k. ⌜ Counted (writeRows n (λ r. base + (top + r) * pitch + left) (λ r. replicate w v) (now (px .entry))) (now (px .entry)) (now (px .exit)) k ⌝ }
 {
     fill_rows(px, base + top * pitch + left, pitch, w, n, v)
 }
@@ -93,9 +98,9 @@ pub fn blit_area(
     n: usize,
     src: &[u32],
     stride: usize,
-)
+) -> usize
     requires { ⌜ Inside (length (now px)) base pitch left top w n ⌝ }
-    ensures { λ _. ⌜ now (px .exit) ≡ writeRows n (λ r. base + (top + r) * pitch + left) (λ r. take w (part (r * stride) stride (now (src .entry)))) (now (px .entry)) ⌝ }
+    ensures { λ k. ⌜ Counted (writeRows n (λ r. base + (top + r) * pitch + left) (λ r. take w (part (r * stride) stride (now (src .entry)))) (now (px .entry))) (now (px .entry)) (now (px .exit)) k ⌝ }
 {
     blit_rows(px, base + top * pitch + left, pitch, src, stride, w, n)
 }

@@ -39,7 +39,7 @@ pub fn widen(px: &mut [u32], w0: u16, w1: u16, n: usize)
             left -= 1;
         }
         // row 0 is in place
-        fill_part(px, w0 as usize, w1 - w0, 0)
+        fill_part(px, w0 as usize, w1 - w0, 0);
     }
 }
 

@@ -3,7 +3,9 @@ ghost use mathlib.Core.Path.{_≡_};
 ghost use Prim.Native.Nat.{_+_, _≤_};
 ghost use lib.ListN.{length, replicate};
 ghost use lib.Seq.{sets};
+ghost use Rattle.winbuf.specs.Altered.{differs};
 ghost use Rattle.winbuf.specs.Pixels.{part};
+ghost use Rattle.winbuf.specs.Rows.{Counted};
 
 // n pixels of `src` from `from` on go to `at` on.
 pub fn copy_part(px: &mut [u32], at: usize, src: &[u32], from: usize, n: u16)
@@ -17,16 +19,42 @@ pub fn copy_part(px: &mut [u32], at: usize, src: &[u32], from: usize, n: u16)
     }
 }
 
-// n pixels from `at` on become `v`.
-pub fn fill_part(px: &mut [u32], at: usize, n: u16, v: u32)
-    requires { ⌜ at + n ≤ length (now px) ⌝ }
-    ensures { λ _. ⌜ now (px .exit) ≡ sets (now (px .entry)) at (replicate n v) ⌝ }
+// 1 where the two differ: what a write alters of one pixel.
+fn differs(a: u32, b: u32) -> u32
+    ensures { λ r. ⌜ r ≡ differs a b ⌝ }
 {
-    let mut i = 0;
+    if a == b { 0 } else { 1 }
+}
+
+// The same as `copy_part`; returns how many pixels differ afterwards.
+pub fn set_part(px: &mut [u32], at: usize, src: &[u32], from: usize, n: u16) -> usize
+    requires { ⌜ (at + n ≤ length (now px)) × (from + n ≤ length (now src)) ⌝ }
+    ensures { λ r. ⌜ Counted (sets (now (px .entry)) at (part from n (now (src .entry)))) (now (px .entry)) (now (px .exit)) r ⌝ }
+{
+    let mut altered: u32 = 0;
+    let mut i: u16 = 0;
     while i < n {
+        let v = src[from + i as usize];
+        altered += differs(px[at + i as usize], v);
         px[at + i as usize] = v;
         i += 1;
     }
+    altered as usize
+}
+
+// n pixels from `at` on become `v`; returns how many differ afterwards.
+pub fn fill_part(px: &mut [u32], at: usize, n: u16, v: u32) -> usize
+    requires { ⌜ at + n ≤ length (now px) ⌝ }
+    ensures { λ r. ⌜ Counted (sets (now (px .entry)) at (replicate n v)) (now (px .entry)) (now (px .exit)) r ⌝ }
+{
+    let mut altered: u32 = 0;
+    let mut i: u16 = 0;
+    while i < n {
+        altered += differs(px[at + i as usize], v);
+        px[at + i as usize] = v;
+        i += 1;
+    }
+    altered as usize
 }
 
 // Every pixel becomes `v`: as many as a window has, and so no row.

@@ -1,6 +1,7 @@
 -- `blit_area`: rows of an area.
 use mathlib.Core.Path.{_∙_}
 use Prim.Native.Nat.{_*_}
+use native.Mathlib.Omega.{arith}
 use lib.ListN.{length, take}
 use Rattle.winbuf.specs.Pixels.{part}
 use Rattle.winbuf.proofs.rows.Places.{area-fits, area-rows}
@@ -20,7 +21,7 @@ add-blit-rows-2 c = search needs
 blit-rows-requires : tie.Need-blit-rows-requires
 blit-rows-requires c κs =
     let a = c .before .before .before .args in
-    area-fits (length (a .px .now)) (a .base) (a .pitch) (a .left) (a .top) (a .w) (a .n) (c .before .before .before .pre)
+    (area-fits (length (a .px .now)) (a .base) (a .pitch) (a .left) (a .top) (a .w) (a .n) (c .before .before .before .pre), omega arith)
 
 same-length : tie.Need-same-length
 same-length c = search needs
@@ -28,9 +29,14 @@ same-length c = search needs
 returns : tie.Need-returns
 returns c =
     let a = c .before .before .before .before .before .before .args in
-    c .before .before .blit-rows .ensures
-    ∙ area-rows (length (a .px .now)) (a .base) (a .pitch) (a .left) (a .top) (a .w) (a .n) (c .before .before .before .before .before .before .pre)
-    (λ r. take (a .w) (part (r * a .stride) (a .stride) (a .src .now))) (a .px .now)
+    let f = c .before .before .blit-rows .ensures in
+    record {
+      pixels =
+          f .pixels
+          ∙ area-rows (length (a .px .now)) (a .base) (a .pitch) (a .left) (a .top) (a .w) (a .n) (c .before .before .before .before .before .before .pre)
+          (λ r. take (a .w) (part (r * a .stride) (a .stride) (a .src .now))) (a .px .now);
+      altered = f .altered;
+    }
 
 pub blit-area-spec : {M : Type 1} → statement M
 blit-area-spec =

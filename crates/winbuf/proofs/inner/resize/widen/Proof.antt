@@ -30,7 +30,7 @@ loop-again c =
     let m = c .before .before .before .before .before .before .move-up in
     let f = c .before .before .fill-part in
     let e : suc (l .left - 1) ≡ l .left = omega arith in (
-      widen-step (l .px) (m .last .0) (f .last .0) (a .w0) (a .w1) (a .n) (l .left - 1) (omega arith) (omega arith) (omega arith) (m .ensures) (f .ensures)
+      widen-step (l .px) (m .last .0) (f .last .0) (a .w0) (a .w1) (a .n) (l .left - 1) (omega arith) (omega arith) (omega arith) (m .ensures) (f .ensures .pixels)
           ∙ ap (λ (j : ℕ). writeRows j (λ k. k * a .w1) (wide (a .w0) (a .w1) (l .px)) (l .px)) e
           ∙ l .inv .0,
       f .kept .0 ∙ (m .kept .0 ∙ l .inv .1),
@@ -93,7 +93,7 @@ returns c =
     let l = c .before .before .before .before .before .loop in
     let f = c .before .before .fill-part2 in
     let z : 1 ≡ l .left = omega arith in
-    widen-one (l .px) (f .last .0) (a .w0) (a .w1) (a .n) (omega arith) (omega arith) (omega arith) (f .ensures)
+    widen-one (l .px) (f .last .0) (a .w0) (a .w1) (a .n) (omega arith) (omega arith) (omega arith) (f .ensures .pixels)
     ∙ ap (λ (j : ℕ). writeRows j (λ k. k * a .w1) (wide (a .w0) (a .w1) (l .px)) (l .px)) z
     ∙ l .inv .0
 
