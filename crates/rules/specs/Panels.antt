@@ -60,10 +60,18 @@ unfoldable pub played : Held → List Act → Held
 played h [] = h
 played h (a ∷ l) = played (acted h a) l
 
--- the answers to the calls on a window, in their order
-unfoldable pub answers : ℕ → Held → List Act → List ℕ
-answers id h [] = []
-answers id h (a ∷ l) = cond (eqb (a .window) id) (outcome h a .answer ∷ answers id (acted h a) l) (answers id (acted h a) l)
+-- what a call hands back: its answer, and how many pixels it altered
+pub record Reply : Type 0 where
+  pub answer : ℕ
+  pub altered : ℕ
+
+abbrev pub reply : Outcome → Reply
+reply o = record { answer = o .answer; altered = o .altered }
+
+-- the replies to the calls on a window, in their order
+unfoldable pub replies : ℕ → Held → List Act → List Reply
+replies id h [] = []
+replies id h (a ∷ l) = cond (eqb (a .window) id) (reply (outcome h a) ∷ replies id (acted h a) l) (replies id (acted h a) l)
 
 -- the next redraw
 abbrev pub redrawn : Held → Bool → ℕ → ℕ → List ℕ → Outcome
@@ -78,9 +86,9 @@ pub record Agrees (e : Held) (i j : ℕ) (us vs : List Write) (zs : List Act) : 
   -- "and so the same next redraw": answer, screen and group, told or not, at any size and on any screen
   pub redraw : (told : Bool) (w h : ℕ) (screen : List ℕ)
       → redrawn (played e zs) told w h screen ≡ redrawn (played e (map (on i) us ++ map (on j) vs)) told w h screen
-  -- each list is answered as if there were no other
-  pub one : answers i e zs ≡ answers i e (map (on i) us)
-  pub other : answers j e zs ≡ answers j e (map (on j) vs)
+  -- each list is answered, and its altered pixels are counted, as if there were no other
+  pub one : replies i e zs ≡ replies i e (map (on i) us)
+  pub other : replies j e zs ≡ replies j e (map (on j) vs)
 
 -- "From any one session and store, for every two lists of fills, blits and marks, one on each of two different windows": a group that any
 -- list of calls leaves, a store of any length, and calls that may be refused

@@ -12,14 +12,16 @@ use Rattle.geom.specs.Questions.{Question, _is_, asked}
 use Rattle.geom.specs.Geom.{width, height, smallRect, isEmpty, meets, common}
 use Rattle.geom.proofs.basics.Tests.{is-false, cond-no}
 use Rattle.geom.proofs.basics.Lists.{All}
+use Rattle.winbuf.specs.Altered.{altered}
+use Rattle.winbuf.proofs.rows.Altered.{altered-same}
 use Rattle.window.specs.Window.{Win}
 use Rattle.rules.specs.Group as Group
 use Rattle.rules.specs.Store as Store
 use Rattle.rules.specs.Group.{Group, winAt, someWin, theWin, withWindows, setWin, withMark}
 use Rattle.rules.specs.Store.{bounds, dirtied, filledAt, blitAt}
 use Rattle.rules.specs.Calls.{Call, does, after}
-use Rattle.rules.specs.Panels.{Write, fill, blit, mark, Act, on, Interleaves, none, first, second, Held, callOf, outcome, acted, played, answers, redrawn, EitherOrder}
-use Rattle.rules.proofs.store.Parts.{Inside, inside-none, inside-cond, inside-length, parts-comm}
+use Rattle.rules.specs.Panels.{Write, fill, blit, mark, Act, on, Interleaves, none, first, second, Held, callOf, outcome, acted, played, Reply, reply, replies, redrawn, EitherOrder}
+use Rattle.rules.proofs.store.Parts.{Inside, inside-none, inside-cond, inside-length, parts-comm, parts-altered}
 use Rattle.rules.proofs.store.Fill.{fill-inside}
 use Rattle.rules.proofs.store.Blit.{blit-inside}
 use Rattle.rules.proofs.group.Invariant.{Ok}
@@ -86,11 +88,22 @@ acts h i (fill a v) = by-yes h i (fill a v) (cond-set (h .group) i (meets a (bou
 acts h i (blit a d stride) = by-yes h i (blit a d stride) (cond-set (h .group) i (isEmpty a) _ _ (unchanged (h .group) i) refl)
 acts h i mark = by-yes h i mark refl
 
+-- where a write is refused nothing is altered
+altered-cond : (t : Bool) (s s′ : List ℕ) → cond t (altered s s′) 0 ≡ altered s (cond t s′ s)
+altered-cond true s s′ = refl
+altered-cond false s s′ = sym (altered-same s)
+
 answer-is : (h : Held) (i : ℕ) (w : Write) → outcome h (on i w) .answer ≡ asked (asks w (seen i h))
 unfolding does Store.fill Store.blit Group.mark
 answer-is h i (fill a v) = refl
 answer-is h i (blit a d stride) = refl
 answer-is h i mark = refl
+
+altered-is : (h : Held) (i : ℕ) (w : Write) → outcome h (on i w) .altered ≡ altered (h .store) (store-after i w (seen i h) (h .store))
+unfolding does Store.fill Store.blit Group.mark
+altered-is h i (fill a v) = altered-cond (yes (fill a v) (seen i h)) (h .store) _
+altered-is h i (blit a d stride) = altered-cond (yes (blit a d stride) (seen i h)) (h .store) _
+altered-is h i mark = sym (altered-same (h .store))
 
 -- it keeps to its window's part of the store
 store-inside : (i : ℕ) (w : Write) (o : Seen) → width (theWin (o .window) .at) * height (theWin (o .window) .at) ≤ o .c
@@ -143,12 +156,24 @@ acts-comm h ok a b ne =
     })
     ∙ sym (both h ok b a ne)
 
--- an act on another window changes no answer
-answer-other : (h : Held) → Ok (h .group) → (a b : Act) → a .window ≢ b .window → outcome (acted h b) a .answer ≡ outcome h a .answer
-answer-other h ok a b ne =
-    answer-is (acted h b) (a .window) (a .write)
-    ∙ ap (λ (o : Seen). asked (asks (a .write) o)) (seen-other h ok b (a .window) ne)
-    ∙ sym (answer-is h (a .window) (a .write))
+-- an act on another window changes neither answer nor count
+reply-other : (h : Held) → Ok (h .group) → (a b : Act) → a .window ≢ b .window → reply (outcome (acted h b) a) ≡ reply (outcome h a)
+reply-other h ok a b ne =
+    let i = a .window in
+    let j = b .window in
+    let o = seen i h in
+    let q = seen j h in
+    let same : seen i (acted h b) ≡ o = seen-other h ok b i ne in
+    let answer : outcome (acted h b) a .answer ≡ outcome h a .answer =
+    answer-is (acted h b) i (a .write) ∙ ap (λ (x : Seen). asked (asks (a .write) x)) same ∙ sym (answer-is h i (a .write)) in
+    let count : outcome (acted h b) a .altered ≡ outcome h a .altered =
+    altered-is (acted h b) i (a .write)
+    ∙ ap (λ (x : Seen). altered (acted h b .store) (store-after i (a .write) x (acted h b .store))) same
+    ∙ ap (λ (k : Held). altered (k .store) (store-after i (a .write) o (k .store))) (acts h j (b .write))
+    ∙ parts-altered (h .group .c) i j ne
+    (store-inside i (a .write) o (ok .fits i .area≤)) (store-inside j (b .write) q (ok .fits j .area≤)) (h .store)
+    ∙ sym (altered-is h i (a .write)) in
+    λ k. record { answer = answer k; altered = count k }
 
 -- Lists of acts --------------------------------------------------------------------------------------------------------
 
@@ -189,24 +214,24 @@ module _ (i j : ℕ) (ne : i ≢ j) where
   one-after-other h ok (second {a} {xs} {ys} r) p q =
       one-after-other (acted h a) (ok-acted h a ok) r p (q .1) ∙ past h ok a (q .0) xs ys p
 
-  -- an act on j changes no answer to a list on i
-  unheard : (h : Held) → Ok (h .group) → (b : Act) → b .window ≡ j → (xs : List Act) → AllOn i xs → answers i (acted h b) xs ≡ answers i h xs
-  unfolding answers
+  -- an act on j changes no reply to a list on i
+  unheard : (h : Held) → Ok (h .group) → (b : Act) → b .window ≡ j → (xs : List Act) → AllOn i xs → replies i (acted h b) xs ≡ replies i h xs
+  unfolding replies
   unheard h ok b q [] p = refl
   unheard h ok b q (a ∷ xs) p =
       let d = apart (p .0) q in
-      let rest : answers i (acted (acted h b) a) xs ≡ answers i (acted h a) xs =
-      ap (λ (k : Held). answers i k xs) (sym (acts-comm h ok a b d)) ∙ unheard (acted h a) (ok-acted h a ok) b q xs (p .1) in
-      λ k. cond (eqb (a .window) i) (answer-other h ok a b d k ∷ rest k) (rest k)
+      let rest : replies i (acted (acted h b) a) xs ≡ replies i (acted h a) xs =
+      ap (λ (k : Held). replies i k xs) (sym (acts-comm h ok a b d)) ∙ unheard (acted h a) (ok-acted h a ok) b q xs (p .1) in
+      λ k. cond (eqb (a .window) i) (reply-other h ok a b d k ∷ rest k) (rest k)
 
-  own-answers : (h : Held) → Ok (h .group) → {xs ys zs : List Act} → Interleaves xs ys zs → AllOn i xs → AllOn j ys → answers i h zs ≡ answers i h xs
-  unfolding answers
-  own-answers h ok none p q = refl
-  own-answers h ok (first {a} r) p q =
-      ap (λ (l : List ℕ). cond (eqb (a .window) i) (outcome h a .answer ∷ l) l) (own-answers (acted h a) (ok-acted h a ok) r (p .1) q)
-  own-answers h ok (second {a} {xs} {ys} {zs} r) p q =
-      cond-no (λ (l : List ℕ). l ≡ answers i h xs) (eqb (a .window) i) _ _ (is-false (λ e. ne (sym (eqb-true _ _ e) ∙ q .0)))
-      (own-answers (acted h a) (ok-acted h a ok) r p (q .1) ∙ unheard h ok a (q .0) xs p)
+  own-replies : (h : Held) → Ok (h .group) → {xs ys zs : List Act} → Interleaves xs ys zs → AllOn i xs → AllOn j ys → replies i h zs ≡ replies i h xs
+  unfolding replies
+  own-replies h ok none p q = refl
+  own-replies h ok (first {a} r) p q =
+      ap (λ (l : List Reply). cond (eqb (a .window) i) (reply (outcome h a) ∷ l) l) (own-replies (acted h a) (ok-acted h a ok) r (p .1) q)
+  own-replies h ok (second {a} {xs} {ys} {zs} r) p q =
+      cond-no (λ (l : List Reply). l ≡ replies i h xs) (eqb (a .window) i) _ _ (is-false (λ e. ne (sym (eqb-true _ _ e) ∙ q .0)))
+      (own-replies (acted h a) (ok-acted h a ok) r p (q .1) ∙ unheard h ok a (q .0) xs p)
 
 -- The promise ------------------------------------------------------------------------------------------------------------
 
@@ -219,8 +244,8 @@ either-order c ks s i j ne us vs zs r =
     record {
       end = end;
       redraw = λ told w h screen. ap (λ (k : Held). redrawn k told w h screen) end;
-      one = own-answers i j ne e ok r (all-on i us) (all-on j vs);
-      other = own-answers j i (λ k. ne (sym k)) e ok (mirrored r) (all-on j vs) (all-on i us);
+      one = own-replies i j ne e ok r (all-on i us) (all-on j vs);
+      other = own-replies j i (λ k. ne (sym k)) e ok (mirrored r) (all-on j vs) (all-on i us);
     }
 
 -- so any two interleavings leave the same

@@ -9,9 +9,11 @@ use native.Mathlib.Omega.{arith}
 use lib.ListN.{length, getD}
 use lib.Seq.{sets}
 use Rattle.geom.proofs.basics.Tests.{lt-or-le}
+use Rattle.winbuf.specs.Altered.{altered}
 use Rattle.winbuf.specs.Pixels.{writeRows}
 use Rattle.winbuf.proofs.rows.Rows.{Off, length-writeRows, part-off}
 use Rattle.winbuf.proofs.rows.Written.{rows-comm}
+use Rattle.winbuf.proofs.rows.Altered.{altered-square}
 
 -- f writes n rows, the same to every list: row r goes `off` columns into row `first + r` of a picture, `pitch` wide, that begins at `base`;
 -- and the c places from there on hold these rows
@@ -90,3 +92,30 @@ parts-comm c i j {f} {g} ne p q s = go (lt-or-le i j)
     go (inr h) =
         let l : suc j ≤ i = omega arith in
         sym (before q p (omega (arith, mul-le-mul-right c l)) s)
+
+-- a place lies off one of the two parts
+off-one : (c i j k : ℕ) → i ≢ j → Off (i * c) c k ⊎ Off (j * c) c k
+off-one c i j k ne = go (lt-or-le k (i * c)) (lt-or-le k (i * c + c)) (lt-or-le i j)
+  where
+    go : (k < i * c) ⊎ (i * c ≤ k) → (k < i * c + c) ⊎ (i * c + c ≤ k) → (i < j) ⊎ (j ≤ i) → Off (i * c) c k ⊎ Off (j * c) c k
+    go (inl a) b h = inl (inl a)
+    go (inr a) (inr b) h = inl (inr b)
+    go (inr a) (inl b) (inl h) = inr (inl (omega (arith, mul-le-mul-right c h)))
+    go (inr a) (inl b) (inr h) = let l : suc j ≤ i = omega arith in inr (inr (omega (arith, mul-le-mul-right c l)))
+
+-- a write alters as many pixels after a write to another part as before it: at each place one of the two writes leaves what is there
+pub parts-altered : (c i j : ℕ) {f g : List ℕ → List ℕ} → i ≢ j → Inside (i * c) c f → Inside (j * c) c g → (s : List ℕ)
+    → altered (g s) (f (g s)) ≡ altered s (f s)
+parts-altered c i j {f} {g} ne p q s =
+    altered-square s (f s) (g s) (f (g s)) (inside-length p s) (inside-length q s) (inside-length p (g s) ∙ inside-length q s) each
+  where
+    each : (k : ℕ)
+        → ((getD s k 0 ≡ getD (f s) k 0) × (getD (g s) k 0 ≡ getD (f (g s)) k 0))
+        ⊎ ((getD s k 0 ≡ getD (g s) k 0) × (getD (f s) k 0 ≡ getD (f (g s)) k 0))
+    each k = go (off-one c i j k ne)
+      where
+        go : Off (i * c) c k ⊎ Off (j * c) c k
+            → ((getD s k 0 ≡ getD (f s) k 0) × (getD (g s) k 0 ≡ getD (f (g s)) k 0))
+            ⊎ ((getD s k 0 ≡ getD (g s) k 0) × (getD (f s) k 0 ≡ getD (f (g s)) k 0))
+        go (inl o) = inl (sym (inside-off p s k 0 o), sym (inside-off p (g s) k 0 o))
+        go (inr o) = inr (sym (inside-off q s k 0 o), sym (inside-off q (f s) k 0 o) ∙ ap (λ (l : List ℕ). getD l k 0) (parts-comm c i j ne p q s))

@@ -2,6 +2,7 @@
 use mathlib.Core.Path.{_≡_, refl, sym, ap, _∙_}
 use mathlib.Core.Bool.{Bool, true, false, cond}
 use mathlib.Core.List.{List, [], _∷_}
+use mathlib.Core.Logic.{_⊎_, inl, inr}
 use Prim.Native.Nat.{ℕ, zero, suc, _+_, _-_, _≤_, _<_}
 use native.Mathlib.Omega.{arith}
 use lib.Dec.{eqb}
@@ -57,6 +58,26 @@ altered-behind [] (y ∷ t) (suc k) vs l d = absurd (omega arith)
 altered-behind (x ∷ s) [] (suc k) vs l d = absurd (omega arith)
 altered-behind (x ∷ s) (y ∷ t) (suc k) vs l d =
     rw (sets-tail y t k vs) (omega (arith, differs-same y, altered-behind s t k vs (omega arith) d))
+
+-- two pairs of lists, of which at each place each pair holds one value, or both pairs hold the same
+pub altered-square : (a b c d : List ℕ) → length b ≡ length a → length c ≡ length a → length d ≡ length a
+    → ((k : ℕ) → ((getD a k 0 ≡ getD b k 0) × (getD c k 0 ≡ getD d k 0)) ⊎ ((getD a k 0 ≡ getD c k 0) × (getD b k 0 ≡ getD d k 0)))
+    → altered c d ≡ altered a b
+unfolding altered
+altered-square [] [] [] [] l m n h = refl
+altered-square [] (y ∷ b) c d l m n h = absurd (omega arith)
+altered-square [] [] (z ∷ c) d l m n h = absurd (omega arith)
+altered-square [] [] [] (u ∷ d) l m n h = absurd (omega arith)
+altered-square (x ∷ a) [] c d l m n h = absurd (omega arith)
+altered-square (x ∷ a) (y ∷ b) [] d l m n h = absurd (omega arith)
+altered-square (x ∷ a) (y ∷ b) (z ∷ c) [] l m n h = absurd (omega arith)
+altered-square (x ∷ a) (y ∷ b) (z ∷ c) (u ∷ d) l m n h =
+    let rest = altered-square a b c d (omega arith) (omega arith) (omega arith) (λ k. h (suc k)) in
+    go (h 0) rest
+  where
+    go : ((x ≡ y) × (z ≡ u)) ⊎ ((x ≡ z) × (y ≡ u)) → altered c d ≡ altered a b → differs z u + altered c d ≡ differs x y + altered a b
+    go (inl (p, q)) e = omega (arith, ap (differs x) (sym p) ∙ differs-same x, ap (differs z) (sym q) ∙ differs-same z)
+    go (inr (p, q)) e = rw (p, q) (ap (λ (k : ℕ). differs z u + k) e)
 
 -- Loops --------------------------------------------------------------------------------------------------------------
 
