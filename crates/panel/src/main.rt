@@ -29,6 +29,7 @@ fn main() {
     // The panel's pixels become 7 in the store, and by the redraw on the screen.
     let whole = Rect::new(0, 0, 2, 2);
     let filled = shown.session.fill(panel, whole, 7, &mut store);
+    check::expect(filled.altered == 4);
     let marked = filled.session.mark(panel);
     let drawn = marked.session.redraw(false, &store, &mut screen, 3, 2);
     check::expect(drawn.answer == 0);

@@ -3,7 +3,7 @@ ghost use mathlib.Core.Path.{_≡_};
 ghost use Prim.Native.Nat.{_-_, _*_, _≤_};
 ghost use lib.ListN.{length, take, drop};
 ghost use Rattle.rules.specs.Calls.{Call};
-ghost use Rattle.windows.specs.View.{group, Given, MeetsStore, MeetsScreen};
+ghost use Rattle.windows.specs.View.{group, done, Given, MeetsStore, MeetsAltered, MeetsScreen};
 ghost use Rattle.replay.specs.Called.{Picked, storeCall, screenCall, OnScreen};
 ghost use Rattle.replay.specs.Numbers.{num, idOf, rectAt, Sound};
 ghost use Rattle.script.specs.Kind as Kind;
@@ -17,41 +17,56 @@ use script::kind;
 use windows::Done;
 use windows::Listing;
 use windows::Session;
+use windows::Written;
 
 // The data of a blit are the numbers of the line after its first six.
-fn blit(s: Session, ns: &[u32; 4200], data: &[u32], store: &mut [u32]) -> Done
+fn blit(s: Session, ns: &[u32; 4200], data: &[u32], store: &mut [u32]) -> Written
     requires { ⌜ Given s ⌝ }
-    ensures { λ r. ⌜ MeetsStore (Call.Blit (idOf (now (ns .entry))) (rectAt (now (ns .entry)) 1) (now («data» .entry)) (num (now (ns .entry)) 5) (now (store .entry))) s r (now (store .exit)) ⌝ }
+    ensures { λ r. ⌜ MeetsAltered (Call.Blit (idOf (now (ns .entry))) (rectAt (now (ns .entry)) 1) (now («data» .entry)) (num (now (ns .entry)) 5) (now (store .entry))) s r (now (store .exit)) ⌝ }
 {
     let area = numbers::rect(ns, 1);
     let stride = numbers::wide(ns[5]);
     s.blit(numbers::id(ns), area, data, stride, store)
 }
 
-fn part(s: Session, ns: &[u32; 4200], all: &[u32], count: usize, store: &mut [u32]) -> Done
+fn part(s: Session, ns: &[u32; 4200], all: &[u32], count: usize, store: &mut [u32]) -> Written
     requires { ⌜ Given s × (6 ≤ count) × (count ≤ length (now all)) ⌝ }
-    ensures { λ r. ⌜ MeetsStore (Call.Blit (idOf (now (ns .entry))) (rectAt (now (ns .entry)) 1) (take (count - 6) (drop 6 (now (all .entry)))) (num (now (ns .entry)) 5) (now (store .entry))) s r (now (store .exit)) ⌝ }
+    ensures { λ r. ⌜ MeetsAltered (Call.Blit (idOf (now (ns .entry))) (rectAt (now (ns .entry)) 1) (take (count - 6) (drop 6 (now (all .entry)))) (num (now (ns .entry)) 5) (now (store .entry))) s r (now (store .exit)) ⌝ }
 {
     blit(s, ns, &all[6..count], store)
 }
 
+// A resize counts no pixels.
+fn resize(s: Session, ns: &[u32; 4200], store: &mut [u32]) -> Written
+    requires { ⌜ Given s ⌝ }
+    ensures { λ r. ⌜ MeetsStore (Call.Resize (idOf (now (ns .entry))) (num (now (ns .entry)) 1) (num (now (ns .entry)) 2) (now (store .entry))) s (done (r .session) (r .answer)) (now (store .exit)) ⌝ }
+{
+    let d = s.resize(numbers::id(ns), numbers::dims(ns, 1), store);
+    let session = d.session;
+    Written {
+        session,
+        answer: d.answer,
+        altered: 0,
+    }
+}
+
 // The calls that write the store.
-fn write(s: Session, line: Line, ns: &[u32; 4200], store: &mut [u32]) -> Done
+fn write(s: Session, line: Line, ns: &[u32; 4200], store: &mut [u32]) -> Written
     requires { ⌜ Given s × Sound line (now ns) × (Kind.resize ≤ line .kind) × (line .kind ≤ Kind.blit) ⌝ }
-    ensures { λ r. ⌜ Picked (storeCall (line .kind) (line .count) (now (ns .entry)) (now (store .entry))) (λ c. MeetsStore c s r (now (store .exit))) ⌝ }
+    ensures { λ r. ⌜ Picked (storeCall (line .kind) (line .count) (now (ns .entry)) (now (store .entry))) (λ c. MeetsStore c s (done (r .session) (r .answer)) (now (store .exit))) ⌝ }
 {
     let k = line.kind;
     match k {
         kind::FILL => s.fill(numbers::id(ns), numbers::rect(ns, 1), ns[5], store),
         kind::BLIT => part(s, ns, ns, line.count, store),
-        _ => s.resize(numbers::id(ns), numbers::dims(ns, 1), store),
+        _ => resize(s, ns, store),
     }
 }
 
-fn lent(s: Session, line: Line, ns: &[u32; 4200], store: &mut [u32], lent: usize) -> Done
+fn lent(s: Session, line: Line, ns: &[u32; 4200], store: &mut [u32], lent: usize) -> Written
     requires { ⌜ Given s × Sound line (now ns) × (Kind.resize ≤ line .kind) × (line .kind ≤ Kind.blit) × (lent ≤ length (now store)) ⌝ }
     ensures { λ r. ⌜ Picked (storeCall (line .kind) (line .count) (now (ns .entry)) (take lent (now (store .entry))))
-        (λ c. MeetsPart c lent (now (store .entry)) s r (now (store .exit))) ⌝ }
+        (λ c. MeetsPart c lent (now (store .entry)) s (done (r .session) (r .answer)) (now (store .exit))) ⌝ }
 {
     write(s, line, ns, &mut store[0..lent])
 }
@@ -68,8 +83,8 @@ pub fn stored(
         (λ c. Stores c p (now (store .entry)) r (now (store .exit))) ⌝ }
 {
     let s = p.session;
-    let done = lent(s, line, ns, store, p.lent);
-    p.answered(done, out)
+    let written = lent(s, line, ns, store, p.lent);
+    p.wrote(written, line.kind != kind::RESIZE, out)
 }
 
 // The calls that draw on the screen.

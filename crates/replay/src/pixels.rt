@@ -7,6 +7,7 @@ use crate::numbers;
 use crate::text;
 use script::Line;
 use script::kind;
+use winbuf::Altered;
 
 pub fn asked(line: Line, ns: &mut [u32; 4200], out: &mut [u8; 65536], at: usize) -> usize
     requires { ⌜ Sound line (now ns) × (Kind.scanline ≤ line .kind) × (line .kind ≤ Kind.region) × (at ≤ 65536) ⌝ }
@@ -33,6 +34,20 @@ fn put(answer: u32, part: &[u32], out: &mut [u8; 65536], at: usize) -> usize
         return text::end(out, then);
     }
     text::answer(out, at, answer)
+}
+
+// A line of the answer and, where it is 0, how many pixels were altered and then all of them.
+fn put_written(written: Altered, pixels: &[u32], out: &mut [u8; 65536], at: usize) -> usize
+    requires { ⌜ at ≤ 65536 ⌝ }
+    ensures { λ r. ⌜ r ≤ 65536 ⌝ }
+{
+    if written.answer == 0 {
+        let to = text::number(out, at, 0);
+        let then = text::count(out, to, written.altered);
+        let last = text::all(out, then, pixels);
+        return text::end(out, last);
+    }
+    text::answer(out, at, written.answer)
 }
 
 // The picture and the part of its scanline that a line names.
@@ -84,8 +99,8 @@ fn fill_scanline(ns: &mut [u32], count: usize, out: &mut [u8; 65536], at: usize)
 {
     let s = scan_of(ns);
     let value = ns[5];
-    let answer = winbuf::fill_scanline(&mut ns[6..count], s.w, s.h, s.line, s.ofs, s.len, value);
-    put(answer, &ns[6..count], out, at)
+    let written = winbuf::fill_scanline(&mut ns[6..count], s.w, s.h, s.line, s.ofs, s.len, value);
+    put_written(written, &ns[6..count], out, at)
 }
 
 // The data of the line, apart from its pixels, so that these can be written.
@@ -101,7 +116,7 @@ fn copied(ns: &[u32], n: usize) -> [u32; 4096]
     data
 }
 
-fn set(pixels: &mut [u32], s: Scan, data: &[u32], n: usize) -> u32
+fn set(pixels: &mut [u32], s: Scan, data: &[u32], n: usize) -> Altered
     requires { ⌜ n ≤ length (now «data») ⌝ }
 {
     winbuf::set_scanline(pixels, s.w, s.h, s.line, s.ofs, s.len, &data[0..n])
@@ -115,6 +130,6 @@ fn set_scanline(ns: &mut [u32], count: usize, out: &mut [u8; 65536], at: usize) 
     let n = numbers::wide(ns[5]);
     let data = copied(ns, n);
     let from = 6 + n;
-    let answer = set(&mut ns[from..count], s, &data, n);
-    put(answer, &ns[from..count], out, at)
+    let written = set(&mut ns[from..count], s, &data, n);
+    put_written(written, &ns[from..count], out, at)
 }

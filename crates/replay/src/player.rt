@@ -16,6 +16,7 @@ use script::Line;
 use script::kind;
 use windows::Done;
 use windows::Session;
+use windows::Written;
 
 // `lent` pixels of the store are lent. The next redraw or portion is lent `screen` pixels where `is_set`, and the next visible list `list`
 // numbers. `at` bytes of the output wait to be written; `lines` lines have been read.
@@ -77,6 +78,21 @@ impl Player {
         let session = done.session;
         self.session = session;
         self.at = text::answer(out, self.at, done.answer);
+        self
+    }
+
+    // A resize, a fill or a blit handed back a session and an answer; of a fill or a blit, the pixels altered are written too.
+    pub fn wrote(mut self, written: Written, counts: bool, out: &mut [u8; 65536]) -> Player
+        requires { ⌜ Ready self × Given (written .session) ⌝ }
+        ensures { λ r. ⌜ Next self (written .session) r ⌝ }
+    {
+        let session = written.session;
+        self.session = session;
+        if counts && written.answer == 0 {
+            self.at = text::counted(out, self.at, written.altered);
+        } else {
+            self.at = text::answer(out, self.at, written.answer);
+        }
         self
     }
 

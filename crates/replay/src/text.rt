@@ -71,6 +71,15 @@ pub fn more(out: &mut [u8; 65536], at: usize, n: u32) -> usize
     number(out, to, n as u64)
 }
 
+// The same of a count.
+pub fn count(out: &mut [u8; 65536], at: usize, n: usize) -> usize
+    requires { ⌜ at ≤ 65536 ⌝ }
+    ensures { λ r. ⌜ r ≤ 65536 ⌝ }
+{
+    let to = byte(out, at, b' ');
+    number(out, to, n as u64)
+}
+
 pub fn signed(out: &mut [u8; 65536], at: usize, z: i16) -> usize
     requires { ⌜ at ≤ 65536 ⌝ }
     ensures { λ r. ⌜ r ≤ 65536 ⌝ }
@@ -124,6 +133,16 @@ pub fn answer(out: &mut [u8; 65536], at: usize, answer: u32) -> usize
 {
     let to = number(out, at, answer as u64);
     end(out, to)
+}
+
+// A line of the answer 0 and a count.
+pub fn counted(out: &mut [u8; 65536], at: usize, n: usize) -> usize
+    requires { ⌜ at ≤ 65536 ⌝ }
+    ensures { λ r. ⌜ r ≤ 65536 ⌝ }
+{
+    let to = number(out, at, 0);
+    let then = count(out, to, n);
+    end(out, then)
 }
 
 // The line for what the program cannot lend or write.

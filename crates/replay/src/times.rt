@@ -18,22 +18,14 @@ fn asked(ns: &[u32], count: usize) -> Second
     rate::busiest(&ns[..count])
 }
 
-fn more(out: &mut [u8; 65536], at: usize, n: usize) -> usize
-    requires { ⌜ at ≤ 65536 ⌝ }
-    ensures { λ r. ⌜ r ≤ 65536 ⌝ }
-{
-    let to = text::byte(out, at, b' ');
-    text::number(out, to, n as u64)
-}
-
 fn put(second: Second, out: &mut [u8; 65536], at: usize) -> usize
     requires { ⌜ at ≤ 65536 ⌝ }
     ensures { λ r. ⌜ r ≤ 65536 ⌝ }
 {
     if second.answer == 0 {
         let to = text::number(out, at, 0);
-        let then = more(out, to, second.count);
-        let last = more(out, then, second.place);
+        let then = text::count(out, to, second.count);
+        let last = text::count(out, then, second.place);
         return text::end(out, last);
     }
     text::answer(out, at, second.answer)

@@ -4,7 +4,7 @@
 // Before `roq_start` the memory holds zeros or a session; before any other call, a session that `roq_start` and later calls left.
 ghost use mathlib.Core.Path.{_≡_};
 ghost use Rattle.rules.specs.Calls.{Call};
-ghost use Rattle.windows.specs.View.{group, done, Given, Meets, MeetsStore, MeetsScreen, Starts, Lists, Shares, placed};
+ghost use Rattle.windows.specs.View.{group, done, written, Given, Meets, MeetsStore, MeetsAltered, MeetsScreen, Starts, Lists, Shares, placed};
 ghost use Rattle.station.specs.Answers.{Creates, Pops};
 ghost use Rattle.station.specs.Events.{eventOf, Routes};
 use crate::events::RoqEvent;
@@ -13,6 +13,7 @@ use crate::values::RoqCreated;
 use crate::values::RoqPopped;
 use geom::Rect;
 use order::WinId;
+use winbuf::Altered;
 use windows::InView;
 use windows::Listing;
 use windows::Placed;
@@ -139,9 +140,9 @@ pub extern "C" fn roq_fill(
     area: Rect,
     colour: u32,
     store: &mut [u32],
-) -> u32
+) -> Altered
     requires { ⌜ Given (now s) ⌝ }
-    ensures { λ r. ⌜ MeetsStore (Call.Fill (id .0) area colour (now (store .entry))) (now (s .entry)) (done (now (s .exit)) r) (now (store .exit)) ⌝ }
+    ensures { λ r. ⌜ MeetsAltered (Call.Fill (id .0) area colour (now (store .entry))) (now (s .entry)) (written (now (s .exit)) r) (now (store .exit)) ⌝ }
 {
     let at = slot(id);
     let d = store::fill((*s).windows[at], (*s).shared, id, area, colour, store);
@@ -149,7 +150,7 @@ pub extern "C" fn roq_fill(
     (*s).windows[at] = w;
     let k = d.shared;
     (*s).shared = k;
-    d.answer
+    d.result
 }
 
 #[no_mangle]
@@ -160,9 +161,9 @@ pub extern "C" fn roq_blit(
     stride: usize,
     data: &[u32],
     store: &mut [u32],
-) -> u32
+) -> Altered
     requires { ⌜ Given (now s) ⌝ }
-    ensures { λ r. ⌜ MeetsStore (Call.Blit (id .0) area (now («data» .entry)) stride (now (store .entry))) (now (s .entry)) (done (now (s .exit)) r) (now (store .exit)) ⌝ }
+    ensures { λ r. ⌜ MeetsAltered (Call.Blit (id .0) area (now («data» .entry)) stride (now (store .entry))) (now (s .entry)) (written (now (s .exit)) r) (now (store .exit)) ⌝ }
 {
     let at = slot(id);
     let d = store::blit((*s).windows[at], (*s).shared, id, area, stride, data, store);
@@ -170,7 +171,7 @@ pub extern "C" fn roq_blit(
     (*s).windows[at] = w;
     let k = d.shared;
     (*s).shared = k;
-    d.answer
+    d.result
 }
 
 #[no_mangle]

@@ -4,6 +4,7 @@ ghost use Rattle.winbuf.specs.Pixels.{lineStart, scanline, fillScanline, setSca
 ghost use Rattle.winbuf.specs.Bare.{Gives, regionStart};
 ghost use Rattle.station.specs.Parts.{Lies};
 use stride::region_of;
+use winbuf::Altered;
 use winbuf::scanline_range;
 
 #[no_mangle]
@@ -15,7 +16,7 @@ pub extern "C" fn roq_fill_scanline(
     ofs: u32,
     len: u32,
     value: u32,
-) -> u32
+) -> Altered
     ensures { λ r. ⌜ Gives (fillScanline (now (pixels .entry)) width height line ofs len value) r (now (pixels .exit)) ⌝ }
 {
     winbuf::fill_scanline(pixels, width, height, line, ofs, len, value)
@@ -30,7 +31,7 @@ pub extern "C" fn roq_set_scanline(
     ofs: u32,
     len: u32,
     data: &[u32],
-) -> u32
+) -> Altered
     ensures { λ r. ⌜ Gives (setScanline (now (pixels .entry)) width height line ofs len (now («data» .entry))) r (now (pixels .exit)) ⌝ }
 {
     winbuf::set_scanline(pixels, width, height, line, ofs, len, data)

@@ -12,9 +12,10 @@ use Rattle.windows.specs.declared.Shared.{Shared}
 use Rattle.windows.specs.declared.Session.{Session}
 use Rattle.windows.specs.declared.Changed.{Changed}
 use Rattle.windows.specs.declared.SharedDone.{SharedDone}
+use Rattle.windows.specs.declared.WrittenOne.{WrittenOne}
 use Rattle.windows.specs.declared.CreatedOne.{CreatedOne}
 use Rattle.windows.specs.declared.FreeSlot.{FreeSlot}
-use Rattle.windows.specs.View.{group, windowAt, done, Given, Meets, MeetsStore, MeetsId}
+use Rattle.windows.specs.View.{group, windowAt, done, written, Given, Meets, MeetsStore, MeetsAltered, MeetsId}
 
 -- where the window of an id lies: at its number. Any place will do for a number that no window has
 pub record At (id at : ℕ) : Type 0 where
@@ -53,6 +54,11 @@ MeetsAt call id w k r =
 abbrev pub MeetsStoreAt : Call → ℕ → Window → Shared → Changed → List ℕ → Type 0
 MeetsStoreAt call id w k r store =
     (s : Session) (at : ℕ) → Holds id w k s at → MeetsStore call s (done (put at (r .window) (r .shared) s) (r .answer)) store
+
+-- the same of a fill or a blit
+abbrev pub MeetsAlteredAt : Call → ℕ → Window → Shared → WrittenOne → List ℕ → Type 0
+MeetsAlteredAt call id w k r store =
+    (s : Session) (at : ℕ) → Holds id w k s at → MeetsAltered call s (written (put at (r .window) (r .shared) s) (r .result)) store
 
 -- the same of a call that touches what the windows share and no window: every session that shares this, with what the call makes of it
 abbrev pub MeetsShared : Call → Shared → SharedDone → Type 0

@@ -7,6 +7,7 @@ use mathlib.Core.Option.{Option, none, some}
 use lib.ListN.{length, getD}
 use Rattle.geom.specs.Questions.{_is_, asked}
 use Rattle.geom.specs.Geom.{rect}
+use Rattle.winbuf.specs.declared.Altered.{Altered}
 use Rattle.window.specs.declared.Window.{Window}
 use Rattle.window.specs.declared.Event.{Event}
 use Rattle.window.specs.Window.{Win}
@@ -20,6 +21,7 @@ use Rattle.order.specs.declared.due.Walk.{Walk}
 use Rattle.order.specs.Ids.{ids}
 use Rattle.windows.specs.declared.Session.{Session}
 use Rattle.windows.specs.declared.Done.{Done}
+use Rattle.windows.specs.declared.Written.{Written}
 use Rattle.windows.specs.declared.NewId.{NewId}
 use Rattle.windows.specs.declared.NewId.the-variants.{Id, Absent}
 use Rattle.windows.specs.declared.Created.{Created}
@@ -96,6 +98,14 @@ pub record Meets (k : Call) (s : Session) (r : Done) : Type 0 where
 pub record MeetsStore (k : Call) (s : Session) (r : Done) (store : List ℕ) : Type 0 where
   pub meets : Meets k s r
   pub stored : store ≡ does (group s) k .store
+
+-- the same of a fill or a blit, which also gives the number of pixels altered
+pub record MeetsAltered (k : Call) (s : Session) (r : Written) (store : List ℕ) : Type 0 where
+  pub meets : MeetsStore k s (record { session = r .session; answer = r .answer }) store
+  pub altered : r .altered ≡ does (group s) k .altered
+
+abbrev pub written : Session → Altered → Written
+written s a = record { session = s; answer = a .answer; altered = a .altered }
 
 abbrev pub done : Session → ℕ → Done
 done s a = record { session = s; answer = a }

@@ -2,12 +2,14 @@
 ghost use mathlib.Core.Path.{_≡_};
 ghost use Prim.Native.Nat.{_<_};
 ghost use Rattle.rules.specs.Calls.{Call};
-ghost use Rattle.windows.specs.View.{done, Given, Meets, MeetsStore, MeetsScreen, MeetsEvent};
+ghost use Rattle.windows.specs.View.{done, written, Given, Meets, MeetsStore, MeetsAltered, MeetsScreen, MeetsEvent};
 ghost use Rattle.windows.specs.One.{put};
 use crate::Changed;
 use crate::Done;
 use crate::Popped;
 use crate::Session;
+use crate::Written;
+use crate::WrittenOne;
 use crate::events;
 use crate::one;
 use crate::one::slot;
@@ -32,6 +34,23 @@ impl Session {
         Done {
             session: self,
             answer: d.answer,
+        }
+    }
+
+    // The same of a fill or a blit.
+    fn put_written(mut self, at: usize, d: WrittenOne) -> Written
+        requires { ⌜ Given self × (at < 16) ⌝ }
+        ensures { λ r. ⌜ r ≡ written (put at (d .window) (d .shared) self) (d .result) ⌝ }
+    {
+        let window = d.window;
+        self.windows[at] = window;
+        let shared = d.shared;
+        self.shared = shared;
+        let result = d.result;
+        Written {
+            session: self,
+            answer: result.answer,
+            altered: result.altered,
         }
     }
 
@@ -89,22 +108,29 @@ impl Session {
         self.put(at, d)
     }
 
-    pub fn fill(self, id: WinId, area: Rect, colour: u32, store: &mut [u32]) -> Done
+    pub fn fill(self, id: WinId, area: Rect, colour: u32, store: &mut [u32]) -> Written
         requires { ⌜ Given self ⌝ }
-        ensures { λ r. ⌜ MeetsStore (Call.Fill (id .0) area colour (now (store .entry))) self r (now (store .exit)) ⌝ }
+        ensures { λ r. ⌜ MeetsAltered (Call.Fill (id .0) area colour (now (store .entry))) self r (now (store .exit)) ⌝ }
     {
         let at = slot(id);
         let d = store::fill(self.windows[at], self.shared, id, area, colour, store);
-        self.put(at, d)
+        self.put_written(at, d)
     }
 
-    pub fn blit(self, id: WinId, area: Rect, data: &[u32], stride: usize, store: &mut [u32]) -> Done
+    pub fn blit(
+        self,
+        id: WinId,
+        area: Rect,
+        data: &[u32],
+        stride: usize,
+        store: &mut [u32],
+    ) -> Written
         requires { ⌜ Given self ⌝ }
-        ensures { λ r. ⌜ MeetsStore (Call.Blit (id .0) area (now («data» .entry)) stride (now (store .entry))) self r (now (store .exit)) ⌝ }
+        ensures { λ r. ⌜ MeetsAltered (Call.Blit (id .0) area (now («data» .entry)) stride (now (store .entry))) self r (now (store .exit)) ⌝ }
     {
         let at = slot(id);
         let d = store::blit(self.windows[at], self.shared, id, area, stride, data, store);
-        self.put(at, d)
+        self.put_written(at, d)
     }
 
     pub fn route(self, e: Event) -> Done

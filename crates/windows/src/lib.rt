@@ -12,6 +12,7 @@
 use geom::Rect;
 use order::WinId;
 use order::due::Due;
+use winbuf::Altered;
 use window::Event;
 use window::Window;
 
@@ -64,6 +65,22 @@ pub struct SharedDone {
 pub struct Done {
     pub session: Session,
     pub answer: u32,
+}
+
+// What a fill or a blit makes of one window and of what the windows share; the answer, and how many pixels of the store differ.
+#[repr(C)]
+pub struct WrittenOne {
+    pub window: Window,
+    pub shared: Shared,
+    pub result: Altered,
+}
+
+// What a fill or a blit hands back: the session, the answer, and how many pixels of the store differ, none where the call was refused.
+#[repr(C)]
+pub struct Written {
+    pub session: Session,
+    pub answer: u32,
+    pub altered: usize,
 }
 
 // An id asked for, which is absent where the call was refused.

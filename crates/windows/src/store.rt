@@ -1,19 +1,21 @@
 // The calls that write the lent store, as functions of one window and of what the windows share: fill, blit and resize. Each asks its questions
 // and leaves the rest to a function translated from window.rs. There, `base` is the place in the store at which the window's pixels begin: its
-// number times C.
+// number times C. Fill and blit hand back how many pixels of the store differ afterwards (document 02, N3).
 ghost use mathlib.Core.Path.{_≡_};
 ghost use Prim.Native.Nat.{_≤_};
 ghost use lib.ListN.{length};
 ghost use Rattle.geom.specs.Geom.{rect};
 ghost use Rattle.winbuf.specs.Pixels.{resizedAt};
+ghost use Rattle.winbuf.specs.Rows.{Counted};
 ghost use Rattle.window.specs.Held.{Small, RepDamage, winOf};
 ghost use Rattle.window.specs.Inner.{Dirtied};
 ghost use Rattle.rules.specs.Store.{resizedWin, filledAt, blitAt};
 ghost use Rattle.rules.specs.Calls.{Call};
-ghost use Rattle.windows.specs.One.{Held, MeetsStoreAt};
+ghost use Rattle.windows.specs.One.{Held, MeetsStoreAt, MeetsAlteredAt};
 ghost use Rattle.windows.specs.Pixels.{Becomes, Stored, Resizable, setDamage, filledWin, blitWin};
 use crate::Changed;
 use crate::Shared;
+use crate::WrittenOne;
 use crate::one::is_used;
 use crate::small::is_small;
 use crate::small::is_small_size;
@@ -23,6 +25,7 @@ use geom::Pos;
 use geom::Rect;
 use geom::inner::is_empty;
 use order::WinId;
+use winbuf::Altered;
 use winbuf::inner::area::blit_area;
 use winbuf::inner::area::fill_area;
 use winbuf::inner::resize::resize_store;
@@ -31,6 +34,12 @@ use window::Window;
 use window::damage::Area;
 use window::damage::Damage;
 use window::damage::add_dirty;
+
+// A window's damage after a write, and how many pixels of the store differ.
+struct Painted {
+    damage: Damage,
+    altered: usize,
+}
 
 // A window's own pixels, from its corner.
 fn bounds(at: Area) -> Rect
@@ -49,10 +58,17 @@ fn damaged(old: Damage, size: Area, area: Rect) -> Damage
     add_dirty(old, size.w as u32, size.h as u32, area)
 }
 
-// The part of the area that lies in the window takes the colour; returns the window's damage.
-fn fill_rect(win: Window, base: usize, area: Rect, colour: u32, store: &mut [u32]) -> Damage
+// No pixel was written.
+fn unpainted(damage: Damage) -> Painted
+    ensures { λ r. ⌜ r ≡ record { damage = damage; altered = 0 } ⌝ }
+{
+    Painted { damage, altered: 0 }
+}
+
+// The part of the area that lies in the window takes the colour.
+fn fill_rect(win: Window, base: usize, area: Rect, colour: u32, store: &mut [u32]) -> Painted
     requires { ⌜ Stored (length (now store)) base win × Small area ⌝ }
-    ensures { λ r. ⌜ Becomes win (filledWin area (winOf win)) (setDamage r win) × (now (store .exit) ≡ filledAt base (winOf win) area colour (now (store .entry))) ⌝ }
+    ensures { λ r. ⌜ Becomes win (filledWin area (winOf win)) (setDamage (r .damage) win) × Counted (filledAt base (winOf win) area colour (now (store .entry))) (now (store .entry)) (now (store .exit)) (r .altered) ⌝ }
 {
     let size = win.at;
     let old = win.damage;
@@ -60,7 +76,7 @@ fn fill_rect(win: Window, base: usize, area: Rect, colour: u32, store: &mut [u32
     let cut = area.intersect(all);
     match cut {
         Intersection::Common(part) => {
-            fill_area(
+            let altered = fill_area(
                 store,
                 base,
                 size.w as usize,
@@ -70,16 +86,16 @@ fn fill_rect(win: Window, base: usize, area: Rect, colour: u32, store: &mut [u32
                 part.dims.h as usize,
                 colour,
             );
-            damaged(old, size, part)
+            let damage = damaged(old, size, part);
+            Painted { damage, altered }
         }
-        Intersection::Apart => old,
+        Intersection::Apart => unpainted(old),
         // never: question 14 holds of both
-        Intersection::Refused => old,
+        Intersection::Refused => unpainted(old),
     }
 }
 
-// Rows of the area take successive chunks of `stride` data, where they lie in the window; returns the window's
-// damage. An empty area is left alone.
+// Rows of the area take successive chunks of `stride` data, where they lie in the window. An empty area is left alone.
 fn blit_rect(
     win: Window,
     base: usize,
@@ -87,22 +103,22 @@ fn blit_rect(
     data: &[u32],
     stride: usize,
     store: &mut [u32],
-) -> Damage
+) -> Painted
     requires { ⌜ Stored (length (now store)) base win × Small area ⌝ }
-    ensures { λ r. ⌜ Becomes win (blitWin area (winOf win)) (setDamage r win) × (now (store .exit) ≡ blitAt base (winOf win) area (now («data» .entry)) stride (now (store .entry))) ⌝ }
+    ensures { λ r. ⌜ Becomes win (blitWin area (winOf win)) (setDamage (r .damage) win) × Counted (blitAt base (winOf win) area (now («data» .entry)) stride (now (store .entry))) (now (store .entry)) (now (store .exit)) (r .altered) ⌝ }
 {
     let size = win.at;
     let old = win.damage;
     if is_empty(area) {
-        return old;
+        return unpainted(old);
     }
     // the area is added uncut
-    let new = damaged(old, size, area);
+    let damage = damaged(old, size, area);
     let all = bounds(size);
     let cut = area.intersect(all);
     match cut {
         Intersection::Common(part) => {
-            blit_area(
+            let altered = blit_area(
                 store,
                 base,
                 size.w as usize,
@@ -113,11 +129,11 @@ fn blit_rect(
                 data,
                 stride,
             );
-            new
+            Painted { damage, altered }
         }
-        Intersection::Apart => new,
+        Intersection::Apart => unpainted(damage),
         // never: question 14 holds of both
-        Intersection::Refused => new,
+        Intersection::Refused => unpainted(damage),
     }
 }
 
@@ -158,28 +174,33 @@ pub fn fill(
     area: Rect,
     colour: u32,
     store: &mut [u32],
-) -> Changed
+) -> WrittenOne
     requires { ⌜ Held (id .0) win shared ⌝ }
-    ensures { λ r. ⌜ MeetsStoreAt (Call.Fill (id .0) area colour (now (store .entry))) (id .0) win shared r (now (store .exit)) ⌝ }
+    ensures { λ r. ⌜ MeetsAlteredAt (Call.Fill (id .0) area colour (now (store .entry))) (id .0) win shared r (now (store .exit)) ⌝ }
 {
     let mut window = win;
-    let mut answer: u32 = 1;
+    let mut result = Altered {
+        answer: 1,
+        altered: 0,
+    };
     let c = shared.c as usize;
     if store.len() == 16 * c {
-        answer = 3;
+        result.answer = 3;
         if is_used(win, id) {
-            answer = 5;
+            result.answer = 5;
             if is_small(area) {
-                answer = 0;
-                let damage = fill_rect(win, id.0 as usize * c, area, colour, store);
+                result.answer = 0;
+                let painted = fill_rect(win, id.0 as usize * c, area, colour, store);
+                let damage = painted.damage;
                 window.damage = damage;
+                result.altered = painted.altered;
             }
         }
     }
-    Changed {
+    WrittenOne {
         window,
         shared,
-        answer,
+        result,
     }
 }
 
@@ -191,31 +212,36 @@ pub fn blit(
     stride: usize,
     data: &[u32],
     store: &mut [u32],
-) -> Changed
+) -> WrittenOne
     requires { ⌜ Held (id .0) win shared ⌝ }
-    ensures { λ r. ⌜ MeetsStoreAt (Call.Blit (id .0) area (now («data» .entry)) stride (now (store .entry))) (id .0) win shared r (now (store .exit)) ⌝ }
+    ensures { λ r. ⌜ MeetsAlteredAt (Call.Blit (id .0) area (now («data» .entry)) stride (now (store .entry))) (id .0) win shared r (now (store .exit)) ⌝ }
 {
     let mut window = win;
-    let mut answer: u32 = 1;
+    let mut result = Altered {
+        answer: 1,
+        altered: 0,
+    };
     let c = shared.c as usize;
     if store.len() == 16 * c {
-        answer = 3;
+        result.answer = 3;
         if is_used(win, id) {
-            answer = 5;
+            result.answer = 5;
             if is_small(area) {
-                answer = 7;
+                result.answer = 7;
                 if 1 <= stride {
-                    answer = 0;
-                    let damage = blit_rect(win, id.0 as usize * c, area, data, stride, store);
+                    result.answer = 0;
+                    let painted = blit_rect(win, id.0 as usize * c, area, data, stride, store);
+                    let damage = painted.damage;
                     window.damage = damage;
+                    result.altered = painted.altered;
                 }
             }
         }
     }
-    Changed {
+    WrittenOne {
         window,
         shared,
-        answer,
+        result,
     }
 }
 

@@ -8,6 +8,7 @@ use lib.ListN.{replicate}
 use Rattle.geom.specs.Geom as Geom
 use Rattle.geom.specs.Geom.{rect}
 use Rattle.geom.specs.Lists as Lists
+use Rattle.winbuf.specs.Altered as Altered
 use Rattle.winbuf.specs.Pixels as Pixels
 use Rattle.window.specs.declared.Event.the-variants as Event
 use Rattle.window.specs.Window as Window
@@ -22,8 +23,9 @@ use Rattle.rules.specs.Calls as Calls
 use Rattle.rules.specs.Calls.{Call, Made, Create, Show, Mark, Pop, Resize, Fill, Route, Redraw, does, after}
 use Rattle.windows.specs.declared.Session.{Session}
 use Rattle.windows.specs.declared.Done.{Done}
+use Rattle.windows.specs.declared.Written.{Written}
 use Rattle.windows.specs.declared.Popped.{Popped}
-use Rattle.windows.specs.View.{group, Starts, MeetsStore, MeetsScreen, MeetsEvent, eventIn}
+use Rattle.windows.specs.View.{group, Starts, MeetsStore, MeetsAltered, MeetsScreen, MeetsEvent, eventIn}
 use Rattle.windows.specs.Run.{calls, Kept, Run, started, called}
 use Rattle.windows.proofs.demand.Runs.{made, calls-append, reached}
 
@@ -82,6 +84,7 @@ pub record Computed : Type 0 where
   pub resize-answer : does (after 4 created) resize .answer ≡ 0
   pub resize-store : does (after 4 created) resize .store ≡ store 0
   pub fill-store : does (after 4 shown) fill .store ≡ store 7
+  pub fill-altered : does (after 4 shown) fill .altered ≡ 4
   pub redraw-answer : does (after 4 marked) redraw .answer ≡ 0
   pub redraw-screen : does (after 4 marked) redraw .screen ≡ picture
   pub press-answer : does (after 4 redrawn) press .answer ≡ 0
@@ -89,13 +92,14 @@ pub record Computed : Type 0 where
   pub pop-event : does (after 4 popped) (Pop 0) .event ≡ some (Event.MouseDown 1 1 1)
 
 pub computed : Computed
-unfolding Geom.meets Geom.common Geom.contains Geom.containsRect Geom.pieces Geom.around Geom.ifAny Lists.outside Lists.outsideAll Lists.meetsOf Lists.listIntersect Pixels.writeRows Pixels.resizedAt Window.addDirty Window.anyContains Window.merges Window.mergeOrAppend Window.pushed Group.create Group.mark Order.show Visible.visible Events.route Events.pop Store.resize Store.fill Store.filledAt Draw.redraw Calls.does Calls.run Calls.after
+unfolding Geom.meets Geom.common Geom.contains Geom.containsRect Geom.pieces Geom.around Geom.ifAny Lists.outside Lists.outsideAll Lists.meetsOf Lists.listIntersect Altered.altered Pixels.writeRows Pixels.resizedAt Window.addDirty Window.anyContains Window.merges Window.mergeOrAppend Window.pushed Group.create Group.mark Order.show Visible.visible Events.route Events.pop Store.resize Store.fill Store.filledAt Draw.redraw Calls.does Calls.run Calls.after
 computed =
     record {
       create-answer = refl;
       resize-answer = refl;
       resize-store = refl;
       fill-store = refl;
+      fill-altered = refl;
       redraw-answer = refl;
       redraw-screen = refl;
       press-answer = refl;
@@ -131,12 +135,16 @@ next ks k same p m =
       ran = record { steps = _; run = called (p .run) m; all = calls-append (p .steps) _ ∙ (λ i. p .all i ++ (same i ∷ [])) };
     }
 
--- the store, the screen or the event that a call leaves
+-- the store, the screen, the count or the event that a call leaves
 pub stored : {j : Call} {s : Session} {r : Done} {l : List ℕ} (ks : List Call) (k : Call) → j ≡ k → Ran ks s → MeetsStore j s r l → l ≡ does (after 4 ks) k .store
 stored ks k same p m = m .stored ∙ (λ i. does (given p i) (same i) .store)
 
 pub drawn : {j : Call} {s : Session} {r : Done} {l : List ℕ} (ks : List Call) (k : Call) → j ≡ k → Ran ks s → MeetsScreen j s r l → l ≡ does (after 4 ks) k .screen
 drawn ks k same p m = m .shown ∙ (λ i. does (given p i) (same i) .screen)
+
+pub counted : {j : Call} {s : Session} {r : Written} {l : List ℕ} (ks : List Call) (k : Call) → j ≡ k → Ran ks s → MeetsAltered j s r l
+    → r .altered ≡ does (after 4 ks) k .altered
+counted ks k same p m = m .altered ∙ (λ i. does (given p i) (same i) .altered)
 
 pub told : {s : Session} {r : Popped} (ks : List Call) (k : Call) → Ran ks s → MeetsEvent k s r → eventIn (r .event) ≡ does (after 4 ks) k .event
 told ks k p m = m .event ∙ ap (λ (g : Group). does g k .event) (given p)

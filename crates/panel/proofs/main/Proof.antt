@@ -15,7 +15,7 @@ use Rattle.windows.specs.View.{done, eventIn}
 use Rattle.windows.proofs.demand.Runs.{by-meets, by-store, by-screen}
 use Rattle.panel.specs.Press.{isPress}
 use Rattle.panel.proofs.laws.Calls as calls
-use Rattle.panel.proofs.laws.Calls.{Next, next, begun, stored, drawn, told, computed, picture, store}
+use Rattle.panel.proofs.laws.Calls.{Next, next, begun, stored, counted, drawn, told, computed, picture, store}
 use Rattle.panel.proofs.main.Statement.{statement}
 use Rattle.panel.proofs.main.Tie as tie
 
@@ -42,19 +42,23 @@ shown c = next calls.resized (Show 0) refl (resized (c .before .before .before .
 fill : (c : tie.After-fill) → Fill 0 (c .before .before .new2 .result) 7 (c .before .before .before .before .before .before .before .resize .last .1 .1 .1 .0) ≡ calls.fill
 fill c = λ i. Fill 0 (c .before .before .new2 .ensures i) 7 (cleared (c .before .before .before .before .before .before .before) i)
 
-filled : (c : tie.After-fill) → Next calls.shown calls.fill (c .fill .result)
-filled c = next calls.shown calls.fill (fill c) (shown (c .before .before .before) .ran) (by-store refl (c .fill .ensures))
+filled : (c : tie.After-fill) → Next calls.shown calls.fill (done (c .fill .result .session) (c .fill .result .answer))
+filled c = next calls.shown calls.fill (fill c) (shown (c .before .before .before) .ran) (by-store refl (c .fill .ensures .meets))
 
 -- the store after the fill
 coloured : (c : tie.After-fill) → c .fill .last .1 .1 .1 .1 .0 ≡ store 7
-coloured c = stored calls.shown calls.fill (fill c) (shown (c .before .before .before) .ran) (c .fill .ensures) ∙ computed .fill-store
+coloured c = stored calls.shown calls.fill (fill c) (shown (c .before .before .before) .ran) (c .fill .ensures .meets) ∙ computed .fill-store
+
+-- and how many pixels it altered
+altered : (c : tie.After-fill) → c .fill .result .altered ≡ 4
+altered c = counted calls.shown calls.fill (fill c) (shown (c .before .before .before) .ran) (c .fill .ensures) ∙ computed .fill-altered
 
 marked : (c : tie.After-mark) → Next calls.filled (Mark 0) (c .mark .result)
-marked c = next calls.filled (Mark 0) refl (filled (c .before .before) .ran) (by-meets refl refl (c .mark .ensures))
+marked c = next calls.filled (Mark 0) refl (filled (c .before .before .before .before) .ran) (by-meets refl refl (c .mark .ensures))
 
 -- the code's redraw, with that store
-redraw : (c : tie.After-redraw) → Redraw false 3 2 (c .before .before .before .before .before .fill .last .1 .1 .1 .1 .0) (replicate 6 5) ≡ calls.redraw
-redraw c = λ i. Redraw false 3 2 (coloured (c .before .before .before .before .before) i) (replicate 6 5)
+redraw : (c : tie.After-redraw) → Redraw false 3 2 (c .before .before .before .before .before .before .before .fill .last .1 .1 .1 .1 .0) (replicate 6 5) ≡ calls.redraw
+redraw c = λ i. Redraw false 3 2 (coloured (c .before .before .before .before .before .before .before) i) (replicate 6 5)
 
 redrawn : (c : tie.After-redraw) → Next calls.marked calls.redraw (c .redraw .result)
 redrawn c = next calls.marked calls.redraw (redraw c) (marked (c .before .before .before) .ran) (by-screen (c .redraw .ensures))
@@ -112,6 +116,9 @@ slice-aggregate-fill c = search needs
 fill-requires : tie.Need-fill-requires
 fill-requires c κs = search needs
 
+expect-requires-4 : tie.Need-expect-requires-4
+expect-requires-4 c κs = eq-eqb (c .before .before .fill .result .altered) 4 (altered (c .before .before))
+
 mark-requires : tie.Need-mark-requires
 mark-requires c κs = search needs
 
@@ -124,26 +131,26 @@ slice-aggregate-redraw-2 c = search needs
 redraw-requires : tie.Need-redraw-requires
 redraw-requires c κs = search needs
 
-expect-requires-4 : tie.Need-expect-requires-4
-expect-requires-4 c κs = eq-eqb (c .before .before .redraw .result .answer) 0 (redrawn (c .before .before) .answer ∙ computed .redraw-answer)
+expect-requires-5 : tie.Need-expect-requires-5
+expect-requires-5 c κs = eq-eqb (c .before .before .redraw .result .answer) 0 (redrawn (c .before .before) .answer ∙ computed .redraw-answer)
 
 array-read-expect : tie.Need-array-read-expect
 array-read-expect c = search needs
 
-expect-requires-5 : tie.Need-expect-requires-5
-expect-requires-5 c κs = ap (λ (l : List ℕ). eqb (getD l 1 0) 7) (screen (c .before .before .before))
+expect-requires-6 : tie.Need-expect-requires-6
+expect-requires-6 c κs = ap (λ (l : List ℕ). eqb (getD l 1 0) 7) (screen (c .before .before .before))
 
 array-read-expect-2 : tie.Need-array-read-expect-2
 array-read-expect-2 c = search needs
 
-expect-requires-6 : tie.Need-expect-requires-6
-expect-requires-6 c κs = ap (λ (l : List ℕ). eqb (getD l 2 0) 5) (screen (c .before .before .before .before))
+expect-requires-7 : tie.Need-expect-requires-7
+expect-requires-7 c κs = ap (λ (l : List ℕ). eqb (getD l 2 0) 5) (screen (c .before .before .before .before))
 
 route-requires : tie.Need-route-requires
 route-requires c κs = search needs
 
-expect-requires-7 : tie.Need-expect-requires-7
-expect-requires-7 c κs = eq-eqb (c .before .route .result .answer) 0 (pressed (c .before) .answer ∙ computed .press-answer)
+expect-requires-8 : tie.Need-expect-requires-8
+expect-requires-8 c κs = eq-eqb (c .before .route .result .answer) 0 (pressed (c .before) .answer ∙ computed .press-answer)
 
 pop-requires : tie.Need-pop-requires
 pop-requires c κs = search needs
@@ -151,14 +158,14 @@ pop-requires c κs = search needs
 pop-requires-2 : tie.Need-pop-requires-2
 pop-requires-2 c κs = search needs
 
-expect-requires-8 : tie.Need-expect-requires-8
-expect-requires-8 c κs = eq-eqb (c .before .pop2 .result .answer) 0 (popped-again (c .before) .answer ∙ computed .pop-answer)
+expect-requires-9 : tie.Need-expect-requires-9
+expect-requires-9 c κs = eq-eqb (c .before .pop2 .result .answer) 0 (popped-again (c .before) .answer ∙ computed .pop-answer)
 
 is-press-requires : tie.Need-is-press-requires
 is-press-requires c κs = search needs
 
-expect-requires-9 : tie.Need-expect-requires-9
-expect-requires-9 c κs = c .is-press .ensures ∙ ap (λ (e : Option Event). isPress e 1 1) (event (c .before .before .before))
+expect-requires-10 : tie.Need-expect-requires-10
+expect-requires-10 c κs = c .is-press .ensures ∙ ap (λ (e : Option Event). isPress e 1 1) (event (c .before .before .before))
 
 scanlines-requires : tie.Need-scanlines-requires
 scanlines-requires c κs = search needs
@@ -182,21 +189,22 @@ main-spec =
     new-requires-2
     slice-aggregate-fill
     fill-requires
+    expect-requires-4
     mark-requires
     slice-aggregate-redraw
     slice-aggregate-redraw-2
     redraw-requires
-    expect-requires-4
-    array-read-expect
     expect-requires-5
-    array-read-expect-2
+    array-read-expect
     expect-requires-6
-    route-requires
+    array-read-expect-2
     expect-requires-7
+    route-requires
+    expect-requires-8
     pop-requires
     pop-requires-2
-    expect-requires-8
-    is-press-requires
     expect-requires-9
+    is-press-requires
+    expect-requires-10
     scanlines-requires
     returns)

@@ -13,7 +13,7 @@ use Rattle.geom.specs.Geom.{width, height, smallRect, isEmpty, meets, common}
 use Rattle.geom.proofs.basics.Tests.{is-false, cond-no}
 use Rattle.geom.proofs.basics.Lists.{All}
 use Rattle.winbuf.specs.Altered.{altered}
-use Rattle.winbuf.proofs.rows.Altered.{altered-same}
+use Rattle.winbuf.proofs.rows.Altered.{altered-same, altered-cond}
 use Rattle.window.specs.Window.{Win}
 use Rattle.rules.specs.Group as Group
 use Rattle.rules.specs.Store as Store
@@ -87,11 +87,6 @@ unfolding does Store.fill Store.blit Group.mark
 acts h i (fill a v) = by-yes h i (fill a v) (cond-set (h .group) i (meets a (bounds (theWin (winAt (h .group) i)))) _ _ refl (unchanged (h .group) i))
 acts h i (blit a d stride) = by-yes h i (blit a d stride) (cond-set (h .group) i (isEmpty a) _ _ (unchanged (h .group) i) refl)
 acts h i mark = by-yes h i mark refl
-
--- where a write is refused nothing is altered
-altered-cond : (t : Bool) (s s′ : List ℕ) → cond t (altered s s′) 0 ≡ altered s (cond t s′ s)
-altered-cond true s s′ = refl
-altered-cond false s s′ = sym (altered-same s)
 
 answer-is : (h : Held) (i : ℕ) (w : Write) → outcome h (on i w) .answer ≡ asked (asks w (seen i h))
 unfolding does Store.fill Store.blit Group.mark

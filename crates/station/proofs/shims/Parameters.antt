@@ -15,6 +15,8 @@ use denote.Struct.Field.{u32-field, usize-field, bool-field}
 use denote.Struct.Laws as Laws
 use Rattle.geom.proofs.Rect as Rect
 use Rattle.geom.proofs.Rect.Laws as Rect′
+use Rattle.winbuf.proofs.Altered as Altered
+use Rattle.winbuf.proofs.Altered.Laws as Altered′
 use Rattle.window.proofs.Window as Window
 use Rattle.window.proofs.Window.Laws as Window′
 use Rattle.order.proofs.WinId as WinId
@@ -30,6 +32,8 @@ use Rattle.windows.proofs.Done as Done
 use Rattle.windows.proofs.Done.Laws as Done′
 use Rattle.windows.proofs.Changed as Changed
 use Rattle.windows.proofs.Changed.Laws as Changed′
+use Rattle.windows.proofs.WrittenOne as WrittenOne
+use Rattle.windows.proofs.WrittenOne.Laws as WrittenOne′
 use Rattle.windows.proofs.FreeSlot as FreeSlot
 use Rattle.windows.proofs.FreeSlot.Laws as FreeSlot′
 use Rattle.windows.proofs.Listing as Listing
@@ -86,6 +90,9 @@ winId = ofStruct WinId.the-type WinId′.the-laws WinId′.the-plain WinId′.mi
 
 abbrev pub rect : Plain
 rect = ofStruct Rect.the-type Rect′.the-laws Rect′.the-plain Rect′.mir refl
+
+abbrev pub altered : Plain
+altered = ofStruct Altered.the-type Altered′.the-laws Altered′.the-plain Altered′.mir refl
 
 abbrev pub listing : Plain
 listing = ofStruct Listing.the-type Listing′.the-laws Listing′.the-plain Listing′.mir refl
@@ -229,6 +236,19 @@ changed = record {
   tells = Laws.tells Changed.the-type Changed′.the-laws;
   typed = λ 𝓤 H A W d v is. Laws.lawful Changed.the-type Changed′.the-laws 𝓤 H A W .typed d (v ∷ []) is .0;
   owed = λ d v is. let parts = Laws.owed Changed.the-type Changed′.the-laws d (v ∷ []) is in (parts .0, parts .1 .0, parts .1 .1 .0);
+}
+
+-- the same of a fill or a blit
+abbrev pub writtenOne : Trio window shared altered
+writtenOne = record {
+  type = WrittenOne.the-row;
+  name = WrittenOne.struct .name;
+  fst = λ d. d .window;
+  snd = λ d. d .shared;
+  trd = λ d. d .result;
+  tells = Laws.tells WrittenOne.the-type WrittenOne′.the-laws;
+  typed = λ 𝓤 H A W d v is. Laws.lawful WrittenOne.the-type WrittenOne′.the-laws 𝓤 H A W .typed d (v ∷ []) is .0;
+  owed = λ d v is. let parts = Laws.owed WrittenOne.the-type WrittenOne′.the-laws d (v ∷ []) is in (parts .0, parts .1 .0, parts .1 .1 .0);
 }
 
 -- the same of a create

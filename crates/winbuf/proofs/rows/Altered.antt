@@ -30,6 +30,11 @@ unfolding altered
 altered-same [] = refl
 altered-same (x ∷ s) = omega (arith, differs-same x, altered-same s)
 
+-- where a write is refused nothing is altered
+pub altered-cond : (t : Bool) (s s′ : List ℕ) → cond t (altered s s′) 0 ≡ altered s (cond t s′ s)
+altered-cond true s s′ = refl
+altered-cond false s s′ = sym (altered-same s)
+
 -- no more than there are
 pub altered-few : (s t : List ℕ) → altered s t ≤ length s
 unfolding altered

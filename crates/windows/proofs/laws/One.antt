@@ -19,8 +19,10 @@ use Rattle.windows.specs.declared.Shared.{Shared}
 use Rattle.windows.specs.declared.Session.{Session}
 use Rattle.windows.specs.declared.Changed.{Changed}
 use Rattle.windows.specs.declared.Done.{Done}
-use Rattle.windows.specs.View.{blank, group, windowAt, done, Given, Meets, MeetsStore}
-use Rattle.windows.specs.One.{At, Holds, Held, put, MeetsAt, MeetsStoreAt}
+use Rattle.windows.specs.declared.Written.{Written}
+use Rattle.windows.specs.declared.WrittenOne.{WrittenOne}
+use Rattle.windows.specs.View.{blank, group, windowAt, done, written, Given, Meets, MeetsStore, MeetsAltered}
+use Rattle.windows.specs.One.{At, Holds, Held, put, MeetsAt, MeetsStoreAt, MeetsAlteredAt}
 use Rattle.windows.proofs.laws.Session.{used-at, used-past}
 
 -- Parts of a session ---------------------------------------------------------------------------------------------------
@@ -115,3 +117,7 @@ module _ {id at : ℕ} {s : Session} (h : Given s) (p : At id at) where
   pub by-store : {call : Call} {t : List ℕ} {r : Done} (d : Changed) → MeetsStoreAt call id (windowAt s at) (s .shared) d t
       → r ≡ done (put at (d .window) (d .shared) s) (d .answer) → MeetsStore call s r t
   by-store {call} {t} d m e = subst (λ (r : Done). MeetsStore call s r t) (sym e) (m s at own)
+
+  pub by-altered : {call : Call} {t : List ℕ} {r : Written} (d : WrittenOne) → MeetsAlteredAt call id (windowAt s at) (s .shared) d t
+      → r ≡ written (put at (d .window) (d .shared) s) (d .result) → MeetsAltered call s r t
+  by-altered {call} {t} d m e = subst (λ (r : Written). MeetsAltered call s r t) (sym e) (m s at own)

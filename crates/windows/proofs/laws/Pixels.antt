@@ -15,7 +15,8 @@ use Rattle.geom.specs.Inner.{Fits, Within}
 use Rattle.geom.proofs.basics.Tests.{clash, on-cond, lt-or-le}
 use Rattle.geom.proofs.geometry.Facts.{Meet, says-meet, solid, common-within}
 use Rattle.winbuf.specs.Pixels.{writeRows, part}
-use Rattle.winbuf.specs.Rows.{Inside}
+use Rattle.winbuf.specs.Rows.{Inside, Counted}
+use Rattle.winbuf.proofs.rows.Altered.{altered-same}
 use Rattle.window.specs.declared.Window.{Window}
 use Rattle.window.specs.declared.damage.Damage.{Damage}
 use Rattle.window.specs.Window.{Win}
@@ -47,6 +48,14 @@ cut-low x = omega arith
 
 cut-size : (x w W : ℕ) → min (x + w) (0 + W) - max x 0 ≡ min w (W - x)
 cut-size x w W = omega arith
+
+-- the same pixels by a rule that gives the same
+counts : {rule rule′ s t : List ℕ} {n : ℕ} → Counted rule s t n → rule ≡ rule′ → Counted rule′ s t n
+counts c e = record { pixels = c .pixels ∙ e; altered = c .altered }
+
+-- no pixel written
+uncounted : {rule s : List ℕ} → s ≡ rule → Counted rule s s 0
+uncounted {s = s} e = record { pixels = e; altered = sym (altered-same s) }
 
 -- The area and the window --------------------------------------------------------------------------------------------
 
@@ -89,25 +98,27 @@ module _ {len base : ℕ} {w : Window} {a all : Rect} (q : Cut len base w a all)
 
   -- Fill -------------------------------------------------------------------------------------------------------------
 
-  pub filled : (k : Rect) (r : Window) (v : ℕ) (store t : List ℕ) → meets a all ≡ true → k ≡ common a all → Becomes w (dirtied k (winOf w)) r
-      → t ≡ filledPart base (winOf w) k v store → Becomes w (filledWin a (winOf w)) r × (t ≡ filledAt base (winOf w) a v store)
+  pub filled : (k : Rect) (r : Window) (v : ℕ) (store t : List ℕ) (n : ℕ) → meets a all ≡ true → k ≡ common a all → Becomes w (dirtied k (winOf w)) r
+      → Counted (filledPart base (winOf w) k v store) store t n
+      → Becomes w (filledWin a (winOf w)) r × Counted (filledAt base (winOf w) a v store) store t n
   unfolding filledWin filledAt
-  filled k r v store t m e b f = (
+  filled k r v store t n m e b f = (
     becomes b (ap (λ (p : Rect). dirtied p (winOf w)) (is-part e) ∙ rw (is-met m)),
-    f ∙ ap (λ (p : Rect). filledPart base (winOf w) p v store) (is-part e) ∙ rw (is-met m),
+    counts f (ap (λ (p : Rect). filledPart base (winOf w) p v store) (is-part e) ∙ rw (is-met m)),
   )
 
-  pub not-filled : (v : ℕ) (store : List ℕ) → meets a all ≡ false → Becomes w (filledWin a (winOf w)) w × (store ≡ filledAt base (winOf w) a v store)
+  pub not-filled : (v : ℕ) (store : List ℕ) → meets a all ≡ false
+      → Becomes w (filledWin a (winOf w)) w × Counted (filledAt base (winOf w) a v store) store store 0
   unfolding filledWin filledAt
-  not-filled v store m = (kept (q .stored) (rw (is-met m)), rw (is-met m))
+  not-filled v store m = (kept (q .stored) (rw (is-met m)), uncounted (rw (is-met m)))
 
 -- Blit -----------------------------------------------------------------------------------------------------------------
 
 -- an empty area
 pub not-blit : {len base : ℕ} {w : Window} (a : Rect) (datum : List ℕ) (stride : ℕ) (store : List ℕ) → Stored len base w → isEmpty a ≡ true
-    → Becomes w (blitWin a (winOf w)) w × (store ≡ blitAt base (winOf w) a datum stride store)
+    → Becomes w (blitWin a (winOf w)) w × Counted (blitAt base (winOf w) a datum stride store) store store 0
 unfolding blitWin blitAt
-not-blit a datum stride store s e = (kept s (rw e), rw e)
+not-blit a datum stride store s e = (kept s (rw e), uncounted (rw e))
 
 module _ {len base : ℕ} {w : Window} {a all : Rect} (q : Cut len base w a all) (e : isEmpty a ≡ false) where
   some-rows : meets a all ≡ true → blitRows (winOf w) a ≡ min (height a) (w .at .h - top a)
@@ -148,10 +159,10 @@ module _ {len base : ℕ} {w : Window} {a all : Rect} (q : Cut len base w a all)
         ap (λ (b : Rect). rows (left b) (top b) (width b) (height b)) p
         ∙ (λ i. rows (cut-low (left a) i) (cut-low (top a) i) (cut-size (left a) (width a) (w .at .w) i) (cut-size (top a) (height a) (w .at .h) i))
 
-    pub some-blit : (k : Rect) (t : List ℕ) → meets a all ≡ true → k ≡ common a all → t ≡ rows (left k) (top k) (width k) (height k)
-        → t ≡ blitAt base (winOf w) a datum stride store
-    some-blit k t m p f = f ∙ cut-rows k (is-part q p) ∙ at-blit (min (height a) (w .at .h - top a)) (some-rows m)
+    pub some-blit : (k : Rect) (t : List ℕ) (n : ℕ) → meets a all ≡ true → k ≡ common a all
+        → Counted (rows (left k) (top k) (width k) (height k)) store t n → Counted (blitAt base (winOf w) a datum stride store) store t n
+    some-blit k t n m p f = counts f (cut-rows k (is-part q p) ∙ at-blit (min (height a) (w .at .h - top a)) (some-rows m))
 
-    pub no-blit : meets a all ≡ false → store ≡ blitAt base (winOf w) a datum stride store
+    pub no-blit : meets a all ≡ false → Counted (blitAt base (winOf w) a datum stride store) store store 0
     unfolding writeRows
-    no-blit m = at-blit 0 (no-rows m)
+    no-blit m = uncounted (at-blit 0 (no-rows m))

@@ -14,6 +14,8 @@ use Rattle.geom.specs.declared.Rect.{Rect}
 use Rattle.geom.specs.Questions.{Question, _is_, asked, small}
 use Rattle.geom.specs.Geom.{smallRect}
 use Rattle.geom.proofs.basics.Tests.{clash, fst, snd}
+use Rattle.winbuf.specs.Altered.{altered}
+use Rattle.winbuf.proofs.rows.Altered.{altered-same}
 use Rattle.window.specs.declared.Window.{Window}
 use Rattle.window.specs.Window.{Win}
 use Rattle.window.specs.Held.{winOf, Small, RepWindow}
@@ -26,7 +28,7 @@ use Rattle.rules.proofs.group.Invariant.{WinOk}
 use Rattle.windows.specs.declared.Shared.{Shared}
 use Rattle.windows.specs.declared.Session.{Session}
 use Rattle.windows.specs.View.{group, windowAt, Rep, Given, MeetsStore, done}
-use Rattle.windows.specs.One.{Holds, Held, put, MeetsStoreAt}
+use Rattle.windows.specs.One.{Holds, Held, put, MeetsStoreAt, MeetsAlteredAt}
 use Rattle.windows.specs.Pixels.{Becomes, Stored}
 use Rattle.windows.proofs.laws.Session.{used-at, win-at, putWindow, put-group, put-rep, given-ok, refuses, gives}
 use Rattle.windows.proofs.laws.Shared.{Shares}
@@ -137,6 +139,24 @@ module _ {call : Call} {id : ℕ} {store : List ℕ} {rest : ℕ → List Questi
           (λ (s : Session) (at : ℕ) (w : Window) (k : Shared). w .used ≡ true → does (group s) call .answer ≡ 0
           → Becomes w (f (winOf w)) r × (t ≡ F (k .c) (winOf w)) → MeetsStore call s (done (put at r (K k) s) 0) t)
           (o .low) (λ s g _ _. puts-store shares r t s g) s at h (o .used) (answers s at h ∙ rest-asked ∙ e) b
+
+-- Pixels altered -----------------------------------------------------------------------------------------------------
+
+-- a fill or a blit hands back how many pixels of the store differ, refused or not
+pub record Counts (call : Call) (store : List ℕ) : Type 0 where
+  pub counts : (g : Group) → does g call .altered ≡ altered store (does g call .store)
+
+pub with-count : {call : Call} {id : ℕ} {w v : Window} {k m : Shared} {store t : List ℕ} {a n : ℕ} → Counts call store
+    → MeetsStoreAt call id w k (record { window = v; shared = m; answer = a }) t → n ≡ altered store t
+    → MeetsAlteredAt call id w k (record { window = v; shared = m; result = record { answer = a; altered = n } }) t
+with-count {store = store} c meets e s at h =
+    record { meets = meets s at h; altered = e ∙ ap (altered store) (meets s at h .stored) ∙ sym (c .counts (group s)) }
+
+-- where the store is as it was
+pub unaltered : {call : Call} {id : ℕ} {w v : Window} {k m : Shared} {store : List ℕ} {a : ℕ} → Counts call store
+    → MeetsStoreAt call id w k (record { window = v; shared = m; answer = a }) store
+    → MeetsAlteredAt call id w k (record { window = v; shared = m; result = record { answer = a; altered = 0 } }) store
+unaltered {store = store} c meets = with-count c meets (sym (altered-same store))
 
 -- The window's pixels ------------------------------------------------------------------------------------------------
 

@@ -2,7 +2,7 @@
 use mathlib.Core.Path.{_≡_, subst}
 use Rattle.rules.specs.Calls as Call
 use Rattle.rules.specs.Calls.{Call}
-use Rattle.windows.specs.View.{MeetsStore}
+use Rattle.windows.specs.View.{MeetsAltered}
 use Rattle.replay.specs.Numbers.{num, idOf, rectAt}
 use borrow.Author.Needs.{needs}
 use Rattle.replay.proofs.lend.blit.Statement.{statement}
@@ -33,7 +33,7 @@ returns c =
     let made : Call.Blit (c .before .before .before .before .id .result .0) (c .before .before .before .before .before .before .before .rect .result) (args .«data» .now) (c .before .before .before .before .before .wide .result) (args .store .now)
     ≡ Call.Blit (idOf ns) (rectAt ns 1) (args .«data» .now) (num ns 5) (args .store .now) =
     λ i. Call.Blit (c .before .before .before .before .id .ensures i) (c .before .before .before .before .before .before .before .rect .ensures i) (args .«data» .now) (c .before .before .before .before .before .wide .ensures i) (args .store .now) in
-    subst (λ (k : Call). MeetsStore k (args .s) (c .before .before .blit .result) (c .before .before .blit .last .1 .1 .1 .1 .1 .0)) made (c .before .before .blit .ensures)
+    subst (λ (k : Call). MeetsAltered k (args .s) (c .before .before .blit .result) (c .before .before .blit .last .1 .1 .1 .1 .1 .0)) made (c .before .before .blit .ensures)
 
 pub blit-spec : {M : Type 1} → statement M
 blit-spec =

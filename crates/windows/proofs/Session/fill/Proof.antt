@@ -1,5 +1,5 @@
 -- The function of one window, at this session; then its results are in their place.
-use Rattle.windows.proofs.laws.One.{held, by-store}
+use Rattle.windows.proofs.laws.One.{held, by-altered}
 use borrow.Author.Needs.{needs}
 use Rattle.windows.proofs.Session.fill.Statement.{statement}
 use Rattle.windows.proofs.Session.fill.Tie as tie
@@ -16,8 +16,8 @@ element-copy-out-fill c = search needs
 fill-requires : tie.Need-fill-requires
 fill-requires c κs = let p = c .before .before .before in held (p .before .before .pre) (p .slot .ensures)
 
-put-requires : tie.Need-put-requires
-put-requires c κs = search needs
+put-written-requires : tie.Need-put-written-requires
+put-written-requires c κs = search needs
 
 same-length : tie.Need-same-length
 same-length c = search needs
@@ -26,8 +26,16 @@ returns : tie.Need-returns
 returns c =
     let d = c .before .before .before in
     let p = d .before .before .before .before in
-    by-store (p .before .before .pre) (p .slot .ensures) (d .fill .result) (d .fill .ensures) (c .put .ensures)
+    by-altered (p .before .before .pre) (p .slot .ensures) (d .fill .result) (d .fill .ensures) (c .put-written .ensures)
 
 pub fill-spec : {M : Type 1} → statement M
 fill-spec =
-    tie.close (tie.spec slot-requires mul-fill element-copy-out-fill fill-requires put-requires same-length returns)
+    tie.close
+    (tie.spec
+    slot-requires
+    mul-fill
+    element-copy-out-fill
+    fill-requires
+    put-written-requires
+    same-length
+    returns)

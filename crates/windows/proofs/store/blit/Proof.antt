@@ -9,13 +9,14 @@ use borrow.Author.Tests.{le-leb, lt-leb}
 use Rattle.geom.specs.declared.Rect.{Rect}
 use Rattle.geom.specs.Questions.{_is_}
 use Rattle.geom.specs.Geom.{smallRect, isEmpty}
-use Rattle.rules.specs.Group.{Group}
+use Rattle.winbuf.proofs.rows.Altered.{altered-cond}
+use Rattle.rules.specs.Group.{Group, win}
 use Rattle.rules.specs.Store as Spec
 use Rattle.rules.specs.Store.{blitAt}
 use Rattle.rules.specs.Calls.{Blit, does, accepted}
 use Rattle.windows.specs.Pixels.{blitWin}
 use Rattle.windows.proofs.laws.Shared.{same-shared}
-use Rattle.windows.proofs.laws.Store.{Rule, Writable, writable, not-whole, not-used, no, yes, place, stored, small-rect, set-unless}
+use Rattle.windows.proofs.laws.Store.{Rule, Counts, Writable, writable, not-whole, not-used, no, yes, place, stored, small-rect, set-unless, with-count, unaltered}
 use borrow.Author.Needs.{needs}
 use Rattle.windows.proofs.store.blit.Statement.{statement}
 use Rattle.windows.proofs.store.blit.Tie as tie
@@ -32,6 +33,11 @@ rule {id} {a} {d} {stride} {store} =
       after = λ g u. ap (λ (h : Group). cond (accepted g (Blit id a d stride store)) h g) (set-unless g id (isEmpty a) _ u);
       stored = λ g. refl;
     }
+
+counts : {id : ℕ} {a : Rect} {d : List ℕ} {stride : ℕ} {store : List ℕ} → Counts (Blit id a d stride store) store
+unfolding does Spec.blit
+counts {id} {a} {d} {stride} {store} =
+    record { counts = λ g. altered-cond (accepted g (Blit id a d stride store)) store (blitAt (id * g .c) (win g id) a d stride store) }
 
 -- questions 1 and 3 are answered yes
 known : (c : tie.Then2) → let a = c .before .before .before .before .before .before .args in
@@ -74,34 +80,35 @@ same-length c = search needs
 
 returns : tie.Need-returns
 returns c =
-    let b = c .before .before in
+    let b = c .before .before .before in
     let g = b .before .before .before in
     let f = g .before in
     let t = f .before .before in
     let s = t .before .before .before .before .before .before in
-    yes rule (known t) same-shared _ _ (rw (small f, le-leb 1 (s .args .stride) (g .if4 .taken))) (b .blit-rect .ensures)
+    let e = b .blit-rect .ensures in
+    with-count counts (yes rule (known t) same-shared _ _ (rw (small f, le-leb 1 (s .args .stride) (g .if4 .taken))) (e .0, e .1 .pixels)) (e .1 .altered)
 
 returns-2 : tie.Need-returns-2
 returns-2 c =
     let f = c .before in
     let t = f .before .before in
     let s = t .before .before .before .before .before .before in
-    no rule (known t) 6 (rw (small f, lt-leb 1 (s .args .stride) (c .if4 .left)))
+    unaltered counts (no rule (known t) 6 (rw (small f, lt-leb 1 (s .args .stride) (c .if4 .left))))
 
 returns-3 : tie.Need-returns-3
 returns-3 c =
     let t = c .before .before in
     let s = t .before .before .before .before .before .before in
     let e : smallRect (s .args .area) ≡ false = sym (c .before .is-small .ensures) ∙ c .if3 .left in
-    no rule (known t) 4 (rw e)
+    unaltered counts (no rule (known t) 4 (rw e))
 
 returns-4 : tie.Need-returns-4
 returns-4 c =
     let t = c .before .before in
-    not-used rule (t .if1 .taken) (c .before .is-used .ensures) (c .if2 .left)
+    unaltered counts (not-used rule (t .if1 .taken) (c .before .is-used .ensures) (c .if2 .left))
 
 returns-5 : tie.Need-returns-5
-returns-5 c = not-whole rule (c .if1 .left)
+returns-5 c = unaltered counts (not-whole rule (c .if1 .left))
 
 pub blit-spec : {M : Type 1} → statement M
 blit-spec =

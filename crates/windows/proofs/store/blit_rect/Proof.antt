@@ -30,11 +30,16 @@ met c = let b = c .before .before in common-is (fits (own (b .before))) (b .inte
 is-empty-requires : tie.Need-is-empty-requires
 is-empty-requires c κs = search needs
 
+unpainted-requires : tie.Need-unpainted-requires
+unpainted-requires c κs = search needs
+
 returns : tie.Need-returns
 returns c =
-    let s = c .before .before .before .before .before .before in
+    let t = c .before in
+    let s = t .before .before .before .before .before .before in
     let a = s .args in
-    not-blit (a .area) (a .«data» .now) (a .stride) (a .store .now) (s .pre .0) (sym (c .before .is-empty .ensures) ∙ c .if1 .taken)
+    rw (c .unpainted .ensures)
+    (not-blit (a .area) (a .«data» .now) (a .stride) (a .store .now) (s .pre .0) (sym (t .before .is-empty .ensures) ∙ t .if1 .taken))
 
 damaged-requires : tie.Need-damaged-requires
 damaged-requires c κs =
@@ -78,8 +83,14 @@ blit-area-requires c κs =
 enum-told : tie.Need-enum-told
 enum-told c = search needs
 
+unpainted-requires-2 : tie.Need-unpainted-requires-2
+unpainted-requires-2 c κs = search needs
+
 enum-told-2 : tie.Need-enum-told-2
 enum-told-2 c = search needs
+
+unpainted-requires-3 : tie.Need-unpainted-requires-3
+unpainted-requires-3 c κs = search needs
 
 same-length : tie.Need-same-length
 same-length c = search needs
@@ -91,28 +102,32 @@ returns-2 c =
     let e = some (b .before .before) in
     let a = b .before .before .before .before .before .before .before .before .args in (
       blit-win (own b) e (dirty-win (a .win) (a .area) (b .before .damaged .result) (own b .stored .rep) (b .before .damaged .ensures)),
-      some-blit (own b) e (a .«data» .now) (a .stride) (a .store .now) (k .cut .given .0 .0) _ (met k .0) (met k .1)
+      some-blit (own b) e (a .«data» .now) (a .stride) (a .store .now) (k .cut .given .0 .0) _ _ (met k .0) (met k .1)
           (c .before .before .blit-area .ensures),
     )
 
 returns-3 : tie.Need-returns-3
 returns-3 c =
-    let i = c .before .before in
+    let i = c .before .before .before in
     let b = i .before in
     let e = some (b .before .before) in
-    let a = b .before .before .before .before .before .before .before .before .args in (
+    let a = b .before .before .before .before .before .before .before .before .args in
+    rw (c .unpainted2 .ensures) (
       blit-win (own b) e (dirty-win (a .win) (a .area) (b .before .damaged .result) (own b .stored .rep) (b .before .damaged .ensures)),
-      no-blit (own b) e (a .«data» .now) (a .stride) (a .store .now) (apart-is (fits (own b)) (i .intersect .ensures) (c .enum-told .given .1)),
+      no-blit (own b) e (a .«data» .now) (a .stride) (a .store .now) (apart-is (fits (own b)) (i .intersect .ensures) (c .before .enum-told .given .1)),
     )
 
 returns-4 : tie.Need-returns-4
-returns-4 c = let i = c .before .before in absurd (not-refused (fits (own (i .before))) (i .intersect .ensures) (c .enum-told2 .given .1))
+returns-4 c =
+    let i = c .before .before .before in
+    absurd (not-refused (fits (own (i .before))) (i .intersect .ensures) (c .before .enum-told2 .given .1))
 
 pub blit-rect-spec : {M : Type 1} → statement M
 blit-rect-spec =
     tie.close
     (tie.spec
     is-empty-requires
+    unpainted-requires
     returns
     damaged-requires
     bounds-requires
@@ -125,7 +140,9 @@ blit-rect-spec =
     cast-blit-area-5
     blit-area-requires
     enum-told
+    unpainted-requires-2
     enum-told-2
+    unpainted-requires-3
     same-length
     returns-2
     returns-3

@@ -7,13 +7,14 @@ use native.Mathlib.Omega.{arith}
 use Rattle.geom.specs.declared.Rect.{Rect}
 use Rattle.geom.specs.Questions.{_is_}
 use Rattle.geom.specs.Geom.{smallRect, meets}
+use Rattle.winbuf.proofs.rows.Altered.{altered-cond}
 use Rattle.rules.specs.Group.{Group, win}
 use Rattle.rules.specs.Store as Spec
 use Rattle.rules.specs.Store.{bounds, filledAt}
 use Rattle.rules.specs.Calls.{Fill, does, accepted}
 use Rattle.windows.specs.Pixels.{filledWin}
 use Rattle.windows.proofs.laws.Shared.{same-shared}
-use Rattle.windows.proofs.laws.Store.{Rule, Writable, writable, not-whole, not-used, no, yes, place, stored, small-rect, set-if}
+use Rattle.windows.proofs.laws.Store.{Rule, Counts, Writable, writable, not-whole, not-used, no, yes, place, stored, small-rect, set-if, with-count, unaltered}
 use borrow.Author.Needs.{needs}
 use Rattle.windows.proofs.store.fill.Statement.{statement}
 use Rattle.windows.proofs.store.fill.Tie as tie
@@ -29,6 +30,11 @@ rule {id} {a} {v} {store} =
       after = λ g u. ap (λ (h : Group). cond (accepted g (Fill id a v store)) h g) (set-if g id (meets a (bounds (win g id))) _ u);
       stored = λ g. refl;
     }
+
+counts : {id : ℕ} {a : Rect} {v : ℕ} {store : List ℕ} → Counts (Fill id a v store) store
+unfolding does Spec.fill
+counts {id} {a} {v} {store} =
+    record { counts = λ g. altered-cond (accepted g (Fill id a v store)) store (filledAt (id * g .c) (win g id) a v store) }
 
 -- questions 1 and 3 are answered yes
 known : (c : tie.Then2) → let a = c .before .before .before .before .before .args in Writable (a .id .0) (a .win) (a .shared) (a .store .now)
@@ -70,24 +76,25 @@ same-length c = search needs
 
 returns : tie.Need-returns
 returns c =
-    let f = c .before .before .before .before .before in
+    let f = c .before .before .before .before .before .before in
     let t = f .before .before in
-    yes rule (known t) same-shared _ _ (rw (small f)) (c .before .before .fill-rect .ensures)
+    let e = c .before .before .before .fill-rect .ensures in
+    with-count counts (yes rule (known t) same-shared _ _ (rw (small f)) (e .0, e .1 .pixels)) (e .1 .altered)
 
 returns-2 : tie.Need-returns-2
 returns-2 c =
     let t = c .before .before in
     let s = t .before .before .before .before .before in
     let e : smallRect (s .args .area) ≡ false = sym (c .before .is-small .ensures) ∙ c .if3 .left in
-    no rule (known t) 4 (rw e)
+    unaltered counts (no rule (known t) 4 (rw e))
 
 returns-3 : tie.Need-returns-3
 returns-3 c =
     let t = c .before .before in
-    not-used rule (t .if1 .taken) (c .before .is-used .ensures) (c .if2 .left)
+    unaltered counts (not-used rule (t .if1 .taken) (c .before .is-used .ensures) (c .if2 .left))
 
 returns-4 : tie.Need-returns-4
-returns-4 c = not-whole rule (c .if1 .left)
+returns-4 c = unaltered counts (not-whole rule (c .if1 .left))
 
 pub fill-spec : {M : Type 1} → statement M
 fill-spec =

@@ -63,8 +63,14 @@ damaged-requires c κs =
 enum-told : tie.Need-enum-told
 enum-told c = search needs
 
+unpainted-requires : tie.Need-unpainted-requires
+unpainted-requires c κs = search needs
+
 enum-told-2 : tie.Need-enum-told-2
 enum-told-2 c = search needs
+
+unpainted-requires-2 : tie.Need-unpainted-requires-2
+unpainted-requires-2 c κs = search needs
 
 same-length : tie.Need-same-length
 same-length c = search needs
@@ -74,18 +80,20 @@ returns c =
     let k = c .before .before .before .before .before .before .before .before .before .before .before in
     let b = k .before .before .before in
     let a = b .before .before .before .before .args in
-    filled (own b) (k .cut .given .0 .0) _ (a .colour) (a .store .now) _ (met k .0) (met k .1)
+    filled (own b) (k .cut .given .0 .0) _ (a .colour) (a .store .now) _ _ (met k .0) (met k .1)
     (dirty-win (a .win) (k .cut .given .0 .0) (c .damaged .result) (own b .stored .rep) (c .damaged .ensures)) (c .before .before .before .fill-area .ensures)
 
 returns-2 : tie.Need-returns-2
 returns-2 c =
-    let b = c .before .before in
+    let b = c .before .before .before in
     let a = b .before .before .before .before .before .args in
     let q = own (b .before) in
-    not-filled q (a .colour) (a .store .now) (apart-is (fits q) (b .intersect .ensures) (c .enum-told .given .1))
+    rw (c .unpainted .ensures) (not-filled q (a .colour) (a .store .now) (apart-is (fits q) (b .intersect .ensures) (c .before .enum-told .given .1)))
 
 returns-3 : tie.Need-returns-3
-returns-3 c = let b = c .before .before in absurd (not-refused (fits (own (b .before))) (b .intersect .ensures) (c .enum-told2 .given .1))
+returns-3 c =
+    let b = c .before .before .before in
+    absurd (not-refused (fits (own (b .before))) (b .intersect .ensures) (c .before .enum-told2 .given .1))
 
 pub fill-rect-spec : {M : Type 1} → statement M
 fill-rect-spec =
@@ -102,7 +110,9 @@ fill-rect-spec =
     fill-area-requires
     damaged-requires
     enum-told
+    unpainted-requires
     enum-told-2
+    unpainted-requires-2
     same-length
     returns
     returns-2
