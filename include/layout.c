@@ -12,6 +12,7 @@ SIZE(RoqEvent, 20);
 SIZE(RoqSession, 5640);
 SIZE(RoqCreated, 8);
 SIZE(RoqPopped, 24);
+SIZE(RoqAltered, 16);
 SIZE(RoqListing, 16);
 SIZE(RoqShare, 12);
 SIZE(RoqPlaced, 20);
@@ -91,10 +92,13 @@ static void session(void) {
     EXPECT(roq_mark(s, LAST) == 0 && roq_redraw(s, false, 8, 8, store, 16 * C, screen, 64) == 0);
     EXPECT((s->words[704] & 0xff) == 0);
     walk();
-    EXPECT(roq_fill(s, LAST, rect(9, 5, 7, 3), 6, store, 16 * C) == 0);
+    RoqAltered filled = roq_fill(s, LAST, rect(9, 5, 7, 3), 6, store, 16 * C);
+    EXPECT(filled.answer == 0 && filled.altered == 21);
+    filled = roq_fill(s, LAST, rect(9, 5, 7, 3), 6, store, 16 * C - 1);
+    EXPECT(filled.answer == 1 && filled.altered == 0);
     EXPECT(store[LAST * C + 5 * 200 + 9] == 6 && store[LAST * C + 7 * 200 + 15] == 6 && store[LAST * C + 7 * 200 + 16] == 0);
     uint32_t data[6] = {11, 12, 13, 21, 22, 23};
-    EXPECT(roq_blit(s, LAST, rect(20, 30, 2, 2), 3, data, 6, store, 16 * C) == 0);
+    EXPECT(roq_blit(s, LAST, rect(20, 30, 2, 2), 3, data, 6, store, 16 * C).answer == 0);
     EXPECT(store[LAST * C + 31 * 200 + 21] == 22 && store[LAST * C + 31 * 200 + 22] == 0);
     shares();
     RoqPlaced at = roq_rect_of(s, LAST);
@@ -144,8 +148,8 @@ static void values(void) {
     EXPECT(line.answer == 0 && line.start == 26 && line.count == 6);
     RoqPart region = roq_region(screen, 64, 8, 1, 2, 3, 4);
     EXPECT(region.answer == 0 && region.start == 17 && region.count == 27);
-    EXPECT(roq_fill_scanline(screen, 64, 8, 8, 1, 6, 9, 77) == 0 && screen[13] == 0 && screen[14] == 77 && screen[15] == 77);
-    EXPECT(roq_set_scanline(screen, 64, 8, 8, 2, 0, 8, list, 4) == 0 && screen[18] == 200 && screen[16] == 0);
+    EXPECT(roq_fill_scanline(screen, 64, 8, 8, 1, 6, 9, 77).altered == 2 && screen[13] == 0 && screen[14] == 77 && screen[15] == 77);
+    EXPECT(roq_set_scanline(screen, 64, 8, 8, 2, 0, 8, list, 4).answer == 0 && screen[18] == 200 && screen[16] == 0);
 }
 
 /* The busiest second, the longest run, and both refusals. */

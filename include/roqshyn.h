@@ -112,13 +112,20 @@ uint32_t roq_move(RoqSession *s, uint16_t id, uint32_t x, uint32_t y);
  * Writes the store. Asks 1, 3, 5, 6. */
 uint32_t roq_resize(RoqSession *s, uint16_t id, uint32_t w, uint32_t h, uint32_t *store, size_t store_len);
 
-/* Fills the part of the area, relative to the window, that lies in it. Writes the store. Asks 1, 3, 5. */
-uint32_t roq_fill(RoqSession *s, uint16_t id, RoqRect area, uint32_t colour, uint32_t *store, size_t store_len);
+/* What a call that writes pixels gives: how many of them have another value than before. On a no 0. */
+typedef struct RoqAltered {
+    uint32_t answer;
+    size_t altered;
+} RoqAltered;
+
+/* Fills the part of the area, relative to the window, that lies in it, and counts the pixels of the store that it altered: 0 where the
+ * panel was painted for nothing. Writes the store. Asks 1, 3, 5. */
+RoqAltered roq_fill(RoqSession *s, uint16_t id, RoqRect area, uint32_t colour, uint32_t *store, size_t store_len);
 
 /* Rows of the area, relative to the window, take successive chunks of `stride` data, cut to the area's width; data may end early, and
- * what lies outside the window is left out. Reads the data, writes the store. Asks 1, 3, 5, 7. */
-uint32_t roq_blit(RoqSession *s, uint16_t id, RoqRect area, size_t stride, const uint32_t *data, size_t data_len, uint32_t *store,
-                  size_t store_len);
+ * what lies outside the window is left out. Counts the pixels that it altered. Reads the data, writes the store. Asks 1, 3, 5, 7. */
+RoqAltered roq_blit(RoqSession *s, uint16_t id, RoqRect area, size_t stride, const uint32_t *data, size_t data_len, uint32_t *store,
+                    size_t store_len);
 
 /* Hands an event on: keys and Text to the focus, if it is shown; pointer events to the topmost window at the point, relative to it;
  * Resize to nobody, with answer 0. Differences (dx, dy) are not read. A kind that is none of ROQ_RESIZE to ROQ_MOUSE_UP is answered
@@ -244,14 +251,15 @@ typedef struct RoqPart {
 RoqPart roq_scanline(const uint32_t *pixels, size_t pixels_len, uint32_t width, uint32_t height, uint32_t line, uint32_t ofs,
                      uint32_t len);
 
-/* Fills such a part; does nothing, with answer 0, where the line or the offset lies beside the picture. 13 where the cut part passes the
- * end of the pixels, here and in the next one. */
-uint32_t roq_fill_scanline(uint32_t *pixels, size_t pixels_len, uint32_t width, uint32_t height, uint32_t line, uint32_t ofs,
-                           uint32_t len, uint32_t value);
+/* Fills such a part, and counts the pixels that it altered; does nothing, with answer 0, where the line or the offset lies beside the
+ * picture. 13 where the cut part passes the end of the pixels, here and in the next one. */
+RoqAltered roq_fill_scanline(uint32_t *pixels, size_t pixels_len, uint32_t width, uint32_t height, uint32_t line, uint32_t ofs,
+                             uint32_t len, uint32_t value);
 
-/* Writes data to such a part, as far as both go; does nothing, with answer 0, where it lies beside the picture. */
-uint32_t roq_set_scanline(uint32_t *pixels, size_t pixels_len, uint32_t width, uint32_t height, uint32_t line, uint32_t ofs,
-                          uint32_t len, const uint32_t *data, size_t data_len);
+/* Writes data to such a part, as far as both go, and counts the pixels that it altered; does nothing, with answer 0, where it lies beside
+ * the picture. */
+RoqAltered roq_set_scanline(uint32_t *pixels, size_t pixels_len, uint32_t width, uint32_t height, uint32_t line, uint32_t ofs,
+                            uint32_t len, const uint32_t *data, size_t data_len);
 
 /* The rows of (x,y,w,h) in a picture whose rows begin `stride` apart, with what lies between them: (h - 1) x stride + w pixels from
  * x + y x stride on. 13 unless h is at least 1, w at most the stride, and the last of them lies in the pixels. */

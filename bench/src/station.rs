@@ -86,6 +86,13 @@ pub struct Second {
     pub place: usize,
 }
 
+/// The answer of a call that writes pixels, and how many of them differ afterwards.
+#[repr(C)]
+pub struct Altered {
+    pub answer: u32,
+    pub altered: usize,
+}
+
 extern "C" {
     fn roq_start(s: *mut Session, c: u32) -> u32;
     fn roq_create(s: *mut Session) -> Created;
@@ -95,7 +102,7 @@ extern "C" {
     fn roq_move(s: *mut Session, id: u16, x: u32, y: u32) -> u32;
     fn roq_mark(s: *mut Session, id: u16) -> u32;
     fn roq_resize(s: *mut Session, id: u16, w: u32, h: u32, store: *mut u32, store_len: usize) -> u32;
-    fn roq_fill(s: *mut Session, id: u16, area: Rect, colour: u32, store: *mut u32, store_len: usize) -> u32;
+    fn roq_fill(s: *mut Session, id: u16, area: Rect, colour: u32, store: *mut u32, store_len: usize) -> Altered;
     fn roq_blit(
         s: *mut Session,
         id: u16,
@@ -105,7 +112,7 @@ extern "C" {
         data_len: usize,
         store: *mut u32,
         store_len: usize,
-    ) -> u32;
+    ) -> Altered;
     fn roq_route(s: *mut Session, e: Event) -> u32;
     fn roq_pop(s: *mut Session, id: u16) -> Popped;
     fn roq_redraw(
@@ -181,10 +188,11 @@ impl Station {
     pub fn resize(&mut self, id: u16, w: u32, h: u32, store: &mut [u32]) -> u32 {
         unsafe { roq_resize(&mut self.0, id, w, h, store.as_mut_ptr(), store.len()) }
     }
-    pub fn fill(&mut self, id: u16, area: [u32; 4], colour: u32, store: &mut [u32]) -> u32 {
+    /// The answer, and how many pixels were altered.
+    pub fn fill(&mut self, id: u16, area: [u32; 4], colour: u32, store: &mut [u32]) -> Altered {
         unsafe { roq_fill(&mut self.0, id, rect(area), colour, store.as_mut_ptr(), store.len()) }
     }
-    pub fn blit(&mut self, id: u16, area: [u32; 4], data: &[u32], stride: usize, store: &mut [u32]) -> u32 {
+    pub fn blit(&mut self, id: u16, area: [u32; 4], data: &[u32], stride: usize, store: &mut [u32]) -> Altered {
         let (px, len) = (store.as_mut_ptr(), store.len());
         unsafe { roq_blit(&mut self.0, id, rect(area), stride, data.as_ptr(), data.len(), px, len) }
     }

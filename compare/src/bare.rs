@@ -1,5 +1,6 @@
 //! Bare geometry and bare pixels on the original.
 use crate::call::{Call, Scan};
+use crate::player::altered;
 use crate::text::Text;
 use original::metadevs::video::lent;
 use original::windows::WinBuf;
@@ -45,9 +46,10 @@ fn scanline(call: &Call, out: &mut Text) {
         Call::SetScanline(_, data, _) => buffer.set_scanline(line, ofs, len, data),
         _ => return out.numbers(buffer.scanline_rgn(line, ofs, len)),
     }
-    for row in 0..scan.h as usize {
-        out.numbers(buffer.scanline_rgn(row, 0, scan.w as usize));
-    }
+    let rows = 0..scan.h as usize;
+    let after: Vec<u32> = rows.flat_map(|row| buffer.scanline_rgn(row, 0, scan.w as usize).to_vec()).collect();
+    out.number(altered(pixels, &after));
+    out.numbers(&after);
 }
 
 /// A buffer of the original with these pixels; it has none whose length is not width × height.

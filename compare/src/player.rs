@@ -32,6 +32,11 @@ pub enum Played {
     Outside(Entry),
 }
 
+/// "the number of pixels whose value differs afterwards"
+pub fn altered(before: &[u32], after: &[u32]) -> u32 {
+    before.iter().zip(after).filter(|(a, b)| a != b).count() as u32
+}
+
 pub struct Player {
     mode: Mode,
     group: Group,
@@ -130,6 +135,12 @@ impl Player {
                 out.answer(0);
                 out.number(id as u32);
                 return id;
+            }
+            Call::Fill(id, ..) | Call::Blit(id, ..) => {
+                let before = self.group.pixels(id);
+                self.change(call);
+                out.answer(0);
+                out.number(altered(&before, &self.group.pixels(id)));
             }
             _ => {
                 self.change(call);

@@ -9,12 +9,16 @@ pub struct Tally {
     answers: BTreeMap<String, u64>,
     entries: BTreeMap<Entry, u64>,
     shares: BTreeMap<String, u64>,
+    writes: BTreeMap<String, u64>,
     /// Calls in the common ground: accepted, or refused by 10, 11 or 12, and so made on both. A begin is nothing to the original.
     pub calls: u64,
     pub lists: u64,
     seen: Seen,
     longest: BTreeMap<&'static str, usize>,
 }
+
+/// Lines whose calls write pixels and count those that they altered.
+const WRITES: [&str; 4] = ["fill", "blit", "fill-scanline", "set-scanline"];
 
 /// Lines that make no call of the original.
 const NO_CALL: [&str; 8] = ["lend", "lend-screen", "lend-list", "screen", "pixels", "picture", "busiest", "share"];
@@ -31,6 +35,9 @@ impl Tally {
         add(&mut self.words, word);
         if word == "share" {
             add(&mut self.shares, how_much(written.trim_end()));
+        }
+        if WRITES.contains(&word) {
+            add(&mut self.writes, altered(&written));
         }
         if NO_CALL.contains(&word) {
             return;
@@ -68,6 +75,8 @@ impl Tally {
         }
         println!("shares in view:");
         self.shares.iter().for_each(|(how, count)| println!("  {how:14} {count:9}"));
+        println!("writes, by the pixels that they altered:");
+        self.writes.iter().for_each(|(how, count)| println!("  {how:14} {count:9}"));
         println!("damage:");
         let seen = &self.seen;
         let damage = [("contained", seen.contained), ("merged right", seen.right), ("merged down", seen.down)];
@@ -92,6 +101,16 @@ fn how_much(written: &str) -> &'static str {
         "0 100 0" => "all",
         _ if written.ends_with(" 0") => "whole percent",
         _ => "with remainder",
+    }
+}
+
+/// What the answer to a write says.
+fn altered(written: &str) -> &'static str {
+    let mut words = written.split_whitespace();
+    match (words.next(), words.next()) {
+        (Some("0"), Some("0")) => "none",
+        (Some("0"), Some(_)) => "some or all",
+        _ => "refused",
     }
 }
 

@@ -27,9 +27,17 @@ static void create(void) {
     say_numbers(made.answer, &id, made.answer == 0);
 }
 
+/* The answer of a call that writes pixels, and how many it altered. */
+static void say_altered(RoqAltered written) {
+    if (written.answer == 0)
+        printf("0 %zu\n", written.altered);
+    else
+        say(written.answer);
+}
+
 static void fill(uint16_t id, uint32_t x, uint32_t y, uint32_t w, uint32_t h, uint32_t colour) {
     RoqRect area = {{x, y}, {w, h}};
-    say(roq_fill(&s, id, area, colour, store, STORE));
+    say_altered(roq_fill(&s, id, area, colour, store, STORE));
 }
 
 static void visible(uint16_t id) {
@@ -91,7 +99,7 @@ static void draw_panels(void) {
     say(roq_resize(&s, 0, 12, 6, store, STORE));
     say(roq_resize(&s, 1, 6, 3, store, STORE));
     fill(0, 0, 0, 12, 6, 1);
-    say(roq_blit(&s, 0, line, WIDTH, track, WIDTH, store, STORE));
+    say_altered(roq_blit(&s, 0, line, WIDTH, track, WIDTH, store, STORE));
     fill(1, 0, 0, 6, 3, 3);
     fill(1, 1, 1, 2, 1, 4);
     say(roq_move(&s, 1, 4, 2));

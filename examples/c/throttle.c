@@ -35,7 +35,7 @@ static uint64_t now(void) {
 
 static void fill(uint16_t id, uint32_t x, uint32_t y, uint32_t w, uint32_t h, uint32_t colour) {
     RoqRect area = {{x, y}, {w, h}};
-    must(roq_fill(&s, id, area, colour, store, STORE));
+    must(roq_fill(&s, id, area, colour, store, STORE).answer);
 }
 
 static void window(uint16_t id, uint32_t x, uint32_t y, uint32_t w, uint32_t h) {

@@ -3,7 +3,7 @@
 #[path = "../../bench/src/station.rs"]
 mod station;
 
-use station::{Event, Station, MOUSE_DOWN, MOUSE_MOVE, RESIZE};
+use station::{Altered, Event, Station, MOUSE_DOWN, MOUSE_MOVE, RESIZE};
 
 const C: u32 = 72;
 const WIDTH: u32 = 12;
@@ -18,6 +18,14 @@ struct Panels {
 /// The answer of a call that hands nothing else back.
 fn say(answer: u32) {
     println!("{answer}");
+}
+
+/// The answer of a call that writes pixels, and how many it altered.
+fn say_altered(written: Altered) {
+    match written.answer {
+        0 => println!("0 {}", written.altered),
+        answer => say(answer),
+    }
 }
 
 fn numbers(of: &[u32]) -> String {
@@ -35,7 +43,7 @@ impl Panels {
         say(self.station.resize(id, w, h, &mut self.store));
     }
     fn fill(&mut self, id: u16, area: [u32; 4], colour: u32) {
-        say(self.station.fill(id, area, colour, &mut self.store));
+        say_altered(self.station.fill(id, area, colour, &mut self.store));
     }
     fn visible(&mut self, id: u16) {
         let mut list = [0; 1984];
@@ -80,7 +88,7 @@ impl Panels {
         self.resize(0, 12, 6);
         self.resize(1, 6, 3);
         self.fill(0, [0, 0, 12, 6], 1);
-        say(self.station.blit(0, [0, 3, 12, 1], &[2; 12], 12, &mut self.store));
+        say_altered(self.station.blit(0, [0, 3, 12, 1], &[2; 12], 12, &mut self.store));
         self.fill(1, [0, 0, 6, 3], 3);
         self.fill(1, [1, 1, 2, 1], 4);
         say(self.station.move_window(1, 4, 2));

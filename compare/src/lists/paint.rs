@@ -2,9 +2,11 @@
 use super::{Maker, Step};
 
 impl Maker<'_> {
+    /// Often one of three, so that pixels get the value that they have.
     pub fn colour(&mut self) -> u32 {
         match self.random.from_to(0, 49) {
             0 => self.random.from_to(0, 4_294_967_295),
+            1..=20 => self.random.from_to(1, 3),
             _ => self.random.from_to(1, 99),
         }
     }
