@@ -113,6 +113,14 @@ pub along-one : {s t : List ℕ} {k n : ℕ} → Along s t k n → (v k′ : ℕ
 along-one {s} {t} {k} {n} a v k′ l h =
     rw (← altered-set t k v (omega (arith, a .same))) (along-more a (v ∷ []) k′ (omega arith))
 
+-- the same where the pixels that kept their values are counted: m of the i so far
+pub along-kept : {s t : List ℕ} {k i m : ℕ} → Along s t k (i - m) → m ≤ i → (v : ℕ) → k < length s
+    → Along s (set t k v) (k + 1) (i + 1 - (m + (1 - differs (getD t k 0) v)))
+along-kept {s} {t} {k} {i} {m} a l v h =
+    let d = differs-one (getD t k 0) v in
+    let e : i - m + differs (getD t k 0) v ≡ i + 1 - (m + (1 - differs (getD t k 0) v)) = omega arith in
+    rw (← e) (along-one a v (k + 1) (omega arith) h)
+
 -- a function's run of values more, with its count
 pub along-run : {s t t′ : List ℕ} {k n m : ℕ} (vs : List ℕ) → Along s t k n → Counted (sets t k vs) t t′ m → (k′ : ℕ) → k + length vs ≤ k′
     → Along s t′ k′ (n + m)
