@@ -48,7 +48,7 @@ pub fn fill_part(px: &mut [u32], at: usize, n: u16, v: u32) -> usize
     ensures { λ r. ⌜ Counted (sets (now (px .entry)) at (replicate n v)) (now (px .entry)) (now (px .exit)) r ⌝ }
 {
     let mut kept: u32 = 0;
-    let mut i: u16 = 0;
+    let mut i = 0;
     while i < n {
         kept += keeps(px[at + i as usize], v);
         px[at + i as usize] = v;
