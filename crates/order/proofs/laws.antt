@@ -1,6 +1,8 @@
--- The search for a window's place, the gap that a hidden window leaves, rectangles held as numbers, and the topmost window at a point.
+-- The search for a window's place, the gap that a hidden window leaves, rectangles held as numbers, the topmost window at a point, and those at many points.
 pub mod Order
 pub mod Flags
 pub mod Rects
 pub mod Above
 pub mod Topmost
+pub mod Written
+pub mod Hits

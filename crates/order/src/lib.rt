@@ -13,6 +13,7 @@ use places::with_window;
 
 pub mod due;
 pub mod frames;
+pub mod hits;
 pub mod places;
 pub mod rects;
 pub mod topmost;

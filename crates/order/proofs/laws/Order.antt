@@ -24,6 +24,13 @@ ids-length n l h = length-map (take n l) num ∙ length-take-le n l h
 pub ids-snoc : (order : List WinId) (m : ℕ) → m < length order → ids (suc m) order ≡ ids m order ++ (getD order m noId .0 ∷ [])
 ids-snoc order m h = ap (map num) (take-suc order m noId h) ∙ map-append num (take m order) (getD order m noId ∷ [])
 
+pub ids-at : (n i : ℕ) (l : List WinId) → i < n → getD (ids n l) i 0 ≡ getD l i noId .0
+ids-at n i l h = List·getD-map num (take n l) i noId ∙ ap num (getD-take n l i noId h)
+
+pub ids-from : (order : List WinId) (n i : ℕ) → n ≤ length order → i < n → drop i (ids n order) ≡ getD order i noId .0 ∷ drop (suc i) (ids n order)
+ids-from order n i k h =
+    drop-cons (ids n order) i 0 (omega (arith, ids-length n order k)) ∙ ap (λ (e : ℕ). e ∷ drop (suc i) (ids n order)) (ids-at n i order h)
+
 -- The search for a place ----------------------------------------------------------------------------------------------
 
 -- a window that has a place stands there
@@ -56,9 +63,7 @@ module _ {order : List WinId} {n id i : ℕ} (q : Placing order n id i) where
   count = ids-length n order (omega (arith, q .size, q .few))
 
   next : i < n → drop i (ids n order) ≡ getD order i noId .0 ∷ drop (suc i) (ids n order)
-  next h =
-      drop-cons (ids n order) i 0 (omega (arith, count))
-      ∙ ap (λ (e : ℕ). e ∷ drop (suc i) (ids n order)) (List·getD-map num (take n order) i noId ∙ ap num (getD-take n order i noId h))
+  next h = ids-from order n i (omega (arith, q .size, q .few)) h
 
   pub place-hit : i < n → getD order i noId .0 ≡ id → some i ≡ renderIdx id (ids n order)
   place-hit h e =
@@ -75,9 +80,6 @@ module _ {order : List WinId} {n id i : ℕ} (q : Placing order n id i) where
   place-end h = rw (hidden-place id (ids n order) (omega (arith, q .so-far, count)))
 
 -- A gap closed ------------------------------------------------------------------------------------------------------
-
-pub ids-at : (n i : ℕ) (l : List WinId) → i < n → getD (ids n l) i 0 ≡ getD l i noId .0
-ids-at n i l h = List·getD-map num (take n l) i noId ∙ ap num (getD-take n l i noId h)
 
 -- the order as the gap at p is closed, up to i
 pub record Closing (shown p : ℕ) (order next : List WinId) (i : ℕ) : Type 0 where
