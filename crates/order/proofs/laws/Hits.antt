@@ -1,5 +1,5 @@
 -- One window more from the top of the order down: a point that a higher window has keeps its answer.
-use Prim.Native.Nat.{ℕ, zero, suc, _+_, _-_, _*_, _≤_, _<_}
+use Prim.Native.Nat.{ℕ, suc, _+_, _-_, _*_, _≤_, _<_}
 use mathlib.Core.Path.{_≡_, refl, sym, ap, subst, _∙_}
 use mathlib.Core.Bool.{Bool, true, false, cond, _&&_}
 use mathlib.Core.List.{List, [], _∷_, _++_}
@@ -19,26 +19,32 @@ use Rattle.order.specs.Order.{noId}
 use Rattle.order.specs.Frames.{topmostAt}
 use Rattle.order.specs.Hits.{three, atPoint, Written, toNobody, answered, hitIn}
 use Rattle.order.proofs.laws.Order.{ids-length, ids-at, ids-from}
-use Rattle.order.proofs.laws.Written.{written-next, not-yet, written-over, written-all}
+use Rattle.order.proofs.laws.Written.{three-kept, written-next, not-yet, written-over, written-all}
 
 -- One window at one point --------------------------------------------------------------------------------------------
 
-module _ (id : ℕ) (r : Rect) (t : List ℕ) (x y : ℕ) where
-  pub takes : getD t 0 0 ≡ 16 → contains r x y ≡ true → answered id r t x y ≡ id ∷ (x - left r) ∷ (y - top r) ∷ []
-  takes e h = rw (e, h) refl
+module _ (id : ℕ) (r : Rect) (points l : List ℕ) (i : ℕ) where
+  abbrev x : ℕ
+  x = getD points (2 * i) 0
 
-  pub lacks : contains r x y ≡ false → answered id r t x y ≡ t
-  lacks h = rw h (go (eqb (getD t 0 0) 16))
+  abbrev y : ℕ
+  y = getD points (2 * i + 1) 0
+
+  -- it has the point, and no window had it
+  pub takes : (m : List ℕ) → getD l (3 * i) 0 ≡ 16 → contains r x y ≡ true → m ≡ sets l (3 * i) (id ∷ (x - left r) ∷ (y - top r) ∷ [])
+      → m ≡ sets l (3 * i) (answered id r (three l i) x y)
+  takes m e h s = rw (e, h) s
+
+  -- a higher one had it
+  pub passes-over : (getD l (3 * i) 0 ≡ 16 → ⊥) → l ≡ sets l (3 * i) (answered id r (three l i) x y)
+  passes-over n = rw (ne-eqb (getD l (3 * i) 0) 16 n) (three-kept l i)
+
+  pub lacks : contains r x y ≡ false → l ≡ sets l (3 * i) (answered id r (three l i) x y)
+  lacks h = rw h (go (eqb (getD l (3 * i) 0) 16))
     where
-      go : (b : Bool) → cond (b && false) (id ∷ (x - left r) ∷ (y - top r) ∷ []) t ≡ t
-      go true = refl
-      go false = refl
-
-  pub passes-over : (getD t 0 0 ≡ 16 → ⊥) → answered id r t x y ≡ t
-  passes-over n = rw (ne-eqb (getD t 0 0) 16 n) refl
-
-  three-long : length t ≡ 3 → length (answered id r t x y) ≡ 3
-  three-long l = on-cond (λ (v : List ℕ). length v ≡ 3) (eqb (getD t 0 0) 16 && contains r x y) _ t (λ _. refl) (λ _. l)
+      go : (b : Bool) → l ≡ sets l (3 * i) (cond (b && false) (id ∷ (x - left r) ∷ (y - top r) ∷ []) (three l i))
+      go true = three-kept l i
+      go false = three-kept l i
 
 -- One window at the next point ---------------------------------------------------------------------------------------
 
@@ -48,7 +54,11 @@ pub look-next : (id : ℕ) (r : Rect) (points l m w : List ℕ) (k : ℕ) → Wr
 look-next id r points l m w k q e room =
     written-next q (atPoint points k (answered id r (three m k))) w e
     (ap (λ (t : List ℕ). atPoint points k (answered id r t)) (not-yet q k (omega arith)))
-    (three-long id r (three m k) (getD points (2 * k) 0) (getD points (2 * k + 1) 0) refl) room
+    (long (getD points (2 * k) 0) (getD points (2 * k + 1) 0)) room
+  where
+    long : (x y : ℕ) → length (answered id r (three m k) x y) ≡ 3
+    long x y =
+        on-cond (λ (v : List ℕ). length v ≡ 3) (eqb (getD m (3 * k) 0) 16 && contains r x y) (id ∷ (x - left r) ∷ (y - top r) ∷ []) (three m k) (λ _. refl) (λ _. refl)
 
 -- All windows at one point -------------------------------------------------------------------------------------------
 

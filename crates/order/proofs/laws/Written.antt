@@ -42,7 +42,7 @@ same-three l m i k f =
     let e : 3 * i ≡ 3 * i + 0 = omega arith in
     let h : 3 * k + 0 ≡ 3 * k = omega arith in
     let first : getD l (3 * i) 0 ≡ getD m (3 * k) 0
-        = ap (λ (n : ℕ). getD l n 0) e ∙ f 0 (omega arith) ∙ ap (λ (n : ℕ). getD m n 0) h in
+    = ap (λ (n : ℕ). getD l n 0) e ∙ f 0 (omega arith) ∙ ap (λ (n : ℕ). getD m n 0) h in
     λ d. first d ∷ f 1 (omega arith) d ∷ f 2 (omega arith) d ∷ []
 
 -- One point after the other ------------------------------------------------------------------------------------------

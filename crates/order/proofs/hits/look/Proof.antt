@@ -1,12 +1,8 @@
 -- Three cases: the window has the point; it has not; a higher one had it.
-use Prim.Native.Nat.{ℕ, _*_, _+_}
-use mathlib.Core.Path.{_≡_, sym, ap, _∙_}
-use mathlib.Core.List.{List}
+use Prim.Native.Nat.{_*_, _+_}
+use mathlib.Core.Path.{sym, _∙_}
 use lib.ListN.{getD}
-use lib.Seq.{sets}
 use Rattle.geom.proofs.geometry.Facts.{In, says-in}
-use Rattle.order.specs.Hits.{three}
-use Rattle.order.proofs.laws.Written.{three-kept}
 use Rattle.order.proofs.laws.Hits.{takes, lacks, passes-over}
 use borrow.Author.Needs.{needs}
 use Rattle.order.proofs.hits.look.Statement.{statement}
@@ -71,20 +67,18 @@ returns c =
     let t = c .before .before .before .before .before .before .before in
     let i = t .before .before .before .before in
     let a = i .before .before .before .before .args in
-    c .before .before .put .ensures
-    ∙ ap (sets (a .answers .now) (3 * a .i)) (sym (takes (a .id .0) (a .r) (three (a .answers .now) (a .i)) _ _ (i .if1 .taken) (sym (t .before .contains .ensures) ∙ t .if2 .taken)))
+    takes (a .id .0) (a .r) (a .points .now) (a .answers .now) (a .i) _ (i .if1 .taken) (sym (t .before .contains .ensures) ∙ t .if2 .taken)
+    (c .before .before .put .ensures)
 
 returns-2 : tie.Need-returns-2
 returns-2 c =
     let a = c .before .before .before .before .before .before .before .before .args in
-    three-kept (a .answers .now) (a .i)
-    ∙ ap (sets (a .answers .now) (3 * a .i)) (sym (lacks (a .id .0) (a .r) (three (a .answers .now) (a .i)) _ _ (sym (c .before .contains .ensures) ∙ c .if2 .left)))
+    lacks (a .id .0) (a .r) (a .points .now) (a .answers .now) (a .i) (sym (c .before .contains .ensures) ∙ c .if2 .left)
 
 returns-3 : tie.Need-returns-3
 returns-3 c =
     let a = c .before .before .before .before .args in
-    three-kept (a .answers .now) (a .i)
-    ∙ ap (sets (a .answers .now) (3 * a .i)) (sym (passes-over (a .id .0) (a .r) (three (a .answers .now) (a .i)) _ _ (c .if1 .left)))
+    passes-over (a .id .0) (a .r) (a .points .now) (a .answers .now) (a .i) (c .if1 .left)
 
 pub look-spec : {M : Type 1} → statement M
 look-spec =
