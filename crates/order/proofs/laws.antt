@@ -1,4 +1,4 @@
--- The search for a window's place, the gap that a hidden window leaves, rectangles held as numbers, the topmost window at a point, and those at many points.
+-- The search for a window's place, the gap that a hidden window leaves, rectangles held as numbers, the topmost window at a point, and those at many points, with their questions.
 pub mod Order
 pub mod Flags
 pub mod Rects
@@ -6,3 +6,4 @@ pub mod Above
 pub mod Topmost
 pub mod Written
 pub mod Hits
+pub mod Points

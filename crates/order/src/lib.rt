@@ -15,6 +15,7 @@ pub mod due;
 pub mod frames;
 pub mod hits;
 pub mod places;
+pub mod points;
 pub mod rects;
 pub mod topmost;
 

@@ -42,12 +42,12 @@ abbrev pub fit : ℕ → ℕ → Bool
 fit given lent = leb given 64 && eqb (given % 2) 0 && leb (3 * (given / 2)) lent
 
 -- the answer, and the answer list as the call leaves it
-pub record Hits : Type 0 where
+pub record Answered : Type 0 where
   pub answer : ℕ
   pub list : List ℕ
 
 -- "The rest of a longer answer list is untouched"; "asked after 5"; on a no the list is as it was lent, and the call changes nothing else
-unfoldable pub hits : Group → List ℕ → List ℕ → Hits
+unfoldable pub hits : Group → List ℕ → List ℕ → Answered
 hits g points lent =
     let a : ℕ = asked ((5 is allSmall points) ∷ (25 is fit (length points) (length lent)) ∷ []) in
     let found : List ℕ = eachPoint (hitAt g) points in

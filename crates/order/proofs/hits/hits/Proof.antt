@@ -1,10 +1,8 @@
 -- The windows from place `left` on have answered; each turn asks the highest of those that are left.
-use Prim.Native.Nat.{_-_, _<_}
 use mathlib.Core.Path.{refl, sym, subst}
 use native.Mathlib.Omega.{arith}
-use lib.ListN.{getD}
 use Rattle.geom.specs.Inner.{Fits}
-use Rattle.order.specs.Order.{noId}
+use Rattle.window.proofs.laws.Entries.{small-fits}
 use Rattle.order.specs.Frames.{frameAt}
 use Rattle.order.proofs.laws.Hits.{Passed, pass-none, pass-next, pass-end}
 use borrow.Author.Needs.{needs}
@@ -16,13 +14,6 @@ Inv-loop shown points answers₀ n areas order left₀ answers left = Passed (fr
 
 abbrev μ-loop : tie.MeasureT-loop
 μ-loop shown points answers₀ n areas order left₀ answers left = left
-
--- the number that is looked at is a window's
-looked : (c : tie.In-loop Inv-loop μ-loop)
-    → getD (c .before .before .before .before .before .before .before .before .args .t2) (c .before .loop .left - 1) noId .0 < 16
-looked c =
-    let s = c .before .before .before .before .before .before .before .before in
-    s .pre .0 .low _ (omega (arith, c .loop-test .taken, c .before .loop .inv .within))
 
 nobody-requires : tie.Need-nobody-requires Inv-loop μ-loop
 nobody-requires c κs = c .before .before .before .pre .2
@@ -53,7 +44,10 @@ mul-area : tie.Need-mul-area Inv-loop μ-loop
 mul-area c = search needs
 
 array-copy-out-area : tie.Need-array-copy-out-area Inv-loop μ-loop
-array-copy-out-area c = looked (c .before .before)
+array-copy-out-area c =
+    let i = c .before .before in
+    let s = i .before .before .before .before .before .before .before .before in
+    s .pre .0 .low _ (omega (arith, i .loop-test .taken, i .before .loop .inv .within))
 
 rect-requires : tie.Need-rect-requires Inv-loop μ-loop
 rect-requires c κs = search needs
@@ -62,9 +56,8 @@ look-all-requires : tie.Need-look-all-requires Inv-loop μ-loop
 look-all-requires c κs =
     let i = c .before .before .before .before .before in
     let o = i .before .before .before .before in
-    let s = o .before .before .before .before in
-    let small = s .pre .0 .small _ (looked i) in (
-      subst Fits (sym (c .before .rect .ensures)) (omega arith),
+    let s = o .before .before .before .before in (
+      subst Fits (sym (c .before .rect .ensures)) (small-fits _ (s .pre .0 .small _ (s .pre .0 .low _ (omega (arith, i .loop-test .taken, i .before .loop .inv .within))))),
       omega (arith, s .pre .1),
       omega (arith, s .pre .2, i .before .loop .inv .so-far .same, o .nobody .ensures .same),
     )
