@@ -12,6 +12,7 @@ pub mod Store
 pub mod Pixels
 pub mod Listed
 pub mod InView
+pub mod Hits
 pub mod Full
 pub mod Cleaned
 pub mod Drawn

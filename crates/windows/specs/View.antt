@@ -15,6 +15,7 @@ use Rattle.window.specs.Held.{winOf, RepWindow}
 use Rattle.rules.specs.Group.{Group, start, used, win}
 use Rattle.rules.specs.Group as Rule
 use Rattle.rules.specs.Share.{share}
+use Rattle.rules.specs.Hits.{hits}
 use Rattle.rules.specs.Visible.{visibleList}
 use Rattle.rules.specs.Calls.{Call, does, after}
 use Rattle.order.specs.declared.due.Walk.{Walk}
@@ -152,6 +153,11 @@ pub record Shares (g : Group) (id : ℕ) (r : InView) : Type 0 where
   pub answer : r .answer ≡ share g id .answer
   pub percent : r .percent ≡ share g id .percent
   pub remainder : r .remainder ≡ share g id .remainder
+
+-- many points: the answer and the lent list are the rule's
+pub record Hits (g : Group) (points before : List ℕ) (a : ℕ) (after : List ℕ) : Type 0 where
+  pub answer : a ≡ hits g points before .answer
+  pub list : after ≡ hits g points before .list
 
 -- position and size of a window: question 3, "any other number handed back 0"
 abbrev pub placed : Group → ℕ → Placed

@@ -20,6 +20,7 @@ mod calls;
 pub mod events;
 mod frames;
 mod group;
+mod hits;
 mod list;
 pub mod one;
 pub mod portion;

@@ -6,7 +6,7 @@ use mathlib.Core.List.{List, [], _∷_, _++_, append-assoc}
 use mathlib.Core.Option.{Option, none, some}
 use native.Mathlib.Nat.{add-zero}
 use native.Mathlib.Omega.{arith}
-use lib.ListN.{length, getD, drop, List·getD-append}
+use lib.ListN.{length, getD, drop, length-append, List·getD-append}
 use lib.Seq.{getD-append-add}
 use borrow.Author.Tests.{lt-ltb, eq-eqb}
 use Rattle.geom.specs.declared.Rect.{Rect}
@@ -30,8 +30,15 @@ pub hit-three : (frame : ℕ → Rect) (px py : ℕ) (o : Option ℕ) → length
 hit-three frame px py none = refl
 hit-three frame px py (some id) = refl
 
--- of three numbers for each point, those of point i
-pub each-at : (f : ℕ → ℕ → List ℕ) → ((x y : ℕ) → length (f x y) ≡ 3) → (points rest : List ℕ) (i j : ℕ) → 2 * i + 1 < length points → j < 3
+-- three numbers for each of n points
+pub each-long : (f : ℕ → ℕ → List ℕ) → ((x y : ℕ) → length (f x y) ≡ 3) → (points : List ℕ) (n : ℕ) → length points ≡ 2 * n → length (eachPoint f points) ≡ 3 * n
+each-long f t [] n e = omega arith
+each-long f t (x ∷ []) n e = absurd (omega arith)
+each-long f t (x ∷ y ∷ ps) zero e = absurd (omega arith)
+each-long f t (x ∷ y ∷ ps) (suc n) e = length-append (f x y) (eachPoint f ps) ∙ omega (arith, t x y, each-long f t ps n (omega arith))
+
+-- those of point i
+each-at : (f : ℕ → ℕ → List ℕ) → ((x y : ℕ) → length (f x y) ≡ 3) → (points rest : List ℕ) (i j : ℕ) → 2 * i + 1 < length points → j < 3
     → getD (eachPoint f points ++ rest) (3 * i + j) 0 ≡ getD (f (getD points (2 * i) 0) (getD points (2 * i + 1) 0)) j 0
 each-at f t [] rest i j h k = absurd (omega arith)
 each-at f t (x ∷ []) rest i j h k = absurd (omega arith)

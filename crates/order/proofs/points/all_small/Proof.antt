@@ -1,6 +1,5 @@
 -- The first i numbers are small.
 use Prim.Native.Nat.{_-_}
-use native.Mathlib.Omega.{arith}
 use lib.ListN.{length}
 use Rattle.order.proofs.laws.Points.{Asking, ask-none, ask-large, ask-small, ask-end}
 use borrow.Author.Needs.{needs}

@@ -1,0 +1,26 @@
+// Which windows lie under many points. Document 02, N12.
+ghost use Rattle.windows.specs.View.{group, Given, Hits};
+use crate::Session;
+use order::points;
+
+impl Session {
+    // For each point, x and y in turn, three numbers: the window that a press there would go to and the point in it, or 16, 0, 0. Nothing is
+    // delivered; the rest of the list is untouched.
+    pub fn hits(self, points: &[u32], answers: &mut [u32]) -> u32
+        requires { ⌜ Given self ⌝ }
+        ensures { λ r. ⌜ Hits (group self) (now (points .entry)) (now (answers .entry)) r (now (answers .exit)) ⌝ }
+    {
+        if points::all_small(points) {
+            if points::fit(points.len(), answers.len()) {
+                let frames = self.frames();
+                let areas = frames.areas;
+                let order = self.shared.order;
+                let n = points.len() / 2;
+                order::hits::hits(areas, order, self.shared.shown, points, answers, n);
+                return 0;
+            }
+            return 25;
+        }
+        5
+    }
+}
