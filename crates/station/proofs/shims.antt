@@ -23,3 +23,4 @@ pub mod One
 pub mod ReadNone
 pub mod ReadOne
 pub mod ReadOneLent
+pub mod Read

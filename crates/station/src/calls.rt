@@ -4,7 +4,7 @@
 // Before `roq_start` the memory holds zeros or a session; before any other call, a session that `roq_start` and later calls left.
 ghost use mathlib.Core.Path.{_≡_};
 ghost use Rattle.rules.specs.Calls.{Call};
-ghost use Rattle.windows.specs.View.{group, done, written, Given, Meets, MeetsStore, MeetsAltered, MeetsScreen, Starts, Lists, Shares, placed};
+ghost use Rattle.windows.specs.View.{group, done, written, Given, Meets, MeetsStore, MeetsAltered, MeetsScreen, Starts, Lists, Shares, Hits, placed};
 ghost use Rattle.station.specs.Answers.{Creates, Pops};
 ghost use Rattle.station.specs.Events.{eventOf, Routes};
 use crate::events::RoqEvent;
@@ -276,6 +276,14 @@ pub extern "C" fn roq_share(s: &Session, id: WinId) -> InView
     ensures { λ r. ⌜ Shares (group (now (s .entry))) (id .0) r ⌝ }
 {
     (*s).share(id)
+}
+
+#[no_mangle]
+pub extern "C" fn roq_hits(s: &Session, points: &[u32], answers: &mut [u32]) -> u32
+    requires { ⌜ Given (now s) ⌝ }
+    ensures { λ r. ⌜ Hits (group (now (s .entry))) (now (points .entry)) (now (answers .entry)) r (now (answers .exit)) ⌝ }
+{
+    (*s).hits(points, answers)
 }
 
 #[no_mangle]
