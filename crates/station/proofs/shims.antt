@@ -1,6 +1,6 @@
 -- A call that takes the session behind a pointer: one walk of MIR for each shape, over any plain types. A call's own proof names the shape, the
 -- types and the promise. `Place`, `Seek` and `Turn` change one window and what the windows share in place; `Shared` changes what they share alone;
--- `Settle` looks at the session and then settles it; `One` puts another session there; the rest read it.
+-- `Settle` looks at the session and then settles it; `One` puts another session there; `Read` reads it.
 pub mod Types
 pub mod Item
 pub mod Slots
@@ -20,7 +20,4 @@ pub mod Turn
 pub mod Shared
 pub mod Settle
 pub mod One
-pub mod ReadNone
-pub mod ReadOne
-pub mod ReadOneLent
 pub mod Read

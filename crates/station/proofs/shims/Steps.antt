@@ -1,5 +1,5 @@
 -- Steps of a walk: what lies behind a `&mut` is opened and closed; what a callee promised is heard, and the struct of two that it handed back is
--- stored; a callee that asks nothing.
+-- stored; a callee or a caller that asks nothing.
 use mathlib.Core.Path.{_≡_, refl, ap}
 use Prim.Native.Nat.{ℕ}
 use mathlib.Core.List.{List, [], _∷_}
@@ -14,7 +14,7 @@ use base.Stored.{Gv}
 use base.Fml.{GName, Lft, Share, flft, fobs, fauth, fbor, fobor}
 use prog.Wp.{Heap, Env, Calls, Loops, noLocal}
 use ghost.Atoms.{Atoms, sem}
-use contract.Monad.{Fun, fact, guard→}
+use contract.Monad.{Fun, fact, factI, guard→}
 use types.Kit.{Given, Item, ‵, raw, _⊛_, some, later, mean, Goal, Post, runs, lands, Soaks, Seq, Step, step, _$_, move, drop, use1, split, pick, rewrite, await}
 use types.Run.{init, stop, fld, load, of-opd, land, assigns}
 use types.Part.{whole, sub, look-in}
@@ -88,3 +88,11 @@ pub asks-nothing : {M : Type 1} (𝓤 : URA M) (H : Heap 𝓤) (A : Atoms 𝓤) 
 asks-nothing 𝓤 H A S run c met y =
     let owned = onEntry 𝓤 H A S (y .0 .0) (y .0 .1) (y .0 .3) (y .0 .4) in
     via 𝓤 (sep 𝓤 owned (emp 𝓤)) (monoR 𝓤 owned (guard→ 𝓤 (Unit {0}) (emp 𝓤))) (met y)
+
+-- and a caller that meets the contract that asks for `Unit` meets the one that asks nothing
+pub nothing-asked : {M : Type 1} (𝓤 : URA M) (H : Heap 𝓤) (A : Atoms 𝓤) (S : Signature) (run : Fun 𝓤) (c : Spec 𝓤 S)
+    → Meets 𝓤 H A S run (λ κs a. record { ghost = c κs a .ghost; requires = λ _. fact 𝓤 (Unit {0}); ensures = c κs a .ensures })
+    → Meets 𝓤 H A S run (λ κs a. record { ghost = c κs a .ghost; requires = λ _. emp 𝓤; ensures = c κs a .ensures })
+nothing-asked 𝓤 H A S run c met y =
+    let owned = onEntry 𝓤 H A S (y .0 .0) (y .0 .1) (y .0 .3) (y .0 .4) in
+    via 𝓤 (sep 𝓤 owned (fact 𝓤 (Unit {0}))) (monoR 𝓤 owned (factI 𝓤 (Unit {0}) (emp 𝓤) tt)) (met y)

@@ -1,13 +1,13 @@
 -- `roq_hits` is `Session::hits` behind a pointer.
 use mathlib.Core.List.{[], _∷_}
 use contract.Running.{tables}
+use denote.Ref.{now}
 use denote.Triple.Spec.{tripleOf}
 use denote.Triple.Table.{entered}
-use Rattle.windows.specs.View.{group, Hits}
+use Rattle.windows.specs.View.{group, Given, Hits}
 use Rattle.windows.proofs.Session.hits.Symbol as value
 use Rattle.windows.proofs.Session.hits.Met as value′
-use denote.Ref.{now}
-use Rattle.windows.specs.View.{Given}
+use Rattle.station.proofs.shims.Args.{reads, writes}
 use Rattle.station.proofs.shims.Args.{reads, writes}
 use Rattle.station.proofs.shims.Read as shim
 use Rattle.station.proofs.shims.Parameters.{session, number}

@@ -1,14 +1,16 @@
 -- `roq_rect_of` is `Session::rect_of` behind a pointer.
+use mathlib.Core.Path.{_≡_}
+use mathlib.Core.List.{[], _∷_}
 use contract.Running.{tables}
 use denote.Triple.Spec.{tripleOf}
 use denote.Triple.Table.{entered}
-use mathlib.Core.Path.{_≡_}
-use Rattle.windows.specs.View.{group}
 use Rattle.windows.specs.View as View
+use Rattle.windows.specs.View.{group, Given}
 use Rattle.windows.proofs.Session.rect_of.Symbol as value
 use Rattle.windows.proofs.Session.rect_of.Met as value′
-use Rattle.station.proofs.shims.ReadOne as shim
-use Rattle.station.proofs.shims.Parameters.{session, winId, placed, given}
+use Rattle.station.proofs.shims.Args.{value}
+use Rattle.station.proofs.shims.Read as shim
+use Rattle.station.proofs.shims.Parameters.{session, winId, placed}
 use Rattle.station.proofs.calls.roq_rect_of as f
 use Rattle.station.proofs.calls.roq_rect_of.Key as key
 use Rattle.station.proofs.calls.roq_rect_of.Statement.{statement}
@@ -19,6 +21,6 @@ unfolding code.routine
 roq-rect-of-spec 𝓤 H 𝓜 𝓖 𝓡 =
     entered 𝓤 H (tripleOf 𝓤 H (𝓖 .A) f.signature (f.spec 𝓤 H (𝓖 .A) (𝓜 .mem) (𝓡 .run)))
     (tables 𝓤 H 𝓜 𝓡 code.env .C) (tables 𝓤 H 𝓜 𝓡 code.env .Λ) key.name code.function (code.unfolded 𝓤 H 𝓜 𝓡)
-    (shim.meets session winId placed given
-    (λ s id r. r ≡ View.placed (group s) (id .0))
+    (shim.meets session placed 0 (value winId ∷ []) Given (λ s κs a r e. r ≡ View.placed (group s) (a .0 .0))
+    (λ κs s a r e. r ≡ View.placed (group s) (a .0 .0)) (λ κs s a r ws d. d)
     𝓤 H 𝓜 𝓖 𝓡 code.env value.name value.routine code.calls-windows·Session·rect-of (value′.met 𝓤 H 𝓜 𝓖 𝓡))
