@@ -22,8 +22,10 @@ pub calls : ("start 4294967295" means call Kind.start (4294967295 ∷ []) [])
     × ("busiest" means call Kind.busiest [] [])
     × ("busiest 5 5 1004" means call Kind.busiest (5 ∷ 5 ∷ 1004 ∷ []) [])
     × ("share 3" means call Kind.share (3 ∷ []) [])
+    × ("hits" means call Kind.hits [] [])
+    × ("hits 8 2 9" means call Kind.hits (8 ∷ 2 ∷ 9 ∷ []) [])
 unfolding split words value number nameByte isName table kindOf counted ranged nameFits accepts withWord complete hears
-calls = (refl, refl, refl, refl, refl, refl, refl, refl, refl, refl, refl)
+calls = (refl, refl, refl, refl, refl, refl, refl, refl, refl, refl, refl, refl, refl)
 
 pub no-calls : ("" means silent)
     × ("# start 1" means silent)

@@ -136,6 +136,9 @@ busiest = 43
 abbrev pub share : ℕ
 share = 44
 
+abbrev pub hits : ℕ
+hits = 45
+
 -- the last of them
 abbrev pub last : ℕ
-last = share
+last = hits

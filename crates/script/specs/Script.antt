@@ -73,8 +73,8 @@ isName w = leb (length w) 64 && (noDotFirst w && all nameByte w)
 
 -- Kinds ---------------------------------------------------------------------------------------------------------------
 
--- a row of the tables: the word that a line begins with, the line's kind, how many numbers it has, PIXELS, DATA and times not counted, and
--- how many of these may follow
+-- a row of the tables: the word that a line begins with, the line's kind, how many numbers it has, PIXELS, DATA, points and times not counted,
+-- and how many of these may follow
 pub record Row : Type 0 where
   pub word : List ℕ
   pub kind : ℕ
@@ -84,7 +84,7 @@ pub record Row : Type 0 where
 abbrev pub row : String → ℕ → ℕ → Row
 row w k n = record { word = bytes w; kind = k; numbers = n; more = 0 }
 
--- "DATA is 0 to 4,096 numbers"; "PIXELS and DATA are at most 4,096 numbers together"
+-- "DATA is 0 to 4,096 numbers"; "PIXELS and DATA are at most 4,096 numbers together"; "0 to 4,096 numbers, x and y in turn"
 abbrev pub rowMore : String → ℕ → ℕ → Row
 rowMore w k n = record { word = bytes w; kind = k; numbers = n; more = 4096 }
 
@@ -137,6 +137,7 @@ table =
     ∷ row "portion" Kind.portion 2
     ∷ rowTimes "busiest" Kind.busiest
     ∷ row "share" Kind.share 1
+    ∷ rowMore "hits" Kind.hits 0
     ∷ []
 
 abbrev pub sameWord : List ℕ → List ℕ → Bool

@@ -96,13 +96,15 @@ pub const BUSIEST: u8 = 43;
 
 pub const SHARE: u8 = 44;
 
+pub const HITS: u8 = 45;
+
 // The last of them.
-pub const LAST: u8 = SHARE;
+pub const LAST: u8 = HITS;
 
 const WORDS: usize = LAST as usize - 1;
 
-// The bytes of a row of the table: how many letters the word has, how many numbers a line has at least, `+` where PIXELS or DATA may follow
-// or `*` where times may, and the word.
+// The bytes of a row of the table: how many letters the word has, how many numbers a line has at least, `+` where PIXELS, DATA or points may
+// follow or `*` where times may, and the word.
 pub const ROW: usize = 19;
 
 // The words in the order of their kinds.
@@ -150,6 +152,7 @@ pub const ROWS: [u8; WORDS * ROW] = *b"\
     \x07\x02 portion         \
     \x07\x00*busiest         \
     \x05\x01 share           \
+    \x04\x00+hits            \
     ";
 
 pub fn wide(b: u8) -> usize
