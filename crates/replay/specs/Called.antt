@@ -100,4 +100,4 @@ OnScreen k = (k ≡ Kind.redraw) ⊎ (k ≡ Kind.portion)
 abbrev pub isLent : ℕ → Bool
 isLent k =
     within Kind.resize Kind.blit k
-    || (eqb k Kind.redraw || (eqb k Kind.portion || (eqb k Kind.visible || within Kind.screen Kind.region k)))
+    || (eqb k Kind.redraw || (eqb k Kind.portion || (eqb k Kind.visible || (eqb k Kind.hits || within Kind.screen Kind.region k))))

@@ -1,16 +1,17 @@
 -- What playing a line does to the player and to the pixels that it lends: the tables of CALL-SCRIPT.md, a constructor for each row or
 -- for the rows that are alike.
-use Prim.Native.Nat.{ℕ, _*_, _≤_, _<_}
+use Prim.Native.Nat.{ℕ, _*_, _/_, _≤_, _<_}
 use mathlib.Core.Path.{_≡_}
 use mathlib.Core.Bool.{cond}
 use mathlib.Core.List.{List, _++_}
 use lib.Dec.{eqb}
-use lib.ListN.{take, drop}
+use lib.ListN.{length, take, drop}
 use Rattle.script.specs.declared.shape.Line.{Line}
 use Rattle.script.specs.Kind as Kind
 use Rattle.script.specs.Script.{hears, heardOf}
 use Rattle.rules.specs.Group.{Group, start, sessionC}
 use Rattle.rules.specs.Visible.{visibleList}
+use Rattle.rules.specs.Hits.{hits}
 use Rattle.rules.specs.Calls as Call
 use Rattle.rules.specs.Calls.{Call, does}
 use Rattle.windows.specs.declared.Session.{Session}
@@ -20,7 +21,7 @@ use Rattle.windows.specs.View.{group, Meets}
 use Rattle.replay.specs.declared.player.Player.{Player}
 use Rattle.replay.specs.Numbers.{num, idOf}
 use Rattle.replay.specs.Called.{Picked, plainCall, storeCall, OnScreen, screenCall}
-use Rattle.replay.specs.Ready.{Next, lendStore, lendScreen, unset, lendList, counted}
+use Rattle.replay.specs.Ready.{Next, lendStore, lendScreen, unset, lendList, unlisted, counted}
 
 -- "The program owns one store, one screen"
 pub record Pixels : Type 0 where
@@ -62,6 +63,16 @@ pub record ListsPart (g : Group) (id n : ℕ) (list : List ℕ) (r : Listing) (a
   pub listed : after ≡ visibleList g id (take n list) .list ++ drop n list
   pub room : 4 * r .count ≤ n
 
+-- many points, lent the first n numbers of the list: an accepted call has three for each
+pub record HitsPart (g : Group) (points : List ℕ) (n : ℕ) (list : List ℕ) (a : ℕ) (after : List ℕ) : Type 0 where
+  pub answer : a ≡ hits g points (take n list) .answer
+  pub listed : after ≡ hits g points (take n list) .list ++ drop n list
+  pub room : a ≡ 0 → 3 * (length points / 2) ≤ n
+
+-- how many numbers of the list a line is lent: what `lend-list` said, or as many as else
+abbrev pub listLen : ℕ → Player → ℕ
+listLen n p = cond (p .«has_list») (p .list) n
+
 -- `resize`, `fill` and `blit` are lent the store as `lend` says
 pub record Stores (k : Call) (p : Player) (store : List ℕ) (r : Player) (after : List ℕ) : Type 0 where
   pub makes : Makes k p r
@@ -96,7 +107,9 @@ pub data Plays (l : Line) (ns : List ℕ) (p : Player) (a : Pixels) (r : Player)
   redraws : OnScreen (l .kind) → screenLen p (l .kind) ns ≤ 384000
       → Draws (l .kind) ns (screenLen p (l .kind) ns) p (a .store) (a .screen) r (b .screen) → b .store ≡ a .store → Plays l ns p a r b
   -- "the visible list, lent 1,984 numbers", or as many as `lend-list` said, which it uses up
-  lists : l .kind ≡ Kind.visible → Next (lendList 1984 p) (p .session) r → b ≡ a → Plays l ns p a r b
+  lists : l .kind ≡ Kind.visible → Next (unlisted p) (p .session) r → b ≡ a → Plays l ns p a r b
+  -- "lent 96 numbers", or as many as `lend-list` said, which it uses up
+  asks-hits : l .kind ≡ Kind.hits → Next (unlisted p) (p .session) r → b ≡ a → Plays l ns p a r b
   asks-focus : l .kind ≡ Kind.focus → Next p (p .session) r → b ≡ a → Plays l ns p a r b
   -- "from here on lend a store of STORE pixels, until the next `start`"
   lends : l .kind ≡ Kind.lend → num ns 0 ≤ 1048576 → Next (lendStore (num ns 0) p) (p .session) r → b ≡ a → Plays l ns p a r b

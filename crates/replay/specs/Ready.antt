@@ -23,24 +23,29 @@ pub record Next (p : Player) (s : Session) (r : Player) : Type 0 where
   pub lent : r .lent ≡ p .lent
   pub set : r .«is_set» ≡ p .«is_set»
   pub screen : r .screen ≡ p .screen
+  pub has-list : r .«has_list» ≡ p .«has_list»
   pub list : r .list ≡ p .list
   pub lines : r .lines ≡ p .lines
 
 -- a store of n pixels is lent
 abbrev pub lendStore : ℕ → Player → Player
-lendStore n p = record { session = p .session; lent = n; «is_set» = p .«is_set»; screen = p .screen; list = p .list; at = p .at; lines = p .lines }
+lendStore n p = record { session = p .session; lent = n; «is_set» = p .«is_set»; screen = p .screen; «has_list» = p .«has_list»; list = p .list; at = p .at; lines = p .lines }
 
 -- the next redraw or portion is lent a screen of n pixels
 abbrev pub lendScreen : ℕ → Player → Player
-lendScreen n p = record { session = p .session; lent = p .lent; «is_set» = true; screen = n; list = p .list; at = p .at; lines = p .lines }
+lendScreen n p = record { session = p .session; lent = p .lent; «is_set» = true; screen = n; «has_list» = p .«has_list»; list = p .list; at = p .at; lines = p .lines }
 
 -- nothing was said of the next screen
 abbrev pub unset : Player → Player
-unset p = record { session = p .session; lent = p .lent; «is_set» = false; screen = p .screen; list = p .list; at = p .at; lines = p .lines }
+unset p = record { session = p .session; lent = p .lent; «is_set» = false; screen = p .screen; «has_list» = p .«has_list»; list = p .list; at = p .at; lines = p .lines }
 
--- the next visible list is lent n numbers
+-- the next visible list or hits is lent n numbers
 abbrev pub lendList : ℕ → Player → Player
-lendList n p = record { session = p .session; lent = p .lent; «is_set» = p .«is_set»; screen = p .screen; list = n; at = p .at; lines = p .lines }
+lendList n p = record { session = p .session; lent = p .lent; «is_set» = p .«is_set»; screen = p .screen; «has_list» = true; list = n; at = p .at; lines = p .lines }
+
+-- nothing was said of the next list
+abbrev pub unlisted : Player → Player
+unlisted p = record { session = p .session; lent = p .lent; «is_set» = p .«is_set»; screen = p .screen; «has_list» = false; list = p .list; at = p .at; lines = p .lines }
 
 -- "N being the line's number counted from 1, all lines counted", as far as 64 bits go
 abbrev pub counted : Player → Player
@@ -50,6 +55,7 @@ counted p =
       lent = p .lent;
       «is_set» = p .«is_set»;
       screen = p .screen;
+      «has_list» = p .«has_list»;
       list = p .list;
       at = p .at;
       lines = cond (ltb (p .lines) 18446744073709551615) (p .lines + 1) (p .lines);

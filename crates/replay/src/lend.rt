@@ -7,8 +7,8 @@ ghost use Rattle.windows.specs.View.{group, done, Given, MeetsStore, MeetsAlter
 ghost use Rattle.replay.specs.Called.{Picked, storeCall, screenCall, OnScreen};
 ghost use Rattle.replay.specs.Numbers.{num, idOf, rectAt, Sound};
 ghost use Rattle.script.specs.Kind as Kind;
-ghost use Rattle.replay.specs.Ready.{Ready, Next, lendList};
-ghost use Rattle.replay.specs.Played.{pixels, screenLen, MeetsPart, DrawsPart, ListsPart, Stores, Draws, Plays, PlaysAt};
+ghost use Rattle.replay.specs.Ready.{Ready, Next, unlisted};
+ghost use Rattle.replay.specs.Played.{pixels, screenLen, listLen, MeetsPart, DrawsPart, ListsPart, Stores, Draws, Plays, PlaysAt};
 use crate::numbers;
 use crate::player::Player;
 use crate::text;
@@ -165,6 +165,17 @@ pub fn redraw(
     p.refused(out)
 }
 
+// How many numbers of the list a line is lent: what was said, or as many as else.
+pub fn list_len(p: Player, other: usize) -> usize
+    requires { ⌜ Ready p × (other ≤ 1984) ⌝ }
+    ensures { λ r. ⌜ (r ≡ listLen other p) × (r ≤ 1984) ⌝ }
+{
+    if p.has_list {
+        return p.list;
+    }
+    other
+}
+
 fn listed(s: Session, ns: &[u32; 4200], list: &mut [u32], len: usize) -> Listing
     requires { ⌜ Given s × (len ≤ length (now list)) ⌝ }
     ensures { λ r. ⌜ ListsPart (group s) (idOf (now (ns .entry))) len (now (list .entry)) r (now (list .exit)) ⌝ }
@@ -172,7 +183,7 @@ fn listed(s: Session, ns: &[u32; 4200], list: &mut [u32], len: usize) -> Listing
     s.visible(numbers::id(ns), &mut list[0..len])
 }
 
-fn put_list(list: &[u32], n: usize, out: &mut [u8; 65536], at: usize) -> usize
+pub fn put_list(list: &[u32], n: usize, out: &mut [u8; 65536], at: usize) -> usize
     requires { ⌜ (n ≤ length (now list)) × (at ≤ 65536) ⌝ }
     ensures { λ r. ⌜ r ≤ 65536 ⌝ }
 {
@@ -199,11 +210,12 @@ pub fn visible(
     out: &mut [u8; 65536],
 ) -> Player
     requires { ⌜ Ready p ⌝ }
-    ensures { λ r. ⌜ Next (lendList 1984 p) (p .session) r ⌝ }
+    ensures { λ r. ⌜ Next (unlisted p) (p .session) r ⌝ }
 {
     let s = p.session;
-    let found = listed(s, ns, list, p.list);
-    p.list = 1984;
+    let len = list_len(p, 1984);
+    let found = listed(s, ns, list, len);
+    p.has_list = false;
     p.at = put_listing(found, list, out, p.at);
     p
 }
@@ -240,6 +252,7 @@ pub fn lend_list(mut p: Player, ns: &[u32; 4200], out: &mut [u8; 65536]) -> Play
 {
     let n = numbers::wide(ns[0]);
     if n <= 1984 {
+        p.has_list = true;
         p.list = n;
         return p.accepted(out);
     }

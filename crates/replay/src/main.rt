@@ -4,6 +4,7 @@
 mod calls;
 mod events;
 mod geometry;
+mod hits;
 mod input;
 mod lend;
 mod numbers;

@@ -8,6 +8,7 @@ ghost use Rattle.replay.specs.Ready.{Ready, Next, counted};
 ghost use Rattle.replay.specs.Played.{pixels, Plays};
 use crate::calls;
 use crate::geometry;
+use crate::hits;
 use crate::lend;
 use crate::pixels;
 use crate::show;
@@ -18,13 +19,14 @@ use windows::Done;
 use windows::Session;
 use windows::Written;
 
-// `lent` pixels of the store are lent. The next redraw or portion is lent `screen` pixels where `is_set`, and the next visible list `list`
-// numbers. `at` bytes of the output wait to be written; `lines` lines have been read.
+// `lent` pixels of the store are lent. The next redraw or portion is lent `screen` pixels where `is_set`, and the next visible list or hits
+// `list` numbers where `has_list`. `at` bytes of the output wait to be written; `lines` lines have been read.
 pub struct Player {
     pub session: Session,
     pub lent: usize,
     pub is_set: bool,
     pub screen: usize,
+    pub has_list: bool,
     pub list: usize,
     pub at: usize,
     pub lines: u64,
@@ -42,7 +44,8 @@ impl Player {
             lent: 16,
             is_set: false,
             screen: 0,
-            list: 1984,
+            has_list: false,
+            list: 0,
             at: 0,
             lines: 0,
         }
@@ -169,6 +172,7 @@ impl Player {
             kind::RESIZE | kind::FILL | kind::BLIT => lend::stored(self, line, ns, store, out),
             kind::REDRAW | kind::PORTION => lend::redraw(self, line, ns, store, screen, out),
             kind::VISIBLE => lend::visible(self, ns, list, out),
+            kind::HITS => hits::hits(self, line, ns, list, out),
             kind::SCREEN..=kind::REGION => self.shown(line, ns, name, store, screen, out),
             _ => calls::call(self, line, ns, out),
         }

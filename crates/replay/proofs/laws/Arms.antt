@@ -59,14 +59,15 @@ outside low high k h = go (leb low k) refl
     go true e = lt-leb k high (h (leb-true low k e))
     go false e = refl
 
-pub not-lent : (k : ℕ) → (OnScreen k → ⊥) → (k ≡ Kind.visible → ⊥) → (Kind.resize ≤ k → Kind.blit < k) → (Kind.screen ≤ k → Kind.region < k)
+pub not-lent : (k : ℕ) → (OnScreen k → ⊥) → (k ≡ Kind.visible → ⊥) → (k ≡ Kind.hits → ⊥) → (Kind.resize ≤ k → Kind.blit < k) → (Kind.screen ≤ k → Kind.region < k)
     → isLent k ≡ false
-not-lent k o v w s =
+not-lent k o v q w s =
     rw (
       outside Kind.resize Kind.blit k w,
       ne-eqb k Kind.redraw (λ e. o (inl e)),
       ne-eqb k Kind.portion (λ e. o (inr e)),
       ne-eqb k Kind.visible v,
+      ne-eqb k Kind.hits q,
       outside Kind.screen Kind.region k s,
     )
 

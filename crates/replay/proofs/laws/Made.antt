@@ -12,18 +12,18 @@ use Rattle.rules.specs.Calls.{Call}
 use Rattle.windows.specs.declared.Session.{Session}
 use Rattle.windows.specs.declared.Done.{Done}
 use Rattle.windows.specs.declared.Listing.{Listing}
-use Rattle.windows.specs.View.{group, Meets, MeetsStore, MeetsScreen, Starts, Lists}
+use Rattle.windows.specs.View.{group, Meets, MeetsStore, MeetsScreen, Starts, Lists, Hits}
 use Rattle.replay.specs.declared.player.Player.{Player}
 use Rattle.replay.specs.Ready.{Ready, Next, lendStore}
-use Rattle.replay.specs.Played.{Pixels, Makes, Begins, MeetsPart, DrawsPart, ListsPart, Plays}
+use Rattle.replay.specs.Played.{Pixels, Makes, Begins, MeetsPart, DrawsPart, ListsPart, HitsPart, Plays}
 use Rattle.replay.specs.Called.{Picked}
-use Rattle.replay.proofs.laws.Sizes.{counted}
+use Rattle.replay.proofs.laws.Sizes.{counted, hits-room}
 use Rattle.replay.proofs.laws.Picked.{picked-so}
-use Rattle.replay.specs.Played.{unread, beyond, starts, creates, plain, stores, pops, redraws, lists, asks-focus, lends, lends-screen, lends-list, asks-busiest, asks-share, shows}
+use Rattle.replay.specs.Played.{unread, beyond, starts, creates, plain, stores, pops, redraws, lists, asks-hits, asks-focus, lends, lends-screen, lends-list, asks-busiest, asks-share, shows}
 
 -- the session that r has is the next
 own : {p : Player} {s : Session} {r : Player} → Next p s r → Next p (r .session) r
-own n = record { ready = n .ready; session = refl; lent = n .lent; set = n .set; screen = n .screen; list = n .list; lines = n .lines }
+own n = record { ready = n .ready; session = refl; lent = n .lent; set = n .set; screen = n .screen; has-list = n .has-list; list = n .list; lines = n .lines }
 
 pub makes : (k : Call) (p r : Player) (d : Done) → Meets k (p .session) d → Next p (d .session) r → Makes k p r
 makes k p r d m n =
@@ -36,7 +36,7 @@ c-of c d h = ap (λ (g : Group). g .c) (h .after)
 pub begins : (c : ℕ) (p r : Player) (d : Done) → Starts c d → Next (lendStore (16 * d .session .shared .c) p) (d .session) r → Begins c p r
 begins c p r d h n =
     record {
-      next = record { ready = n .ready; session = refl; lent = n .lent ∙ ap (λ (k : ℕ). 16 * k) (c-of c d h); set = n .set; screen = n .screen; list = n .list; lines = n .lines };
+      next = record { ready = n .ready; session = refl; lent = n .lent ∙ ap (λ (k : ℕ). 16 * k) (c-of c d h); set = n .set; screen = n .screen; has-list = n .has-list; list = n .list; lines = n .lines };
       after = ap group (n .session) ∙ h .after;
     }
 
@@ -68,6 +68,16 @@ list-part g id j n m list last r i e l h =
       room = omega (arith, counted g j (take n list), length-take-le n list l, q .count);
     })) h
 
+pub hits-part : (g : Group) (points : List ℕ) (n m : ℕ) (list last : List ℕ) (a : ℕ) → n ≡ m → n ≤ length list
+    → Hits g points (take m (drop 0 list)) a last → HitsPart g points n list a (take 0 list ++ (last ++ drop m (drop 0 list)))
+hits-part g points n m list last a e l h =
+    subst (λ (m : ℕ). Hits g points (take m (drop 0 list)) a last → HitsPart g points n list a (take 0 list ++ (last ++ drop m (drop 0 list)))) e
+    (λ q. record {
+      answer = q .answer;
+      listed = ap (λ (t : List ℕ). t ++ drop n list) (q .list);
+      room = λ z. omega (arith, hits-room g points (take n list) (sym (q .answer) ∙ z), length-take-le n list l);
+    }) h
+
 -- A line --------------------------------------------------------------------------------------------------------------
 
 -- whatever line was played, the player is ready for the next
@@ -81,6 +91,7 @@ ready-of (stores h e) = h .so .makes .next .ready
 ready-of (pops k m e) = m .next .ready
 ready-of (redraws k j h e) = h .makes .next .ready
 ready-of (lists k n e) = n .ready
+ready-of (asks-hits k n e) = n .ready
 ready-of (asks-focus k n e) = n .ready
 ready-of (lends k j n e) = n .ready
 ready-of (lends-screen k j n e) = n .ready

@@ -1,5 +1,5 @@
--- Sizes that the rules bound: a window's pixels in the store, the rectangles of a visible list, and C after a start.
-use Prim.Native.Nat.{ℕ, suc, _+_, _*_, _≤_, _<_}
+-- Sizes that the rules bound: a window's pixels in the store, the rectangles of a visible list, the answers of many points, and C after a start.
+use Prim.Native.Nat.{ℕ, suc, _+_, _*_, _/_, _≤_, _<_}
 use mathlib.Core.Path.{_≡_, refl, sym, ap, _∙_}
 use mathlib.Core.Bool.{Bool, true, false, cond}
 use mathlib.Core.List.{List, [], _∷_}
@@ -7,18 +7,21 @@ use native.Mathlib.Nat.{mul-le-mul-right}
 use native.Mathlib.Omega.{arith}
 use lib.Dec.{leb, eqb}
 use lib.ListN.{length}
+use borrow.Author.Tests.{eq-eqb}
 use Rattle.geom.specs.Questions.{_is_, asked}
 use Rattle.geom.specs.Geom.{rect}
 use Rattle.geom.proofs.basics.Questions.{asked₂}
 use Rattle.geom.proofs.basics.Tests.{snd, on-cond, on-test, says-le}
 use Rattle.rules.specs.Group.{Group, used, win, allowedC, sessionC}
 use Rattle.rules.specs.Visible.{visible, visibleList}
+use Rattle.rules.specs.Hits.{allSmall, fit, hits}
 use Rattle.rules.proofs.group.Invariant.{used-small}
 use Rattle.windows.specs.declared.Session.{Session}
 use Rattle.windows.specs.declared.Done.{Done}
 use Rattle.windows.specs.declared.Placed.{Placed}
 use Rattle.windows.specs.View.{group, Given, Starts, placed}
 use Rattle.windows.proofs.laws.Session.{given-ok}
+use Rattle.windows.proofs.laws.Hits.{fits-room}
 
 -- A window's pixels ---------------------------------------------------------------------------------------------------
 
@@ -47,6 +50,15 @@ few u n m =
 pub counted : (g : Group) (id : ℕ) (l : List ℕ) → 4 * visibleList g id l .count ≤ length l
 unfolding visibleList
 counted g id l = few (used g id) (length (visible g id)) (length l)
+
+-- Many points ---------------------------------------------------------------------------------------------------------
+
+-- an accepted call has three numbers for each
+pub hits-room : (g : Group) (points l : List ℕ) → hits g points l .answer ≡ 0 → 3 * (length points / 2) ≤ length l
+unfolding hits
+hits-room g points l e =
+    let f = fit (length points) (length l) in
+    fits-room (length points) (length l) (snd (allSmall points) f (sym (asked₂ 4 24 (allSmall points) f) ∙ eq-eqb _ 0 e)) .room
 
 -- A start -------------------------------------------------------------------------------------------------------------
 

@@ -50,7 +50,7 @@ answered-requires c κs = search needs
 returns : tie.Need-returns
 returns c = λ a.
     unread (omega (arith, c .match .keys1))
-    (record { ready = c .before .pre .0; session = refl; lent = refl; set = refl; screen = refl; list = refl; lines = refl }) refl
+    (record { ready = c .before .pre .0; session = refl; lent = refl; set = refl; screen = refl; has-list = refl; list = refl; lines = refl }) refl
 
 returns-2 : tie.Need-returns-2
 returns-2 c = λ a. unread (omega (arith, c .before .before .match .keys2)) (c .malformed .ensures) refl

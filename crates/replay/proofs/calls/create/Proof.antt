@@ -32,6 +32,7 @@ next c =
       lent = args .p .lent;
       «is_set» = args .p .«is_set»;
       screen = args .p .screen;
+      «has_list» = args .p .«has_list»;
       list = args .p .list;
       at = c .end .result;
       lines = args .p .lines;
@@ -50,6 +51,7 @@ returns c =
       lent = refl;
       set = refl;
       screen = refl;
+      has-list = refl;
       list = refl;
       lines = refl;
     })

@@ -11,7 +11,7 @@ use Rattle.replay.proofs.player.Player.counted.Tie as tie
 -- the player with the number of lines n
 abbrev lined : Player → ℕ → Player
 lined p n =
-    record { session = p .session; lent = p .lent; «is_set» = p .«is_set»; screen = p .screen; list = p .list; at = p .at; lines = n }
+    record { session = p .session; lent = p .lent; «is_set» = p .«is_set»; screen = p .screen; «has_list» = p .«has_list»; list = p .list; at = p .at; lines = n }
 
 is-counted : (p : Player) (n : ℕ) → Ready p → n ≡ counted p .lines → Ready (lined p n) × (lined p n ≡ counted p)
 is-counted p n r e =

@@ -3,7 +3,7 @@ use mathlib.Core.Path.{refl}
 use mathlib.Core.Logic.{⊎-elim}
 use native.Mathlib.Omega.{arith}
 use Rattle.replay.proofs.laws.Arms.{not-lent}
-use Rattle.replay.specs.Played.{pixels, lists, stores, shows}
+use Rattle.replay.specs.Played.{pixels, lists, asks-hits, stores, shows}
 use borrow.Author.Needs.{needs}
 use Rattle.replay.proofs.player.Player.line.Statement.{statement}
 use Rattle.replay.proofs.player.Player.line.Tie as tie
@@ -13,6 +13,9 @@ redraw-requires c κs = search needs
 
 visible-requires : tie.Need-visible-requires
 visible-requires c κs = search needs
+
+hits-requires : tie.Need-hits-requires
+hits-requires c κs = search needs
 
 stored-requires : tie.Need-stored-requires
 stored-requires c κs = search needs
@@ -24,7 +27,7 @@ call-requires : tie.Need-call-requires
 call-requires c κs =
     let start = c .before .before .before .before in
     let left = c .before .before .before .match .rest in
-    let apart = not-lent (start .args .line .kind) (left .0 .1) (left .1) in (
+    let apart = not-lent (start .args .line .kind) (left .0 .0 .1) (left .0 .1) (left .1) in (
       start .pre .0,
       start .pre .1,
       ⊎-elim (λ w. apart (λ h. omega (arith, w .taken)) (λ h. omega (arith, w .taken)))
@@ -39,13 +42,16 @@ returns-2 : tie.Need-returns-2
 returns-2 c = lists (c .before .before .before .before .match .keys2) (c .visible .ensures) refl
 
 returns-3 : tie.Need-returns-3
-returns-3 c = stores (c .stored .ensures) refl
+returns-3 c = asks-hits (c .before .before .before .before .match .keys3) (c .hits .ensures) refl
 
 returns-4 : tie.Need-returns-4
-returns-4 c = shows (c .before .before .before .before .before .before .if3 .left) (omega (arith, c .before .before .before .before .before .if4 .taken)) (c .shown .ensures) refl
+returns-4 c = stores (c .stored .ensures) refl
 
 returns-5 : tie.Need-returns-5
-returns-5 c =
+returns-5 c = shows (c .before .before .before .before .before .before .if3 .left) (omega (arith, c .before .before .before .before .before .if4 .taken)) (c .shown .ensures) refl
+
+returns-6 : tie.Need-returns-6
+returns-6 c =
     let args = c .before .before .before .before .before .args in
     c .call .ensures (pixels (args .store .now) (args .screen .now))
 
@@ -55,6 +61,7 @@ line-spec =
     (tie.spec
     redraw-requires
     visible-requires
+    hits-requires
     stored-requires
     shown-requires
     call-requires
@@ -62,4 +69,5 @@ line-spec =
     returns-2
     returns-3
     returns-4
-    returns-5)
+    returns-5
+    returns-6)

@@ -1,0 +1,51 @@
+// The line that asks which windows lie under many points.
+ghost use Prim.Native.Nat.{_*_, _/_, _≤_};
+ghost use lib.ListN.{length, take};
+ghost use mathlib.Core.Path.{_≡_};
+ghost use Rattle.windows.specs.View.{group, Given};
+ghost use Rattle.replay.specs.Numbers.{Sound};
+ghost use Rattle.replay.specs.Ready.{Ready, Next, unlisted};
+ghost use Rattle.replay.specs.Played.{HitsPart};
+use crate::lend;
+use crate::player::Player;
+use crate::text;
+use script::Line;
+use windows::Session;
+
+// The numbers of the line are the points; the answers go to the front of the list.
+fn asked(s: Session, ns: &[u32], count: usize, list: &mut [u32], len: usize) -> u32
+    requires { ⌜ Given s × (count ≤ length (now ns)) × (len ≤ length (now list)) ⌝ }
+    ensures { λ r. ⌜ HitsPart (group s) (take count (now (ns .entry))) len (now (list .entry)) r (now (list .exit)) ⌝ }
+{
+    s.hits(&ns[..count], &mut list[0..len])
+}
+
+fn put(answer: u32, n: usize, list: &[u32; 1984], out: &mut [u8; 65536], at: usize) -> usize
+    requires { ⌜ (answer ≡ 0 → n ≤ 1984) × (at ≤ 65536) ⌝ }
+    ensures { λ r. ⌜ r ≤ 65536 ⌝ }
+{
+    if answer == 0 {
+        let to = text::number(out, at, 0);
+        let last = lend::put_list(list, n, out, to);
+        return text::end(out, last);
+    }
+    text::answer(out, at, answer)
+}
+
+pub fn hits(
+    mut p: Player,
+    line: Line,
+    ns: &[u32; 4200],
+    list: &mut [u32; 1984],
+    out: &mut [u8; 65536],
+) -> Player
+    requires { ⌜ Ready p × Sound line (now ns) ⌝ }
+    ensures { λ r. ⌜ Next (unlisted p) (p .session) r ⌝ }
+{
+    let s = p.session;
+    let len = lend::list_len(p, 96);
+    let answer = asked(s, ns, line.count, list, len);
+    p.has_list = false;
+    p.at = put(answer, 3 * (line.count / 2), list, out, p.at);
+    p
+}
