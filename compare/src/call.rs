@@ -37,6 +37,7 @@ pub enum Call {
     Visible(u32),
     Focus,
     Share(u32),
+    Hits(Vec<u32>),
     Lend(u32),
     LendScreen(u32),
     LendList(u32),
@@ -56,7 +57,7 @@ pub enum Call {
     Busiest(Vec<u32>),
 }
 
-/// "DATA is 0 to 4,096 numbers"; "PIXELS and DATA are at most 4,096 numbers together".
+/// "DATA is 0 to 4,096 numbers"; "PIXELS and DATA are at most 4,096 numbers together"; "0 to 4,096 numbers, x and y in turn".
 const MOST: usize = 4096;
 /// "T… is 0 to 4,200 times in milliseconds; more make the line malformed"
 const MOST_TIMES: usize = 4200;
@@ -119,6 +120,7 @@ fn session(word: &str, numbers: &[u32]) -> Option<Call> {
         ("visible", &[id]) => Call::Visible(id),
         ("focus", &[]) => Call::Focus,
         ("share", &[id]) => Call::Share(id),
+        ("hits", points) if points.len() <= MOST => Call::Hits(points.to_vec()),
         _ => return None,
     })
 }

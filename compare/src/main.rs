@@ -7,6 +7,7 @@ mod compare;
 mod damage;
 mod entry;
 mod events;
+mod hits;
 mod lists;
 mod pairs;
 mod panels;

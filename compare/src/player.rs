@@ -4,6 +4,7 @@ use crate::busiest;
 use crate::call::{read, Call, Line};
 use crate::entry::Entry;
 use crate::events;
+use crate::hits;
 use crate::panics;
 use crate::picture;
 use crate::questions::{answer, cannot, Lent, SCREEN};
@@ -106,7 +107,7 @@ impl Player {
         }
         match call {
             Call::Redraw(..) | Call::Portion(..) => self.lent.screen = None,
-            Call::Visible(_) => self.lent.list = None,
+            Call::Visible(_) | Call::Hits(_) => self.lent.list = None,
             _ => {}
         }
     }
@@ -196,6 +197,7 @@ impl Player {
                 out.numbers(&[second.count, second.place]);
             }
             Call::Share(id) => out.numbers(&share::percent_and_remainder(&self.group, id)),
+            Call::Hits(ref points) => out.numbers(&hits::answers(&self.group, points)),
             _ => bare::make(call, out),
         }
     }

@@ -1,6 +1,7 @@
 //! The questions of document 01 that the original does not ask: all but 10, 11 and 12. And the limits of the program itself.
 use crate::busiest;
 use crate::call::{Call, Scan};
+use crate::hits;
 use crate::share;
 use original::input::Event;
 use original::windows::group::Group;
@@ -10,7 +11,7 @@ use original::Rect;
 pub struct Lent {
     pub c: u32,
     pub store: u32,
-    /// The lengths for the next `redraw` or `portion` and the next `visible`.
+    /// The lengths for the next `redraw` or `portion` and the next `visible` or `hits`.
     pub screen: Option<u32>,
     pub list: Option<u32>,
 }
@@ -18,6 +19,8 @@ pub struct Lent {
 pub const STORE: u32 = 1_048_576;
 pub const SCREEN: u32 = 384_000;
 pub const LIST: u32 = 1_984;
+/// What a `hits` is lent where no `lend-list` is pending.
+const POINTS: u32 = 96;
 
 /// Must the program answer `!`?
 pub fn cannot(call: &Call, lent: &Lent) -> bool {
@@ -58,6 +61,7 @@ pub fn answer(call: &Call, group: &Group, lent: &Lent, is_walking: bool) -> u8 {
             first_no(&[used(*id), (9, needed(*id) <= room)])
         }
         Call::Share(id) => first_no(&[used(*id), (24, share::is_given(group, *id))]),
+        Call::Hits(points) => first_no(&[small(points), (25, hits::fit(points, lent.list.unwrap_or(POINTS)))]),
         _ => bare(call),
     }
 }

@@ -10,6 +10,7 @@ pub struct Tally {
     entries: BTreeMap<Entry, u64>,
     shares: BTreeMap<String, u64>,
     writes: BTreeMap<String, u64>,
+    points: BTreeMap<String, u64>,
     /// Calls in the common ground: accepted, or refused by 10, 11 or 12, and so made on both. A begin is nothing to the original.
     pub calls: u64,
     pub lists: u64,
@@ -21,7 +22,7 @@ pub struct Tally {
 const WRITES: [&str; 4] = ["fill", "blit", "fill-scanline", "set-scanline"];
 
 /// Lines that make no call of the original.
-const NO_CALL: [&str; 8] = ["lend", "lend-screen", "lend-list", "screen", "pixels", "picture", "busiest", "share"];
+const NO_CALL: [&str; 9] = ["lend", "lend-screen", "lend-list", "screen", "pixels", "picture", "busiest", "share", "hits"];
 
 impl Tally {
     /// Counts a line and its answer.
@@ -39,11 +40,25 @@ impl Tally {
         if WRITES.contains(&word) {
             add(&mut self.writes, altered(&written));
         }
+        if word == "hits" {
+            self.points(&written);
+        }
         if NO_CALL.contains(&word) {
             return;
         }
         add(&mut self.answers, answer);
         self.calls += u64::from(matches!(answer, "0" | "10" | "11" | "12"));
+    }
+
+    /// Counts the points of a `hits`, or how it was refused.
+    fn points(&mut self, written: &str) {
+        let numbers: Vec<&str> = written.split_whitespace().collect();
+        if numbers[0] != "0" {
+            return add(&mut self.points, &format!("refused by {}", numbers[0]));
+        }
+        for answer in numbers[1..].chunks(3) {
+            add(&mut self.points, if answer[0] == "16" { "nobody's" } else { "a window's" });
+        }
     }
 
     /// Counts a list that a call under the entry ended.
@@ -77,6 +92,8 @@ impl Tally {
         self.shares.iter().for_each(|(how, count)| println!("  {how:14} {count:9}"));
         println!("writes, by the pixels that they altered:");
         self.writes.iter().for_each(|(how, count)| println!("  {how:14} {count:9}"));
+        println!("points of `hits`, each a press of the original on a copy:");
+        self.points.iter().for_each(|(whose, count)| println!("  {whose:14} {count:9}"));
         println!("damage:");
         let seen = &self.seen;
         let damage = [("contained", seen.contained), ("merged right", seen.right), ("merged down", seen.down)];

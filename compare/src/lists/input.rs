@@ -37,6 +37,20 @@ impl Maker<'_> {
         Ok(())
     }
 
+    /// Fingers, now and then too many of them, one too far out, or an x without its y.
+    pub fn hits(&mut self) -> Step {
+        let count = self.random.pick(&[0, 1, 2, 3, 5, 10, 10, 10, 31, 32, 33]);
+        let mut numbers: Vec<String> = Vec::new();
+        for _ in 0..count {
+            let (x, y) = self.point();
+            numbers.extend([x.to_string(), y.to_string()]);
+        }
+        if self.random.chance(50) {
+            numbers.push(self.random.pick(&["0", "32767", "32768", "4294967295"]).to_string());
+        }
+        self.say(&format!("hits {}", numbers.join(" ")))
+    }
+
     /// More events than a queue holds.
     pub fn flood(&mut self) -> Step {
         let (x, y) = self.point();

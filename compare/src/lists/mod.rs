@@ -82,6 +82,7 @@ impl<'a> Maker<'a> {
             (1, Maker::flood),
             (12, Maker::look),
             (5, Maker::share),
+            (4, Maker::hits),
             (8, Maker::geometry),
             (6, Maker::bare_pixels),
             (3, Maker::wrong),

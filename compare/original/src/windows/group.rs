@@ -40,6 +40,22 @@ impl Group {
     pub fn shown(&self) -> Vec<(u32, Rect)> {
         self.0.render_order.iter().map(|&(id, _)| (u32::from(id), self.rect(id))).collect()
     }
+    /// A copy as far as a press goes: the same windows at the same places in the same order, and no event waits.
+    pub fn copied(&self) -> Group {
+        let mut copy = WindowGroup::new(String::new());
+        for id in 0..16 {
+            let window = Window::new(String::new());
+            let mut at = Pos::new(0, 0);
+            if let Some(&(pos, ref own)) = self.0.windows.get(id) {
+                at = pos;
+                window.resize(own.dims());
+                window.input.pop_event();
+            }
+            copy.windows.insert((at, Aref::new(window)));
+        }
+        copy.render_order = self.0.render_order.iter().map(|&(id, _)| (id, Vec::new())).collect();
+        Group(copy)
+    }
     pub fn pixels(&self, id: u32) -> Vec<u32> {
         let buffer = self.window(id).get_buffer();
         let size = buffer.dims();
