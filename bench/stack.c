@@ -38,6 +38,7 @@ static const RoqEvent press = {25, 25, 0, 0, 0, ROQ_MOUSE_DOWN, 1, 0};
     CALL(roq_portion, (s, WIDTH, HEIGHT, store, 16 * C, screen, C))                    \
     CALL(roq_visible, (s, 0, list, 1984))                                              \
     CALL(roq_share, (s, 0))                                                            \
+    CALL(roq_hits, (s, data, 64, list, 1984))                                          \
     CALL(roq_focus, (s))                                                               \
     CALL(roq_rect_of, (s, 0))                                                          \
     CALL(roq_contains, (area, point))                                                  \

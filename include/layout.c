@@ -76,6 +76,17 @@ static void shares(void) {
     EXPECT(roq_share(s, 8).answer == 24 && roq_share(s, 16).answer == 3);
 }
 
+/* Three points: of the window above, of the one below, of none; the rest of the list; and both refusals, which write nothing. */
+static void fingers(void) {
+    uint32_t points[6] = {3000, 4000, 2999, 4000, 2998, 4000}, answers[10] = {9, 9, 9, 9, 9, 9, 9, 9, 9, 9};
+    EXPECT(roq_hits(s, points, 5, answers, 10) == 25 && roq_hits(s, points, 6, answers, 8) == 25 && answers[0] == 9);
+    EXPECT(roq_hits(s, points, 6, answers, 10) == 0 && roq_hits(s, points, 0, answers, 0) == 0);
+    EXPECT(answers[0] == LAST && answers[1] == 0 && answers[2] == 0 && answers[3] == 7 && answers[4] == 0 && answers[5] == 0);
+    EXPECT(answers[6] == 16 && answers[7] == 0 && answers[8] == 0 && answers[9] == 9);
+    points[5] = 32768;
+    EXPECT(roq_hits(s, points, 6, answers, 8) == 5 && answers[0] == LAST);
+}
+
 /* A session as large as the library's: its last words hold C and the focus, the walk's next place, whether it is on and full, and the debt;
  * nothing is written beyond. */
 static void session(void) {
@@ -101,6 +112,7 @@ static void session(void) {
     EXPECT(roq_blit(s, LAST, rect(20, 30, 2, 2), 3, data, 6, store, 16 * C).answer == 0);
     EXPECT(store[LAST * C + 31 * 200 + 21] == 22 && store[LAST * C + 31 * 200 + 22] == 0);
     shares();
+    fingers();
     RoqPlaced at = roq_rect_of(s, LAST);
     EXPECT(at.answer == 0 && is_rect(at.rect, 3000, 4000, 200, 150));
 }

@@ -13,6 +13,7 @@
  *                                                     20  a walk was begun, and is neither over nor dropped
  *                                                     21  the event is no KeyFire, asked before every other
  *                                                     24  the window is shown and has pixels
+ *                                                     25  at most 32 points, each x with its y, and 3 answers for each in the list
  *                                                     26  the run has at most 4,096 times
  *                                                     27  no time is below the one before it
  *
@@ -175,6 +176,11 @@ typedef struct RoqShare {
 /* 100 x its unobscured pixels, divided by w x h, as whole percent and remainder: 100 x the pixels = percent x w x h + remainder. Pixels
  * off the screen count too. Asks 3, 24. */
 RoqShare roq_share(const RoqSession *s, uint16_t id);
+
+/* Which windows lie under up to 32 points, given as x, y each: for each point, in their order, three numbers, the window that a press there
+ * would go to and the point relative to it, or 16, 0, 0 where there is none. Nothing is delivered, and a full queue changes no answer.
+ * Writes the front of the answers; 96 numbers always suffice. Asks 5 of every number given, 25. */
+uint32_t roq_hits(const RoqSession *s, const uint32_t *points, size_t points_len, uint32_t *answers, size_t answers_len);
 
 /* The window that has the focus; 0 where none is shown. Asks nothing. */
 uint16_t roq_focus(const RoqSession *s);

@@ -27,6 +27,8 @@ pub enum Call {
     Portion,
     Visible(u16),
     Share(u16),
+    /// x and y in turn.
+    Hits(Vec<u32>),
     Busiest(Vec<u32>),
 }
 
@@ -50,6 +52,7 @@ impl Call {
             Call::Portion => "roq_portion",
             Call::Visible(_) => "roq_visible",
             Call::Share(_) => "roq_share",
+            Call::Hits(_) => "roq_hits",
             Call::Busiest(_) => "roq_busiest",
         }
     }
@@ -85,6 +88,8 @@ pub struct State {
     pub visible: Vec<Vec<Area>>,
     pub pixels: Vec<Vec<u32>>,
     pub screen: Vec<u32>,
+    /// Of the last points: where each lies in its window.
+    pub points: Vec<Option<(u32, u32)>>,
 }
 
 /// One of the implementations, with a session, pixels and a screen.

@@ -4,6 +4,7 @@ use crate::class::{Beside, Class, Limit};
 use crate::mix::Drag;
 use crate::pixman;
 use crate::plain::Copied;
+use crate::points;
 use crate::rows;
 use crate::scene::{
     cascade, eight, free_crossing, free_station, free_three, plans, station, Scene, DRAGGED, DRAGGED_OF_EIGHT, HEIGHT,
@@ -41,6 +42,7 @@ pub fn table() -> Vec<Class> {
     all.extend(portions());
     all.extend(seconds::classes());
     all.extend(shares::classes());
+    all.extend(points::classes());
     all
 }
 

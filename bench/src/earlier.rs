@@ -1,10 +1,11 @@
-//! Archives of earlier commits, which have no walks, no busiest second or no share: there these functions answer 20, 26 and 24. Where an archive
-//! has its own, those are linked.
+//! Archives of earlier commits, which have no walks, no busiest second, no share or no answer for many points: there these functions answer 20,
+//! 26, 24 and 25. Where an archive has its own, those are linked.
 use crate::call::Call;
 use crate::class::{Beside, Class};
 use crate::station::{busiest, Station};
 
 std::arch::global_asm!(".weak roq_begin", "roq_begin:", ".weak roq_portion", "roq_portion:", "mov eax, 20", "ret");
+std::arch::global_asm!(".weak roq_hits", "roq_hits:", "mov eax, 25", "ret");
 // The struct goes back in two registers.
 std::arch::global_asm!(".weak roq_share", "roq_share:", "mov eax, 24", "xor edx, edx", "ret");
 // The caller hands over where the struct goes.
@@ -22,6 +23,9 @@ std::arch::global_asm!(
 pub fn has(class: &Class) -> bool {
     if let [Call::Share(_)] = class.timed[..] {
         return Station::start(1).1.share(0).answer == 3;
+    }
+    if let [Call::Hits(_)] = class.timed[..] {
+        return Station::start(1).1.hits(&[], &mut []) == 0;
     }
     match class.beside {
         Beside::Undivided => Station::start(1).1.begin(false) == 0,

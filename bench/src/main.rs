@@ -16,6 +16,7 @@ mod ours;
 mod pixman;
 mod plain;
 mod plot;
+mod points;
 mod report;
 mod rows;
 mod scene;

@@ -12,6 +12,9 @@ pub struct Ours {
     store: Vec<u32>,
     screen: Vec<u32>,
     list: Vec<u32>,
+    /// The answers to the last points, of which there were so many.
+    answers: [u32; 96],
+    points: usize,
     width: u32,
     height: u32,
 }
@@ -26,6 +29,8 @@ impl Ours {
             store: vec![0; 16 * c as usize],
             screen: vec![0; (width * height) as usize],
             list: vec![0; 4 * 496],
+            answers: [0; 96],
+            points: 0,
             width,
             height,
         }
@@ -129,6 +134,10 @@ impl Side for Ours {
             }
             Call::Visible(id) => return Reply::Count(s.visible(id, &mut self.list).1),
             Call::Share(id) => return Reply::Share(s.share(id)),
+            Call::Hits(ref points) => {
+                self.points = points.len() / 2;
+                s.hits(points, &mut self.answers)
+            }
             Call::Busiest(ref times) => return Reply::Second(busiest(times)),
             Call::Show(id) => s.show(id),
             Call::Hide(id) => s.hide(id),
@@ -157,6 +166,7 @@ impl Side for Ours {
             visible: (0..16).map(|id| self.visible(id)).collect(),
             pixels: (0..16).map(|id| self.pixels(id)).collect(),
             screen: self.screen.clone(),
+            points: self.answers[..3 * self.points].chunks(3).map(|a| (a[0] < 16).then_some((a[1], a[2]))).collect(),
         }
     }
 }

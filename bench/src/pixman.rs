@@ -227,6 +227,7 @@ impl Side for Pixman {
         let mut visible: Vec<Vec<Area>> = (0..self.windows.len()).map(|id| self.visible(id)).collect();
         pixels.resize(16, Vec::new());
         visible.resize(16, Vec::new());
-        State { focus: self.windows.len() as u16 - 1, visible, pixels, screen: self.screen.pixels.clone() }
+        let (focus, screen) = (self.windows.len() as u16 - 1, self.screen.pixels.clone());
+        State { focus, visible, pixels, screen, points: Vec::new() }
     }
 }

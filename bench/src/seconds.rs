@@ -120,6 +120,7 @@ impl Side for InRust {
     }
 
     fn state(&mut self) -> State {
-        State { focus: 0, visible: vec![Vec::new(); 16], pixels: vec![Vec::new(); 16], screen: vec![0] }
+        let (visible, pixels) = (vec![Vec::new(); 16], vec![Vec::new(); 16]);
+        State { focus: 0, visible, pixels, screen: vec![0], points: Vec::new() }
     }
 }

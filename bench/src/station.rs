@@ -137,6 +137,8 @@ extern "C" {
     ) -> u32;
     fn roq_visible(s: *const Session, id: u16, list: *mut u32, list_len: usize) -> Listing;
     fn roq_share(s: *const Session, id: u16) -> Share;
+    fn roq_hits(s: *const Session, points: *const u32, points_len: usize, answers: *mut u32, answers_len: usize)
+        -> u32;
     fn roq_focus(s: *const Session) -> u16;
     fn roq_rect_of(s: *const Session, id: u16) -> Placed;
     fn roq_busiest(times: *const u32, count: usize) -> Second;
@@ -222,6 +224,11 @@ impl Station {
     }
     pub fn share(&self, id: u16) -> Share {
         unsafe { roq_share(&self.0, id) }
+    }
+    /// Three numbers for each point, x and y in turn: a window and the point in it, or 16, 0, 0.
+    pub fn hits(&self, points: &[u32], answers: &mut [u32]) -> u32 {
+        let (list, len) = (answers.as_mut_ptr(), answers.len());
+        unsafe { roq_hits(&self.0, points.as_ptr(), points.len(), list, len) }
     }
     pub fn focus(&self) -> u16 {
         unsafe { roq_focus(&self.0) }

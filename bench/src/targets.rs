@@ -3,6 +3,7 @@ use crate::class::{Beside, Class};
 use crate::classes::MIX;
 use crate::measure::Measured;
 use crate::pixman;
+use crate::points::POINTS;
 use crate::report::{range, NO_PIXMAN};
 use crate::seconds::BUSIEST;
 use crate::shares::SHARE;
@@ -36,7 +37,7 @@ const WIDE_FILLS: &[&str] = &["fill 300 by", "fill 800 by", "fill 4000 by", "fil
 const NARROW_BLITS: &[&str] = &["blit 8 by", "blit 16 by", "blit 32 by", "blit 64 by", "blit 100 by"];
 const WIDE_BLITS: &[&str] = &["blit 300 by", "blit 800 by", "blit 4000 by", "blit 32767 by"];
 
-const TARGETS: [Target; 22] = [
+const TARGETS: [Target; 23] = [
     target("mark", Beside::Original, &["mark"], Time(1.0)),
     target("move", Beside::Original, &["move, "], Time(1.0)),
     target("show, hide", Beside::Original, &["hide or show"], Time(1.0)),
@@ -58,6 +59,7 @@ const TARGETS: [Target; 22] = [
     target("blit, 300 and wider", Beside::Loops, WIDE_BLITS, Time(1.15)),
     target("share in view", Beside::Pixman, &[SHARE], Time(1.0)),
     target("share in view", Beside::Listed, &[SHARE], Time(1.0)),
+    target("32 points together", Beside::Original, &[POINTS], Time(1.0)),
     target("busiest second of 4,096 events", Beside::OnePass, &[BUSIEST], Time(1.1)),
 ];
 

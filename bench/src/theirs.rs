@@ -12,6 +12,7 @@ pub struct Theirs {
     screen: Pixels,
     /// A full redraw is owed: the original leaves this note to its caller.
     owed: bool,
+    points: Vec<Option<(u32, u32)>>,
 }
 
 impl Theirs {
@@ -19,7 +20,7 @@ impl Theirs {
     pub fn new(width: u32, height: u32) -> Theirs {
         let screen = Arc::new(Mutex::new(vec![0; (width * height) as usize]));
         lend_screen(&screen, width, height);
-        Theirs { group: Group::new(), screen, owed: true }
+        Theirs { group: Group::new(), screen, owed: true, points: Vec::new() }
     }
 
     fn route(&mut self, event: Event) -> u32 {
@@ -75,6 +76,10 @@ impl Side for Theirs {
             Call::Fill(id, a, colour) => g.fill(u32::from(id), rect(a), colour),
             Call::Blit(id, a, ref data) => g.blit(u32::from(id), rect(a), data, a.2 as usize),
             Call::Redraw(told) => g.redraw(told || self.owed),
+            Call::Hits(ref points) => {
+                self.points.clear();
+                self.points.extend(points.chunks_exact(2).map(|point| g.at(point[0], point[1])));
+            }
             Call::Begin(_) | Call::Portion | Call::Share(_) | Call::Busiest(_) => {
                 unreachable!("the original has no such call")
             }
@@ -98,6 +103,7 @@ impl Side for Theirs {
             visible: (0..16).map(|id| self.group.visible(id).iter().map(area).collect()).collect(),
             pixels: (0..16).map(|id| self.pixels(id)).collect(),
             screen: self.screen.lock().clone(),
+            points: self.points.clone(),
         }
     }
 }

@@ -22,7 +22,8 @@ pub struct Tally {
 const WRITES: [&str; 4] = ["fill", "blit", "fill-scanline", "set-scanline"];
 
 /// Lines that make no call of the original.
-const NO_CALL: [&str; 9] = ["lend", "lend-screen", "lend-list", "screen", "pixels", "picture", "busiest", "share", "hits"];
+const NO_CALL: [&str; 9] =
+    ["lend", "lend-screen", "lend-list", "screen", "pixels", "picture", "busiest", "share", "hits"];
 
 impl Tally {
     /// Counts a line and its answer.

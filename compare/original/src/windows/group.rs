@@ -100,6 +100,10 @@ impl Group {
     pub fn pop(&mut self, id: u32) -> Option<Event> {
         self.window(id).input.pop_event()
     }
+    /// The point relative to the window that `get_win_at_pos` finds.
+    pub fn at(&self, x: u32, y: u32) -> Option<(u32, u32)> {
+        self.0.get_win_at_pos(x, y).map(|&(pos, _)| (x - pos.x, y - pos.y))
+    }
     /// The original says nothing of what became of the event: a window that takes it wakes its queue, and a full one drops it.
     pub fn route(&mut self, event: Event) -> Routed {
         let before = (woken(), dropped());
