@@ -13,7 +13,7 @@
  *                                                     20  a walk was begun, and is neither over nor dropped
  *                                                     21  the event is no KeyFire, asked before every other
  *                                                     24  the window is shown and has pixels
- *                                                     25  at most 32 points, each x with its y, and 3 answers for each in the list
+ *                                                     25  at most 32 points, each x with its y, and 3 numbers for each in the list
  *                                                     26  the run has at most 4,096 times
  *                                                     27  no time is below the one before it
  *

@@ -31,7 +31,7 @@ eachPoint f [] = []
 eachPoint f (px ∷ []) = []
 eachPoint f (px ∷ py ∷ rest) = f px py ++ eachPoint f rest
 
--- question 5 of "every number given, the odd last one too"
+-- "5: is every coordinate … given, at most 32,767?": of every number, an x without its y too
 abbrev pub allSmall : List ℕ → Bool
 allSmall [] = true
 allSmall (n ∷ ns) = small n && allSmall ns
