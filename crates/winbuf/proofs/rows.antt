@@ -12,3 +12,4 @@ pub mod Places
 pub mod Flat
 pub mod Widths
 pub mod Inside
+pub mod Through

@@ -5,4 +5,5 @@ pub mod Shade
 pub mod Bare
 pub mod Rows
 pub mod Places
+pub mod Table
 pub mod Limits

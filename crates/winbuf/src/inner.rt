@@ -7,6 +7,7 @@ pub mod place;
 pub mod region;
 pub mod resize;
 pub mod row;
+pub mod shade;
 pub mod shift;
 
 // Question 5: the greatest coordinate or size.

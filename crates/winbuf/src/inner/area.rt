@@ -1,13 +1,16 @@
 // The rows of a rectangle of pixels: filled, or copied from another slice. What fills or blits returns how many pixels differ afterwards.
 ghost use mathlib.Core.Path.{_≡_};
+ghost use mathlib.Core.List.{map};
 ghost use Prim.Native.Nat.{_+_, _*_, _≤_};
 ghost use lib.ListN.{length, take, replicate};
 ghost use Rattle.winbuf.specs.Pixels.{writeRows, part};
 ghost use Rattle.winbuf.specs.Rows.{Fit, Inside, Counted};
+ghost use Rattle.winbuf.specs.Shade.{tone};
 use super::least;
 use super::row::copy_part;
 use super::row::fill_part;
 use super::row::set_part;
+use super::shade::draw_part;
 
 // n rows of w pixels become `v`.
 pub fn fill_rows(px: &mut [u32], at: usize, pitch: usize, w: u16, n: usize, v: u32) -> usize
@@ -23,8 +26,8 @@ pub fn fill_rows(px: &mut [u32], at: usize, pitch: usize, w: u16, n: usize, v: u
     altered
 }
 
-// n rows of w pixels, from rows `step` apart in `src`.
-pub fn copy_rows(
+// n rows of w pixels, from rows `step` apart in `src`, as dimming is on or off.
+pub fn draw_rows(
     px: &mut [u32],
     at: usize,
     pitch: usize,
@@ -33,13 +36,14 @@ pub fn copy_rows(
     step: usize,
     w: u16,
     n: usize,
+    dim: bool,
 )
     requires { ⌜ Fit (length (now px)) at pitch w n × Fit (length (now src)) from step w n ⌝ }
-    ensures { λ _. ⌜ now (px .exit) ≡ writeRows n (λ r. at + r * pitch) (λ r. part (from + r * step) w (now (src .entry))) (now (px .entry)) ⌝ }
+    ensures { λ _. ⌜ now (px .exit) ≡ writeRows n (λ r. at + r * pitch) (λ r. map (tone dim) (part (from + r * step) w (now (src .entry)))) (now (px .entry)) ⌝ }
 {
     let mut r: usize = 0;
     while r < n {
-        copy_part(px, at + r * pitch, src, from + r * step, w);
+        draw_part(px, at + r * pitch, src, from + r * step, w, dim);
         r += 1;
     }
 }
@@ -105,7 +109,7 @@ pub fn blit_area(
     blit_rows(px, base + top * pitch + left, pitch, src, stride, w, n)
 }
 
-// An area of the screen takes an area of a window: the window's pixels begin at `base` of the store.
+// An area of the screen takes an area of a window, as dimming is on or off: the window's pixels begin at `base` of the store.
 pub fn draw_area(
     px: &mut [u32],
     pitch: usize,
@@ -118,11 +122,12 @@ pub fn draw_area(
     y: usize,
     w: u16,
     n: usize,
+    dim: bool,
 )
     requires { ⌜ Inside (length (now px)) 0 pitch left top w n × Inside (length (now src)) base step x y w n ⌝ }
-    ensures { λ _. ⌜ now (px .exit) ≡ writeRows n (λ r. (top + r) * pitch + left) (λ r. part (base + (y + r) * step + x) w (now (src .entry))) (now (px .entry)) ⌝ }
+    ensures { λ _. ⌜ now (px .exit) ≡ writeRows n (λ r. (top + r) * pitch + left) (λ r. map (tone dim) (part (base + (y + r) * step + x) w (now (src .entry)))) (now (px .entry)) ⌝ }
 {
-    copy_rows(
+    draw_rows(
         px,
         top * pitch + left,
         pitch,
@@ -131,5 +136,6 @@ pub fn draw_area(
         step,
         w,
         n,
+        dim,
     )
 }

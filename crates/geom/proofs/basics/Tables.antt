@@ -1,11 +1,11 @@
 -- A rule of a table, proved at all of its entries by one test that is computed.
 use Prim.Native.Nat.{ℕ, zero, suc, _+_, _<_}
-use mathlib.Core.Path.{_≡_, refl, sym, subst, _∙_}
+use mathlib.Core.Path.{_≡_, sym, subst, _∙_}
 use mathlib.Core.Bool.{Bool, true, _&&_}
 use mathlib.Core.List.{List, [], _∷_}
 use native.Mathlib.Nat.{add-zero, zero-add, add-suc, suc-add, le-of-suc-le-suc, not-suc-le-zero}
 use lib.ListN.{length, getD}
 use Rattle.geom.proofs.basics.Tests.{fst, snd}
 
 -- the test passes at each entry and its place, counted from i
 abbrev pub every : {A : Type 0} → (ℕ → A → Bool) → ℕ → List A → Bool
@@ -22,9 +22,3 @@ from d f (x ∷ xs) i t (suc k) h =
 
 pub at : {A : Type 0} (d : A) (f : ℕ → A → Bool) (xs : List A) → every f 0 xs ≡ true → (k : ℕ) → k < length xs → f k (getD xs k d) ≡ true
 at d f xs t k h = subst (λ (m : ℕ). f m (getD xs k d) ≡ true) (zero-add k) (from d f xs 0 t k h)
-
--- what is read inside a list does not depend on what is read outside
-pub inside : {A : Type 0} (l : List A) (i : ℕ) (d e : A) → i < length l → getD l i d ≡ getD l i e
-inside [] i d e h = absurd (not-suc-le-zero h)
-inside (x ∷ xs) zero d e h = refl
-inside (x ∷ xs) (suc i) d e h = inside xs i d e (le-of-suc-le-suc h)
