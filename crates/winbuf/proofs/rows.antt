@@ -13,3 +13,4 @@ pub mod Flat
 pub mod Widths
 pub mod Inside
 pub mod Through
+pub mod Table

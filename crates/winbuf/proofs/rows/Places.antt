@@ -1,10 +1,10 @@
 -- Rows of an area of a picture: where they begin.
 use mathlib.Core.Path.{_≡_, ap, _∙_}
-use mathlib.Core.List.{List, map}
+use mathlib.Core.List.{List}
 use Prim.Native.Nat.{ℕ, _+_, _*_, _≤_, _<_}
 use native.Mathlib.Omega.{arith}
 use native.Mathlib.Nat.{add-mul}
-use Rattle.winbuf.specs.Pixels.{writeRows, part}
+use Rattle.winbuf.specs.Pixels.{writeRows}
 use Rattle.winbuf.specs.Rows.{Fit, Inside}
 use Rattle.winbuf.proofs.rows.Written.{rows-same, rows-at}
 use Rattle.winbuf.proofs.rows.Rows.{row-end}
@@ -25,17 +25,16 @@ module _ (len base pitch left top w n : ℕ) (i : Inside len base pitch left top
 pub draw-fits : (len pitch left top w n : ℕ) → Inside len 0 pitch left top w n → Fit len (top * pitch + left) pitch w n
 draw-fits len pitch left top w n i = record { row = λ r l. omega (arith, add-mul top n pitch, row-end pitch n r l, i .wide, i .high) }
 
--- rows that go through a function on their way
-pub drawn-rows : (f : ℕ → ℕ) (pitch left top base step x y w n : ℕ) (src s : List ℕ)
-    → writeRows n (λ r. top * pitch + left + r * pitch) (λ r. map f (part (base + y * step + x + r * step) w src)) s
-    ≡ writeRows n (λ r. (top + r) * pitch + left) (λ r. map f (part (base + (y + r) * step + x) w src)) s
-drawn-rows f pitch left top base step x y w n src s =
-    rows-at n (λ r. top * pitch + left + r * pitch) (λ r. (top + r) * pitch + left) (λ r. map f (part (base + y * step + x + r * step) w src)) s
+-- `row k` is what is drawn of the pixels from place k on
+pub draw-rows : (row : ℕ → List ℕ) (pitch left top base step x y n : ℕ) (s : List ℕ)
+    → writeRows n (λ r. top * pitch + left + r * pitch) (λ r. row (base + y * step + x + r * step)) s
+    ≡ writeRows n (λ r. (top + r) * pitch + left) (λ r. row (base + (y + r) * step + x)) s
+draw-rows row pitch left top base step x y n s =
+    rows-at n (λ r. top * pitch + left + r * pitch) (λ r. (top + r) * pitch + left) (λ r. row (base + y * step + x + r * step)) s
     (λ r l. omega (arith, add-mul top r pitch))
-    ∙ rows-same n (λ r. (top + r) * pitch + left) (λ r. map f (part (base + y * step + x + r * step) w src))
-    (λ r. map f (part (base + (y + r) * step + x) w src)) s each
+    ∙ rows-same n (λ r. (top + r) * pitch + left) (λ r. row (base + y * step + x + r * step)) (λ r. row (base + (y + r) * step + x)) s each
   where
-    each : (r : ℕ) → r < n → map f (part (base + y * step + x + r * step) w src) ≡ map f (part (base + (y + r) * step + x) w src)
+    each : (r : ℕ) → r < n → row (base + y * step + x + r * step) ≡ row (base + (y + r) * step + x)
     each r l =
         let e : base + y * step + x + r * step ≡ base + (y + r) * step + x = omega (arith, add-mul y r step) in
-        ap (λ (k : ℕ). map f (part k w src)) e
+        ap row e

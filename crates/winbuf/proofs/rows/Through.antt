@@ -1,14 +1,17 @@
 -- Pixels that go through a function on their way: a run of a row after the other, and a run of pixels that are all alike.
 use mathlib.Core.Path.{_≡_, refl, sym, ap, _∙_}
-use mathlib.Core.List.{List, _∷_, _++_, map, map-append}
+use mathlib.Core.Bool.{Bool, true, false}
+use mathlib.Core.List.{List, _∷_, _++_, map, map-append, map-id}
 use Prim.Native.Nat.{ℕ, zero, suc, _+_, _-_, _≤_, _<_}
 use native.Mathlib.Omega.{arith}
 use native.Mathlib.Nat.{add-zero}
 use lib.ListN.{length, getD, set, replicate, drop, take, length-map, length-replicate, getD-replicate}
 use lib.Seq.{sets, drop-cons, drop-drop, take-add, ext-getD}
-use Rattle.winbuf.specs.Pixels.{part}
+use Rattle.winbuf.specs.Pixels.{writeRows, part}
+use Rattle.winbuf.specs.Shade.{shade, tone}
 use Rattle.winbuf.proofs.rows.Paint.{getD-part}
 use Rattle.winbuf.proofs.rows.Runs.{full-part, sets-append}
+use Rattle.winbuf.proofs.rows.Written.{rows-same}
 
 -- a part of a part, and what is left of it
 part-add : (src : List ℕ) (a m k : ℕ) → part a (m + k) src ≡ part a m src ++ part (a + m) k src
@@ -56,3 +59,15 @@ eight-alike s at v h e0 e7 e4 e2 e6 e1 e3 e5 =
 -- pixels that are all alike go through once
 pub through-alike : (f : ℕ → ℕ) (l : List ℕ) (n v : ℕ) → l ≡ replicate n v → replicate n (f v) ≡ map f l
 through-alike f l n v e = sym (ap (map f) e ∙ map-replicate f n v)
+
+-- while dimming is on, rows go through the table
+pub rows-dimmed : (dim : Bool) → dim ≡ true → (n : ℕ) (at : ℕ → ℕ) (row : ℕ → List ℕ) (s : List ℕ)
+    → writeRows n at (λ r. map shade (row r)) s ≡ writeRows n at (λ r. map (tone dim) (row r)) s
+rows-dimmed dim e n at row s = ap (λ (t : Bool). writeRows n at (λ r. map (tone t) (row r)) s) (sym e)
+
+-- and while it is off they stay
+pub rows-bright : (dim : Bool) → dim ≡ false → (n : ℕ) (at : ℕ → ℕ) (row : ℕ → List ℕ) (s : List ℕ)
+    → writeRows n at row s ≡ writeRows n at (λ r. map (tone dim) (row r)) s
+rows-bright dim e n at row s =
+    rows-same n at row (λ r. map (tone false) (row r)) s (λ r l. sym (map-id (row r)))
+    ∙ ap (λ (t : Bool). writeRows n at (λ r. map (tone t) (row r)) s) (sym e)

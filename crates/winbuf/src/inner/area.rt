@@ -5,12 +5,14 @@ ghost use Prim.Native.Nat.{_+_, _*_, _≤_};
 ghost use lib.ListN.{length, take, replicate};
 ghost use Rattle.winbuf.specs.Pixels.{writeRows, part};
 ghost use Rattle.winbuf.specs.Rows.{Fit, Inside, Counted};
-ghost use Rattle.winbuf.specs.Shade.{tone};
+ghost use Rattle.winbuf.specs.Shade.{shade, tone};
+ghost use Rattle.winbuf.specs.Table.{Entries};
 use super::least;
 use super::row::copy_part;
 use super::row::fill_part;
 use super::row::set_part;
-use super::shade::draw_part;
+use super::shade::TABLE;
+use super::shade::shade_part;
 
 // n rows of w pixels become `v`.
 pub fn fill_rows(px: &mut [u32], at: usize, pitch: usize, w: u16, n: usize, v: u32) -> usize
@@ -26,8 +28,8 @@ pub fn fill_rows(px: &mut [u32], at: usize, pitch: usize, w: u16, n: usize, v: u
     altered
 }
 
-// n rows of w pixels, from rows `step` apart in `src`, as dimming is on or off.
-pub fn draw_rows(
+// n rows of w pixels, from rows `step` apart in `src`.
+pub fn copy_rows(
     px: &mut [u32],
     at: usize,
     pitch: usize,
@@ -36,14 +38,35 @@ pub fn draw_rows(
     step: usize,
     w: u16,
     n: usize,
-    dim: bool,
 )
     requires { ⌜ Fit (length (now px)) at pitch w n × Fit (length (now src)) from step w n ⌝ }
-    ensures { λ _. ⌜ now (px .exit) ≡ writeRows n (λ r. at + r * pitch) (λ r. map (tone dim) (part (from + r * step) w (now (src .entry)))) (now (px .entry)) ⌝ }
+    ensures { λ _. ⌜ now (px .exit) ≡ writeRows n (λ r. at + r * pitch) (λ r. part (from + r * step) w (now (src .entry))) (now (px .entry)) ⌝ }
 {
     let mut r: usize = 0;
     while r < n {
-        draw_part(px, at + r * pitch, src, from + r * step, w, dim);
+        copy_part(px, at + r * pitch, src, from + r * step, w);
+        r += 1;
+    }
+}
+
+// The same, each pixel through the table of dimming.
+pub fn shade_rows(
+    px: &mut [u32],
+    at: usize,
+    pitch: usize,
+    src: &[u32],
+    from: usize,
+    step: usize,
+    w: u16,
+    n: usize,
+    table: &[u8; 256],
+)
+    requires { ⌜ Fit (length (now px)) at pitch w n × Fit (length (now src)) from step w n × Entries (now table) ⌝ }
+    ensures { λ _. ⌜ now (px .exit) ≡ writeRows n (λ r. at + r * pitch) (λ r. map shade (part (from + r * step) w (now (src .entry)))) (now (px .entry)) ⌝ }
+{
+    let mut r: usize = 0;
+    while r < n {
+        shade_part(px, at + r * pitch, src, from + r * step, w, table);
         r += 1;
     }
 }
@@ -109,7 +132,7 @@ pub fn blit_area(
     blit_rows(px, base + top * pitch + left, pitch, src, stride, w, n)
 }
 
-// An area of the screen takes an area of a window, as dimming is on or off: the window's pixels begin at `base` of the store.
+// An area of the screen takes an area of a window: the window's pixels begin at `base` of the store. Whether dimming is on is asked once.
 pub fn draw_area(
     px: &mut [u32],
     pitch: usize,
@@ -127,15 +150,11 @@ pub fn draw_area(
     requires { ⌜ Inside (length (now px)) 0 pitch left top w n × Inside (length (now src)) base step x y w n ⌝ }
     ensures { λ _. ⌜ now (px .exit) ≡ writeRows n (λ r. (top + r) * pitch + left) (λ r. map (tone dim) (part (base + (y + r) * step + x) w (now (src .entry)))) (now (px .entry)) ⌝ }
 {
-    draw_rows(
-        px,
-        top * pitch + left,
-        pitch,
-        src,
-        base + y * step + x,
-        step,
-        w,
-        n,
-        dim,
-    )
+    let at = top * pitch + left;
+    let from = base + y * step + x;
+    if dim {
+        shade_rows(px, at, pitch, src, from, step, w, n, &TABLE)
+    } else {
+        copy_rows(px, at, pitch, src, from, step, w, n)
+    }
 }

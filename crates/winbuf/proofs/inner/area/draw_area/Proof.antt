@@ -1,32 +1,48 @@
--- `draw_area`: rows of an area.
-use mathlib.Core.Path.{_∙_}
+-- `draw_area`: rows of an area, through the table or as they are.
+use Prim.Native.Nat.{ℕ, _+_, _*_}
+use mathlib.Core.Path.{refl, _∙_}
+use mathlib.Core.List.{List, map}
 use lib.ListN.{length}
-use Rattle.winbuf.specs.Shade.{tone}
-use Rattle.winbuf.proofs.rows.Places.{area-fits, draw-fits, drawn-rows}
 use borrow.Author.Needs.{needs}
+use Rattle.winbuf.specs.Pixels.{part}
+use Rattle.winbuf.specs.Shade as Shade
+use Rattle.winbuf.proofs.rows.Places.{area-fits, draw-fits, draw-rows}
+use Rattle.winbuf.proofs.rows.Table.{entries}
+use Rattle.winbuf.proofs.rows.Through.{rows-dimmed, rows-bright}
 use Rattle.winbuf.proofs.inner.area.draw_area.Statement.{statement}
 use Rattle.winbuf.proofs.inner.area.draw_area.Tie as tie
 
-mul-draw-rows : tie.Need-mul-draw-rows
-mul-draw-rows c = search needs
+mul-at : tie.Need-mul-at
+mul-at c = search needs
 
-add-draw-rows : tie.Need-add-draw-rows
-add-draw-rows c = search needs
+add-at : tie.Need-add-at
+add-at c = search needs
 
-mul-draw-rows-2 : tie.Need-mul-draw-rows-2
-mul-draw-rows-2 c = search needs
+mul-from : tie.Need-mul-from
+mul-from c = search needs
 
-add-draw-rows-2 : tie.Need-add-draw-rows-2
-add-draw-rows-2 c = search needs
+add-from : tie.Need-add-from
+add-from c = search needs
 
-add-draw-rows-3 : tie.Need-add-draw-rows-3
-add-draw-rows-3 c = search needs
+add-from-2 : tie.Need-add-from-2
+add-from-2 c = search needs
 
-draw-rows-requires : tie.Need-draw-rows-requires
-draw-rows-requires c κs =
-    let a = c .before .before .before .args in (
-      draw-fits (length (a .px .now)) (a .pitch) (a .left) (a .top) (a .w) (a .n) (c .before .before .before .pre .0),
-      area-fits (length (a .src .now)) (a .base) (a .step) (a .x) (a .y) (a .w) (a .n) (c .before .before .before .pre .1),
+shade-rows-requires : tie.Need-shade-rows-requires
+unfolding Shade.entry
+shade-rows-requires c κs =
+    let s = c .before .before .before .before .before in
+    let a = s .args in (
+      draw-fits (length (a .px .now)) (a .pitch) (a .left) (a .top) (a .w) (a .n) (s .pre .0),
+      area-fits (length (a .src .now)) (a .base) (a .step) (a .x) (a .y) (a .w) (a .n) (s .pre .1),
+      entries _ refl refl,
+    )
+
+copy-rows-requires : tie.Need-copy-rows-requires
+copy-rows-requires c κs =
+    let s = c .before .before .before .before in
+    let a = s .args in (
+      draw-fits (length (a .px .now)) (a .pitch) (a .left) (a .top) (a .w) (a .n) (s .pre .0),
+      area-fits (length (a .src .now)) (a .base) (a .step) (a .x) (a .y) (a .w) (a .n) (s .pre .1),
     )
 
 same-length : tie.Need-same-length
@@ -34,19 +50,39 @@ same-length c = search needs
 
 returns : tie.Need-returns
 returns c =
-    let a = c .before .before .before .before .before .before .args in
-    c .before .before .draw-rows .ensures
-    ∙ drawn-rows (tone (a .dim)) (a .pitch) (a .left) (a .top) (a .base) (a .step) (a .x) (a .y) (a .w) (a .n) (a .src .now) (a .px .now)
+    let f = c .before .before in
+    let a = f .before .before .before .before .before .before .args in
+    let row : ℕ → List ℕ = λ k. part k (a .w) (a .src .now) in
+    f .shade-rows .ensures
+    ∙ draw-rows (λ k. map Shade.shade (row k)) (a .pitch) (a .left) (a .top) (a .base) (a .step) (a .x) (a .y) (a .n) (a .px .now)
+    ∙ rows-dimmed (a .dim) (f .before .before .before .if1 .taken) (a .n) (λ r. (a .top + r) * a .pitch + a .left)
+    (λ r. row (a .base + (a .y + r) * a .step + a .x)) (a .px .now)
+
+same-length-2 : tie.Need-same-length-2
+same-length-2 c = search needs
+
+returns-2 : tie.Need-returns-2
+returns-2 c =
+    let f = c .before .before in
+    let a = f .before .before .before .before .before .args in
+    let row : ℕ → List ℕ = λ k. part k (a .w) (a .src .now) in
+    f .copy-rows .ensures
+    ∙ draw-rows row (a .pitch) (a .left) (a .top) (a .base) (a .step) (a .x) (a .y) (a .n) (a .px .now)
+    ∙ rows-bright (a .dim) (f .before .before .if1 .left) (a .n) (λ r. (a .top + r) * a .pitch + a .left)
+    (λ r. row (a .base + (a .y + r) * a .step + a .x)) (a .px .now)
 
 pub draw-area-spec : {M : Type 1} → statement M
 draw-area-spec =
     tie.close
     (tie.spec
-    mul-draw-rows
-    add-draw-rows
-    mul-draw-rows-2
-    add-draw-rows-2
-    add-draw-rows-3
-    draw-rows-requires
+    mul-at
+    add-at
+    mul-from
+    add-from
+    add-from-2
+    shade-rows-requires
+    copy-rows-requires
     same-length
-    returns)
+    returns
+    same-length-2
+    returns-2)

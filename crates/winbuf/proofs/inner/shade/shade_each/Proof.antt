@@ -13,11 +13,11 @@ use Rattle.winbuf.proofs.inner.shade.shade_each.Statement.{statement}
 use Rattle.winbuf.proofs.inner.shade.shade_each.Tie as tie
 
 abbrev Inv-loop : tie.InvT-loop
-Inv-loop px₀ at src from n i₀ px i =
+Inv-loop px₀ at src from n table i₀ px i =
     (sets px (at + i) (map shade (part (from + i) (n - i) src)) ≡ sets px₀ at (map shade (part from n src))) × (length px ≡ length px₀) × (i ≤ n)
 
 abbrev μ-loop : tie.MeasureT-loop
-μ-loop px₀ at src from n i₀ px i = n - i
+μ-loop px₀ at src from n table i₀ px i = n - i
 
 loop-holds : tie.Need-loop-holds Inv-loop μ-loop
 loop-holds c = (rw (sub-zero, add-zero, add-zero) refl, refl, omega arith)
@@ -35,7 +35,7 @@ shared-slice-read-shade : tie.Need-shared-slice-read-shade Inv-loop μ-loop
 shared-slice-read-shade c = omega arith
 
 shade-requires : tie.Need-shade-requires Inv-loop μ-loop
-shade-requires c κs = omega arith
+shade-requires c κs = c .before .before .before .before .before .pre .2
 
 cast-px : tie.Need-cast-px Inv-loop μ-loop
 cast-px c = omega arith

@@ -13,11 +13,11 @@ use Rattle.winbuf.proofs.inner.shade.shade_part.Statement.{statement}
 use Rattle.winbuf.proofs.inner.shade.shade_part.Tie as tie
 
 abbrev Inv-loop : tie.InvT-loop
-Inv-loop px₀ at src from n i₀ px i =
+Inv-loop px₀ at src from n table i₀ px i =
     (sets px (at + i) (map shade (part (from + i) (n - i) src)) ≡ sets px₀ at (map shade (part from n src))) × (length px ≡ length px₀) × (i ≤ n)
 
 abbrev μ-loop : tie.MeasureT-loop
-μ-loop px₀ at src from n i₀ px i = n - i
+μ-loop px₀ at src from n table i₀ px i = n - i
 
 loop-holds : tie.Need-loop-holds Inv-loop μ-loop
 loop-holds c = (rw (sub-zero, add-zero, add-zero) refl, refl, omega arith)
@@ -38,7 +38,7 @@ add-shade-eight-2 : tie.Need-add-shade-eight-2 Inv-loop μ-loop
 add-shade-eight-2 c = omega arith
 
 shade-eight-requires : tie.Need-shade-eight-requires Inv-loop μ-loop
-shade-eight-requires c κs = omega arith
+shade-eight-requires c κs = (omega arith, omega arith, c .before .before .before .before .before .before .pre .2)
 
 add-i : tie.Need-add-i Inv-loop μ-loop
 add-i c = omega arith
@@ -72,7 +72,7 @@ sub-shade-each : tie.Need-sub-shade-each Inv-loop μ-loop
 sub-shade-each c = omega arith
 
 shade-each-requires : tie.Need-shade-each-requires Inv-loop μ-loop
-shade-each-requires c κs = omega arith
+shade-each-requires c κs = (omega arith, omega arith, c .before .before .before .before .before .before .pre .2)
 
 loop-less-2 : tie.Need-loop-less-2 Inv-loop μ-loop
 loop-less-2 c = omega arith

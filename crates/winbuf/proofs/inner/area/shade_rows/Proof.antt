@@ -1,22 +1,22 @@
--- `draw_rows`: after r turns, r rows are written.
+-- `shade_rows`: after r turns, r rows are written.
 use mathlib.Core.Path.{_≡_, refl, _∙_}
 use Prim.Native.Nat.{_+_, _-_, _*_, _≤_}
 use native.Mathlib.Omega.{arith}
 use mathlib.Core.List.{map}
 use lib.ListN.{length}
 use Rattle.winbuf.specs.Pixels.{writeRows, part}
-use Rattle.winbuf.specs.Shade.{tone}
+use Rattle.winbuf.specs.Shade.{shade}
 use Rattle.winbuf.proofs.rows.Turns.{rows-more, rows-all}
 use Rattle.winbuf.proofs.rows.Written.{rows-none}
-use Rattle.winbuf.proofs.inner.area.draw_rows.Statement.{statement}
-use Rattle.winbuf.proofs.inner.area.draw_rows.Tie as tie
+use Rattle.winbuf.proofs.inner.area.shade_rows.Statement.{statement}
+use Rattle.winbuf.proofs.inner.area.shade_rows.Tie as tie
 
 abbrev Inv-loop : tie.InvT-loop
-Inv-loop px₀ at pitch src from step w n dim r₀ px r =
-    (px ≡ writeRows r (λ k. at + k * pitch) (λ k. map (tone dim) (part (from + k * step) w src)) px₀) × (length px ≡ length px₀) × (r ≤ n)
+Inv-loop px₀ at pitch src from step w n table r₀ px r =
+    (px ≡ writeRows r (λ k. at + k * pitch) (λ k. map shade (part (from + k * step) w src)) px₀) × (length px ≡ length px₀) × (r ≤ n)
 
 abbrev μ-loop : tie.MeasureT-loop
-μ-loop px₀ at pitch src from step w n dim r₀ px r = n - r
+μ-loop px₀ at pitch src from step w n table r₀ px r = n - r
 
 loop-holds : tie.Need-loop-holds Inv-loop μ-loop
 loop-holds c = (rows-none _ _ _, refl, omega arith)
@@ -28,20 +28,20 @@ row c =
     let h = c .before .before .before .before .pre in
     (h .0 .row (c .before .loop .r) (c .loop-test .taken), h .1 .row (c .before .loop .r) (c .loop-test .taken))
 
-mul-draw-part : tie.Need-mul-draw-part Inv-loop μ-loop
-mul-draw-part c = omega (arith, row (c .before))
+mul-shade-part : tie.Need-mul-shade-part Inv-loop μ-loop
+mul-shade-part c = omega (arith, row (c .before))
 
-add-draw-part : tie.Need-add-draw-part Inv-loop μ-loop
-add-draw-part c = omega (arith, row (c .before))
+add-shade-part : tie.Need-add-shade-part Inv-loop μ-loop
+add-shade-part c = omega (arith, row (c .before))
 
-mul-draw-part-2 : tie.Need-mul-draw-part-2 Inv-loop μ-loop
-mul-draw-part-2 c = omega (arith, row (c .before))
+mul-shade-part-2 : tie.Need-mul-shade-part-2 Inv-loop μ-loop
+mul-shade-part-2 c = omega (arith, row (c .before))
 
-add-draw-part-2 : tie.Need-add-draw-part-2 Inv-loop μ-loop
-add-draw-part-2 c = omega (arith, row (c .before))
+add-shade-part-2 : tie.Need-add-shade-part-2 Inv-loop μ-loop
+add-shade-part-2 c = omega (arith, row (c .before))
 
-draw-part-requires : tie.Need-draw-part-requires Inv-loop μ-loop
-draw-part-requires c κs = omega (arith, row (c .before))
+shade-part-requires : tie.Need-shade-part-requires Inv-loop μ-loop
+shade-part-requires c κs = (omega (arith, row (c .before)), omega (arith, row (c .before)), c .before .before .before .before .before .pre .2)
 
 add-r : tie.Need-add-r Inv-loop μ-loop
 add-r c = omega arith
@@ -53,8 +53,8 @@ loop-again : tie.Need-loop-again Inv-loop μ-loop
 loop-again c =
     let a = c .before .before .before .before .before .before .before .before .args in
     let l = c .before .before .before .before .before .loop in
-    let f = c .before .before .draw-part in (
-      rows-more (λ k. a .at + k * a .pitch) (λ k. map (tone (a .dim)) (part (a .from + k * a .step) (a .w) (a .src .now))) (a .px .now) (l .px) (f .last .0) (l .r)
+    let f = c .before .before .shade-part in (
+      rows-more (λ k. a .at + k * a .pitch) (λ k. map shade (part (a .from + k * a .step) (a .w) (a .src .now))) (a .px .now) (l .px) (f .last .0) (l .r)
           (l .inv .0) (f .ensures),
       f .kept .0 ∙ l .inv .1,
       omega arith,
@@ -67,21 +67,21 @@ returns : tie.Need-returns Inv-loop μ-loop
 returns c =
     let a = c .before .before .before .before .args in
     let l = c .before .loop in
-    rows-all (λ k. a .at + k * a .pitch) (λ k. map (tone (a .dim)) (part (a .from + k * a .step) (a .w) (a .src .now))) (a .px .now) (l .px) (l .r) (a .n)
+    rows-all (λ k. a .at + k * a .pitch) (λ k. map shade (part (a .from + k * a .step) (a .w) (a .src .now))) (a .px .now) (l .px) (l .r) (a .n)
     (l .inv .0) (omega arith) (omega arith)
 
-pub draw-rows-spec : {M : Type 1} → statement M
-draw-rows-spec =
+pub shade-rows-spec : {M : Type 1} → statement M
+shade-rows-spec =
     tie.close
     (tie.spec
     Inv-loop
     μ-loop
     loop-holds
-    mul-draw-part
-    add-draw-part
-    mul-draw-part-2
-    add-draw-part-2
-    draw-part-requires
+    mul-shade-part
+    add-shade-part
+    mul-shade-part-2
+    add-shade-part-2
+    shade-part-requires
     add-r
     loop-less
     loop-again
