@@ -10,6 +10,7 @@ use lib.ListN.{length, getD}
 use Rattle.geom.specs.declared.Rect.{Rect}
 use Rattle.geom.specs.Geom.{left, top, width, height, contains}
 use Rattle.geom.specs.Lists.{anyHas, Disjoint, most}
+use Rattle.winbuf.specs.Shade.{tone}
 use Rattle.window.specs.declared.Event.{Event}
 use Rattle.window.specs.declared.Event.the-variants as Event
 use Rattle.rules.specs.Group.{Group, start, win}
@@ -27,9 +28,9 @@ use Rattle.rules.specs.Conditions.{deed, Quiet, Sized, noRedraw, ends, w
 abbrev pub pixelAt : List ℕ → ℕ → ℕ → ℕ → ℕ
 pixelAt screen w px py = getD screen (py * w + px) 0
 
--- "at (px,py) a window has its pixel (px−x,py−y)"
+-- "at (px,py) a window has its pixel (px−x,py−y)"; "The pixel that a topmost window has is then read through the table while dimming is on"
 abbrev pub pixelOf : Book → ℕ → ℕ → ℕ → ℕ
-pixelOf b id px py = page b id .pixel (px - left (page b id .at)) (py - top (page b id .at))
+pixelOf b id px py = tone (b .dimmed) (page b id .pixel (px - left (page b id .at)) (py - top (page b id .at)))
 
 -- "every pixel under a shown window as the topmost window there has it, and every other pixel as the first left it"
 abbrev pub expected : Book → Option ℕ → ℕ → ℕ → ℕ → ℕ
