@@ -10,6 +10,7 @@ use Rattle.geom.specs.Geom as Geom
 use Rattle.geom.specs.Lists as Lists
 use Rattle.geom.proofs.basics.Tests.{is-true, holds, clash, or-right, or-cases}
 use Rattle.winbuf.specs.Pixels as Pixels
+use Rattle.winbuf.specs.Shade as Shade
 use Rattle.window.specs.Window as Window
 use Rattle.rules.specs.Group as Group
 use Rattle.rules.specs.Group.{start}
@@ -20,6 +21,7 @@ use Rattle.rules.specs.Events as Events
 use Rattle.rules.specs.Store as Store
 use Rattle.rules.specs.Redraw as Draw
 use Rattle.rules.specs.Walk as Walk
+use Rattle.rules.specs.Dim as Dimming
 use Rattle.rules.specs.Calls as Calls
 use Rattle.rules.specs.Calls.{does, byRule, after}
 use Rattle.rules.specs.Book as Book
@@ -27,7 +29,7 @@ use Rattle.rules.specs.Book.{bookOf}
 use Rattle.rules.specs.Conditions as Conditions
 use Rattle.rules.specs.Conditions.{beforeLast, unmarked}
 use Rattle.rules.specs.Demand.{pixelOf, leftAt, Ended, Two}
-use Rattle.rules.specs.Station.{before, first, between, second, picture, walk, last, back, lastBack, backPicture, meanwhile, lastMeanwhile, meanwhilePicture}
+use Rattle.rules.specs.Station.{before, first, between, second, picture, walk, last, back, lastBack, backPicture, meanwhile, lastMeanwhile, meanwhilePicture, switched, lastSwitched, switchedPicture}
 
 -- no third window is shown
 none-else : {A : Type 0} (n : ℕ) → T (isIn (suc (suc n)) (0 ∷ 1 ∷ [])) → A
@@ -134,6 +136,36 @@ station-meanwhile = (
     quiet = (tt, tt, (tt, tt, (tt, tt, (refl, tt, (refl, tt, (refl, tt, (tt, tt, (tt, tt, (tt, tt, (tt, tt, (tt, tt, (refl, tt, (refl, tt, (refl, refl, tt))))))))))))));
     sized = (tt, (tt, (tt, (tt, (tt, (tt, (tt, (tt, (tt, (tt, (tt, ((refl, refl), (tt, ((refl, refl), tt))))))))))))));
     marked = marked-meanwhile;
+  },
+  refl,
+  refl,
+  refl,
+)
+
+-- A walk in which dimming is switched on -----------------------------------------------------------------------------
+
+marked-switched : (id : ℕ) → T (isIn id (bookOf 4 (before ++ (first ∷ switched)) .order))
+    → unmarked id (start 4 .group) false (beforeLast 4 id ((before ++ (first ∷ switched)) ++ (lastSwitched ∷ []))) ≡ false
+unfolding Geom.meets Geom.common Geom.contains Geom.containsRect Geom.pieces Geom.around Geom.ifAny Lists.outside Lists.outsideAll Lists.meetsOf Lists.listIntersect Pixels.writeRows Pixels.resizedAt Shade.shade Shade.entry Window.addDirty Window.anyContains Window.merges Window.mergeOrAppend Window.pushed Group.create Group.move Group.mark Order.show Order.hide Visible.visible Events.route Store.resize Store.fill Store.filledAt Draw.redraw Walk.begin Walk.portion Dimming.dim Calls.does Calls.run Calls.after Book.turn Book.read Book.bookOf Conditions.upToLast Conditions.unmarked
+marked-switched zero h = refl
+marked-switched (suc zero) h = refl
+marked-switched (suc (suc n)) h = none-else n h
+
+-- the conditions, the screen, and the pixel that is expected at (0,0) and at (1,0)
+pub station-switched : Two 4 3 2 before first switched lastSwitched × (does (after 4 (before ++ (first ∷ switched))) lastSwitched .screen ≡ switchedPicture)
+    × (pixelOf (bookOf 4 (before ++ (first ∷ switched))) 1 0 0 ≡ 64) × (pixelOf (bookOf 4 (before ++ (first ∷ switched))) 0 1 0 ≡ 157)
+unfolding Geom.meets Geom.common Geom.contains Geom.containsRect Geom.pieces Geom.around Geom.ifAny Lists.outside Lists.outsideAll Lists.meetsOf Lists.listIntersect Pixels.writeRows Pixels.resizedAt Shade.shade Shade.entry Window.addDirty Window.anyContains Window.merges Window.mergeOrAppend Window.pushed Group.create Group.move Group.mark Order.show Order.hide Visible.visible Events.route Store.resize Store.fill Store.filledAt Draw.redraw Walk.begin Walk.portion Dimming.dim Calls.does Calls.run Calls.after Book.turn Book.read Book.bookOf Conditions.Quiet Conditions.Sized Conditions.noRedraw Conditions.written
+station-switched = (
+  record {
+    first = tt;
+    second = record {
+      ended = tt;
+      quiet = (tt, tt, (tt, tt, (tt, tt, (refl, tt, (refl, tt, (refl, tt, (tt, tt, (tt, tt, (tt, tt, (tt, tt, (refl, tt, (refl, tt, (tt, tt, (refl, tt, (tt, tt, (tt, tt, (refl, refl, (tt, tt, (refl, refl, (refl, refl, tt))))))))))))))))))));
+      sized = (tt, (tt, (tt, (tt, (tt, (tt, (tt, (tt, (tt, (tt, ((refl, refl), (tt, (tt, (tt, (tt, (tt, ((refl, refl), (tt, ((refl, refl), ((refl, refl), tt))))))))))))))))))));
+      marked = marked-switched;
+    };
+    between = tt;
+    unwritten = refl;
   },
   refl,
   refl,

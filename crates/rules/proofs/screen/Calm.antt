@@ -1,5 +1,5 @@
--- What an accepted call that draws nothing keeps, if it owes no full redraw: the order, the debt and the walk, and of each shown window its
--- place, its damage, and its mark where it owes none.
+-- What an accepted call that draws nothing keeps, if it owes no full redraw: the order, the debt, the walk and dimming, and of each shown window
+-- its place, its damage, and its mark where it owes none.
 use Prim.Native.Nat.{ℕ, suc, _<_}
 use mathlib.Core.Bool.{Bool, true, false, cond, not, _&&_, _||_}
 use mathlib.Core.Path.{_≡_, refl, sym, ap}
@@ -26,10 +26,10 @@ use Rattle.rules.specs.Group.{Group, Walk, used, win, setWin, isOver, se
 use Rattle.rules.specs.Order.{isIn, without, shown}
 use Rattle.rules.specs.Events.{topmost, afterPop}
 use Rattle.rules.specs.Walk.{doneOf}
-use Rattle.rules.specs.Calls.{Call, Create, Show, Hide, Drop, Mark, Pop, Move, Resize, Fill, Blit, Route, Redraw, Begin, Portion, does, accepted}
+use Rattle.rules.specs.Calls.{Call, Create, Show, Hide, Drop, Mark, Pop, Move, Resize, Fill, Blit, Route, Redraw, Begin, Portion, Dim, does, accepted}
 use Rattle.rules.specs.Conditions.{deed, lentScreen, owesMark}
 use Rattle.rules.proofs.group.Topmost.{topmost-same}
-use Rattle.rules.proofs.group.Steps.{on-create, on-show, on-hide, on-drop, on-move, on-pop, on-key, on-pointer, on-pointed, on-route, on-resize, on-fill, on-blit}
+use Rattle.rules.proofs.group.Steps.{on-create, on-show, on-hide, on-drop, on-move, on-pop, on-key, on-pointer, on-pointed, on-route, on-dim, on-resize, on-fill, on-blit}
 use Rattle.rules.proofs.group.Invariant.{Ok, used-below, free-place}
 
 -- What is kept -------------------------------------------------------------------------------------------------------
@@ -46,6 +46,7 @@ pub record Calm (g g′ : Group) (f : ℕ → Bool → Bool) : Type 0 where
   pub order : g′ .order ≡ g .order
   pub owed : g′ .owed ≡ g .owed
   pub walk : g′ .walk ≡ g .walk
+  pub dimmed : g′ .dimmed ≡ g .dimmed
   pub each : (id : ℕ) → shown g id ≡ true → Keeps (win g id) (win g′ id) (f id)
 
 -- the topmost window is the same
@@ -63,7 +64,7 @@ keeps-same v v′ f a m d k = record { at = a; damage = λ col row x y h. rw d h
 
 -- nothing changes
 calm-refl : (g : Group) (f : ℕ → Bool → Bool) → ((id : ℕ) → Keen (f id)) → Calm g g f
-calm-refl g f k = record { c = refl; order = refl; owed = refl; walk = refl; each = λ id h. keeps-same (win g id) (win g id) (f id) refl refl refl (k id) }
+calm-refl g f k = record { c = refl; order = refl; owed = refl; walk = refl; dimmed = refl; each = λ id h. keeps-same (win g id) (win g id) (f id) refl refl refl (k id) }
 
 -- a window is set
 calm-set : (g : Group) → Ok g → (i : ℕ) (v : Win) (f : ℕ → Bool → Bool) → (shown g i ≡ true → Keeps (win g i) v (f i))
@@ -73,6 +74,7 @@ calm-set g ok i v f h k = record {
   order = refl;
   owed = refl;
   walk = refl;
+  dimmed = refl;
   each = λ id s.
       set-in (λ o. Keeps (win g id) (theWin o) (f id)) (g .windows) i id (some v) none (λ e. rw e at (used-below g id (ok .shown-used id s)))
       (λ e. rw e (h (rw e at s))) (λ ne. keeps-same (win g id) (win g id) (f id) refl refl refl (k id ne));
@@ -85,6 +87,7 @@ calm-free g i f h k = record {
   order = refl;
   owed = refl;
   walk = refl;
+  dimmed = refl;
   each = λ id s.
       let e = getD-set-other (g .windows) i id none none (λ q. clash (rw q at s) h) in
       keeps-same (win g id) (win (setWin i none g) id) (f id) (ap (λ w. theWin w .at) e) (ap (λ w. theWin w .marked) e) (ap (λ w. theWin w .damage) e) (k id);
@@ -205,3 +208,4 @@ module _ (g : Group) (ok : Ok g) where
   stays (Redraw told w h s screen) r b e = absurd (Option·some-ne-none screen r)
   stays (Begin told) r b e = clash refl b
   stays (Portion w h s screen) r b e = absurd (Option·some-ne-none screen r)
+  stays (Dim on) r b e = on-dim (Stays g (Dim on)) g on (λ q. inl (rw q, sent-back (g .order) (g .walk))) (λ q. inr as-it-was)
