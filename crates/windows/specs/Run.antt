@@ -57,7 +57,8 @@ RunPixels c ms =
     ms ≡ ms₁ ++ (m₁ ∷ (ms₂ ++ (m₂ ∷ rest))) → Two c w h (calls ms₁) (m₁ .call) (calls ms₂) (m₂ .call) →
     Repainted (bookOf c (calls ms₁ ++ (m₁ .call ∷ calls ms₂))) w h (does (after c (calls ms₁)) (m₁ .call) .group) (m₁ .screen) ms₂ (m₂ .screen)
 
--- the pixels under windows when a walk's last portion ends: the screen is the one that this portion left
+-- the pixels under windows when a walk's last portion ends, each read through the table if dimming was on at its window's last portion: the
+-- screen is the one that this portion left
 unfoldable pub RunPortions : ℕ → List Made → Type 0
 RunPortions c ms =
     (w h : ℕ) (ms₁ : List Made) (m : Made) (rest : List Made) → ms ≡ ms₁ ++ (m ∷ rest) → Ended c w h (calls ms₁) (m .call) →
