@@ -24,8 +24,9 @@ pub calls : ("start 4294967295" means call Kind.start (4294967295 ∷ []) [])
     × ("share 3" means call Kind.share (3 ∷ []) [])
     × ("hits" means call Kind.hits [] [])
     × ("hits 8 2 9" means call Kind.hits (8 ∷ 2 ∷ 9 ∷ []) [])
+    × ("dim 0" means call Kind.dim (0 ∷ []) [])
 unfolding split words value number nameByte isName table kindOf counted ranged nameFits accepts withWord complete hears
-calls = (refl, refl, refl, refl, refl, refl, refl, refl, refl, refl, refl, refl, refl)
+calls = (refl, refl, refl, refl, refl, refl, refl, refl, refl, refl, refl, refl, refl, refl)
 
 pub no-calls : ("" means silent)
     × ("# start 1" means silent)
@@ -38,11 +39,12 @@ pub no-calls : ("" means silent)
     × ("start 4294967296" means malformed)
     × ("redraw 2 8 4" means malformed)
     × ("begin 2" means malformed)
+    × ("dim 2" means malformed)
     × ("set-scanline 2 2 0 0 1 2 7" means malformed)
     × ("picture 8 4 .ppm" means malformed)
     × ("picture 8 4" means malformed)
 unfolding split words value number nameByte isName table kindOf counted ranged nameFits accepts withWord complete hears
-no-calls = (refl, refl, refl, refl, refl, refl, refl, refl, refl, refl, refl, refl, refl, refl)
+no-calls = (refl, refl, refl, refl, refl, refl, refl, refl, refl, refl, refl, refl, refl, refl, refl)
 
 -- the most numbers of a line
 pub most : (counted Kind.blit 4102 ≡ true)

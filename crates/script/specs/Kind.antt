@@ -139,6 +139,9 @@ share = 44
 abbrev pub hits : ℕ
 hits = 45
 
+abbrev pub dim : ℕ
+dim = 46
+
 -- the last of them
 abbrev pub last : ℕ
-last = hits
+last = dim

@@ -138,6 +138,7 @@ table =
     ∷ rowTimes "busiest" Kind.busiest
     ∷ row "share" Kind.share 1
     ∷ rowMore "hits" Kind.hits 0
+    ∷ row "dim" Kind.dim 1
     ∷ []
 
 abbrev pub sameWord : List ℕ → List ℕ → Bool
@@ -167,7 +168,8 @@ countedBy (some r) n = leb (r .numbers) n && leb n (r .numbers + r .more)
 unfoldable pub counted : ℕ → ℕ → Bool
 counted k n = countedBy (rowIn k table) n
 
--- "B is 0 to 255, else malformed", "B and N are 0 to 255", "FULL is 0 or 1, else malformed", "N is how many DATA come"
+-- "B is 0 to 255, else malformed", "B and N are 0 to 255", "FULL is 0 or 1, else malformed", `dim`'s "B is 0 or 1, else malformed",
+-- "N is how many DATA come"
 unfoldable pub ranged : ℕ → ℕ → List ℕ → Bool
 ranged k n ns =
     cond (eqb k Kind.mousedown) (leb (getD ns 2 0) 255)
@@ -175,7 +177,8 @@ ranged k n ns =
     (cond (eqb k Kind.mouseclick) (leb (getD ns 2 0) 255 && leb (getD ns 3 0) 255)
     (cond (eqb k Kind.redraw) (leb (getD ns 0 0) 1)
     (cond (eqb k Kind.begin) (leb (getD ns 0 0) 1)
-    (cond (eqb k Kind.set-scanline) (leb (6 + getD ns 5 0) n) true)))))
+    (cond (eqb k Kind.dim) (leb (getD ns 0 0) 1)
+    (cond (eqb k Kind.set-scanline) (leb (6 + getD ns 5 0) n) true))))))
 
 -- a `picture` has a name, and no other line has
 unfoldable pub nameFits : ℕ → ℕ → Bool

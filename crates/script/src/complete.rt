@@ -10,6 +10,7 @@ use crate::Reading;
 use crate::count;
 use crate::kind;
 use crate::kind::BEGIN;
+use crate::kind::DIM;
 use crate::kind::MALFORMED;
 use crate::kind::MOUSECLICK;
 use crate::kind::MOUSEDOWN;
@@ -55,6 +56,9 @@ fn is_ranged(kind: u8, count: usize, numbers: &[u32]) -> bool
         return numbers[0] <= 1;
     }
     if kind == BEGIN {
+        return numbers[0] <= 1;
+    }
+    if kind == DIM {
         return numbers[0] <= 1;
     }
     if kind == SET_SCANLINE {

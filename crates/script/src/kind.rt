@@ -97,9 +97,10 @@ pub const BUSIEST: u8 = 43;
 pub const SHARE: u8 = 44;
 
 pub const HITS: u8 = 45;
+pub const DIM: u8 = 46;
 
 // The last of them.
-pub const LAST: u8 = HITS;
+pub const LAST: u8 = DIM;
 
 const WORDS: usize = LAST as usize - 1;
 
@@ -153,6 +154,7 @@ pub const ROWS: [u8; WORDS * ROW] = *b"\
     \x07\x00*busiest         \
     \x05\x01 share           \
     \x04\x00+hits            \
+    \x03\x01 dim             \
     ";
 
 pub fn wide(b: u8) -> usize

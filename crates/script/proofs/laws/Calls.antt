@@ -98,7 +98,8 @@ module _ (k n : ℕ) (h : counted k n ≡ true) where
       rw (getD-take n ns 2 0 (omega arith), getD-take n ns 3 0 (omega arith)))
       (cond-same (eqb k Kind.redraw) (λ e. rw (getD-take n ns 0 0 (omega (arith, enough Kind.redraw (eqb-true k Kind.redraw e)))))
       (cond-same (eqb k Kind.begin) (λ e. rw (getD-take n ns 0 0 (omega (arith, enough Kind.begin (eqb-true k Kind.begin e)))))
-      (cond-same (eqb k Kind.set-scanline) (λ e. rw (getD-take n ns 5 0 (omega (arith, enough Kind.set-scanline (eqb-true k Kind.set-scanline e))))) refl)))))
+      (cond-same (eqb k Kind.dim) (λ e. rw (getD-take n ns 0 0 (omega (arith, enough Kind.dim (eqb-true k Kind.dim e)))))
+      (cond-same (eqb k Kind.set-scanline) (λ e. rw (getD-take n ns 5 0 (omega (arith, enough Kind.set-scanline (eqb-true k Kind.set-scanline e))))) refl))))))
     where
       at : (i : ℕ) → suc i ≤ n → leb (getD (take n ns) i 0) 255 ≡ leb (getD ns i 0) 255
       at i g = rw (getD-take n ns i 0 g)

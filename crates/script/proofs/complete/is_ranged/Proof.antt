@@ -48,6 +48,13 @@ returns-6 : tie.Need-returns-6
 unfolding ranged
 returns-6 c = rw (c .before .if6 .taken)
 
+shared-slice-read-result-6 : tie.Need-shared-slice-read-result-6
+shared-slice-read-result-6 c = search needs
+
+returns-7 : tie.Need-returns-7
+unfolding ranged
+returns-7 c = rw (c .before .if7 .taken)
+
 shared-slice-read-wide : tie.Need-shared-slice-read-wide
 shared-slice-read-wide c = search needs
 
@@ -57,20 +64,21 @@ wide-requires c κs = search needs
 add-result : tie.Need-add-result
 add-result c = search needs
 
-returns-7 : tie.Need-returns-7
-unfolding ranged
-returns-7 c = rw (c .before .before .if7 .taken, c .wide .ensures .0)
-
 returns-8 : tie.Need-returns-8
 unfolding ranged
-returns-8 c =
+returns-8 c = rw (c .before .before .if8 .taken, c .wide .ensures .0)
+
+returns-9 : tie.Need-returns-9
+unfolding ranged
+returns-9 c =
     rw (
-      ne-eqb _ Kind.mousedown (c .before .before .before .before .before .if1 .left),
-      ne-eqb _ Kind.mouseup (c .before .before .before .before .if2 .left),
-      ne-eqb _ Kind.mouseclick (c .before .before .before .if3 .left),
-      ne-eqb _ Kind.redraw (c .before .before .if5 .left),
-      ne-eqb _ Kind.begin (c .before .if6 .left),
-      ne-eqb _ Kind.set-scanline (c .if7 .left),
+      ne-eqb _ Kind.mousedown (c .before .before .before .before .before .before .if1 .left),
+      ne-eqb _ Kind.mouseup (c .before .before .before .before .before .if2 .left),
+      ne-eqb _ Kind.mouseclick (c .before .before .before .before .if3 .left),
+      ne-eqb _ Kind.redraw (c .before .before .before .if5 .left),
+      ne-eqb _ Kind.begin (c .before .before .if6 .left),
+      ne-eqb _ Kind.dim (c .before .if7 .left),
+      ne-eqb _ Kind.set-scanline (c .if8 .left),
     )
 
 pub is-ranged-spec : {M : Type 1} → statement M
@@ -89,8 +97,10 @@ is-ranged-spec =
     returns-5
     shared-slice-read-result-5
     returns-6
+    shared-slice-read-result-6
+    returns-7
     shared-slice-read-wide
     wide-requires
     add-result
-    returns-7
-    returns-8)
+    returns-8
+    returns-9)
