@@ -3,6 +3,7 @@ use Prim.Native.Nat.{ℕ, _+_, _*_, _≤_}
 use mathlib.Core.Path.{_≡_}
 use mathlib.Core.Bool.{Bool, cond}
 use mathlib.Core.List.{List, [], _∷_, map}
+use lib.Dec.{eqb}
 use lib.ListN.{length, getD}
 use Rattle.geom.specs.declared.Rect.{Rect}
 use Rattle.geom.specs.Geom.{rect, width, height}
@@ -26,15 +27,16 @@ regions at rs bs ds = listIntersect (seen at rs bs) ds
 
 -- the screen after the regions are drawn
 unfoldable pub drawn : View → List ℕ → List Rect → List ℕ → List ℕ
-drawn v store rs screen = drawRegions (v .at) (v .base) store (v .sw) (v .sh) rs screen
+drawn v store rs screen = drawRegions (v .dim) (v .at) (v .base) store (v .sw) (v .sh) rs screen
 
--- a view as seven numbers
+-- a view as eight numbers; the last is 1 while dimming is on
 abbrev pub viewOf : List ℕ → View
 viewOf l = record {
   at = rect (getD l 0 0) (getD l 1 0) (getD l 2 0) (getD l 3 0);
   base = getD l 4 0;
   sw = getD l 5 0;
   sh = getD l 6 0;
+  dim = eqb (getD l 7 0) 1;
 }
 
 -- the window's rectangle, relative to the window

@@ -51,7 +51,7 @@ fn draw_part(view: View, part: Rect, dirty: &[u32], m: usize, store: &[u32], scr
 
 // Draws what the rectangles from the i-th of the n on leave of `part`, a part of the window.
 fn draw_seen(
-    view: &[usize; 7],
+    view: &[usize; 8],
     part: Rect,
     above: &[u32],
     i: usize,
@@ -83,7 +83,7 @@ fn draw_seen(
 
 // The same of a piece, which may have no pixel.
 fn draw_piece(
-    view: &[usize; 7],
+    view: &[usize; 8],
     piece: Rect,
     above: &[u32],
     i: usize,
@@ -102,7 +102,7 @@ fn draw_piece(
     draw_seen(view, piece, above, i, n, dirty, m, store, screen)
 }
 
-// Draws what is seen of a window at `at`, under n rectangles, where it is dirty. Its pixels begin at `base` of the store.
+// Draws what is seen of a window at `at`, under n rectangles, where it is dirty, as dimming is on or off. Its pixels begin at `base` of the store.
 pub fn draw(
     at: Rect,
     base: usize,
@@ -114,13 +114,20 @@ pub fn draw(
     screen: &mut [u32],
     sw: u32,
     sh: u32,
+    dim: bool,
 )
     requires { ⌜ Small at × (base + width at * height at ≤ length (now store)) ⌝ }
     requires { ⌜ Lent n (now above) × Lent m (now dirty) ⌝ }
     requires { ⌜ (sw ≤ 32767) × (sh ≤ 32767) × (length (now screen) ≡ sw * sh) ⌝ }
-    ensures { λ _. ⌜ now (screen .exit) ≡ drawRegions at base (now (store .entry)) sw sh (listIntersect (map (relative at) (outsideAll (at ∷ []) (rectsOf n (now (above .entry))))) (rectsOf m (now (dirty .entry)))) (now (screen .entry)) ⌝ }
+    ensures { λ _. ⌜ now (screen .exit) ≡ drawRegions dim at base (now (store .entry)) sw sh (listIntersect (map (relative at) (outsideAll (at ∷ []) (rectsOf n (now (above .entry))))) (rectsOf m (now (dirty .entry)))) (now (screen .entry)) ⌝ }
 {
-    let view = View { at, base, sw, sh };
+    let view = View {
+        at,
+        base,
+        sw,
+        sh,
+        dim,
+    };
     let numbers = view.numbers();
     draw_seen(&numbers, at, above, 0, n, dirty, m, store, screen)
 }

@@ -62,7 +62,7 @@ module _ (v : View) (store : List ℕ) where
   pub drawn-append : (xs ys : List Rect) (screen : List ℕ) → drawn v store (xs ++ ys) screen ≡ drawn v store ys (drawn v store xs screen)
   unfolding drawn
   drawn-append [] ys screen = refl
-  drawn-append (x ∷ xs) ys screen = drawn-append xs ys (drawRegion (v .at) (v .base) store (v .sw) (v .sh) x screen)
+  drawn-append (x ∷ xs) ys screen = drawn-append xs ys (drawRegion (v .dim) (v .at) (v .base) store (v .sw) (v .sh) x screen)
 
   pub drawn-none : (screen : List ℕ) → drawn v store [] screen ≡ screen
   unfolding drawn

@@ -1,8 +1,8 @@
--- One region on the screen: which rows are copied, that they lie in the store and on the screen, and that they are the rule's.
+-- One region on the screen: which rows are drawn, that they lie in the store and on the screen, and that they are the rule's.
 use Prim.Native.Nat.{ℕ, _+_, _-_, _*_, _≤_, _<_}
 use mathlib.Core.Path.{_≡_, refl, sym, ap, _∙_, subst}
 use mathlib.Core.Bool.{Bool, true, false}
-use mathlib.Core.List.{List, [], _∷_, _++_}
+use mathlib.Core.List.{List, [], _∷_, _++_, map}
 use native.Mathlib.Omega.{arith}
 use native.Mathlib.Nat.{mul-le-mul-right, mul-comm}
 use lib.ListN.{length, drop, drop-of-length-le}
@@ -14,6 +14,7 @@ use Rattle.geom.proofs.basics.Tests.{cond-yes, cond-no}
 use Rattle.geom.proofs.geometry.Facts.{says-meet, common-within}
 use Rattle.winbuf.specs.Pixels.{writeRows, part}
 use Rattle.winbuf.specs.Rows.{Inside}
+use Rattle.winbuf.specs.Shade.{tone}
 use Rattle.winbuf.proofs.rows.Written.{rows-same}
 use Rattle.rules.specs.Redraw.{drawRegion}
 use Rattle.rules.specs.Visible.{rectsOf}
@@ -73,15 +74,15 @@ module _ (v : View) (k : Rect) (store screen : List ℕ) (d : Drawable v store s
         small = let s = d .at in omega arith;
       }
 
--- the rows as the code copies them
+-- the rows as the code draws them
 abbrev rows : View → List ℕ → List ℕ → Rect → List ℕ
 rows v store screen k =
     writeRows (height k) (λ n. (top k + n) * v .sw + left k)
-    (λ n. part (v .base + (top k - top (v .at) + n) * width (v .at) + (left k - left (v .at))) (width k) store) screen
+    (λ n. map (tone (v .dim)) (part (v .base + (top k - top (v .at) + n) * width (v .at) + (left k - left (v .at))) (width k) store)) screen
 
 -- rows of the common part are the rule's
 rows-rule : (v : View) (r : Rect) (store screen : List ℕ) → meets (placed v r) (screenRect v) ≡ true → Cut v (common (placed v r) (screenRect v))
-    → rows v store screen (common (placed v r) (screenRect v)) ≡ drawRegion (v .at) (v .base) store (v .sw) (v .sh) r screen
+    → rows v store screen (common (placed v r) (screenRect v)) ≡ drawRegion (v .dim) (v .at) (v .base) store (v .sw) (v .sh) r screen
 rows-rule v r store screen m c =
     cond-yes (λ (l : List ℕ). rows v store screen (common (placed v r) (screenRect v)) ≡ l) (meets (placed v r) (screenRect v)) _ screen m
     (rows-same (height k) _ _ _ screen each)
@@ -90,18 +91,18 @@ rows-rule v r store screen m c =
     k = common (placed v r) (screenRect v)
 
     each : (n : ℕ) → n < height k
-        → part (v .base + (top k - top (v .at) + n) * width (v .at) + (left k - left (v .at))) (width k) store
-        ≡ part (v .base + (top k + n - top (v .at)) * width (v .at) + (left k - left (v .at))) (width k) store
+        → map (tone (v .dim)) (part (v .base + (top k - top (v .at) + n) * width (v .at) + (left k - left (v .at))) (width k) store)
+        ≡ map (tone (v .dim)) (part (v .base + (top k + n - top (v .at)) * width (v .at) + (left k - left (v .at))) (width k) store)
     each n l =
         let e : top k - top (v .at) + n ≡ top k + n - top (v .at) = omega (arith, c .window) in
-        ap (λ (j : ℕ). part (v .base + j * width (v .at) + (left k - left (v .at))) (width k) store) e
+        ap (λ (j : ℕ). map (tone (v .dim)) (part (v .base + j * width (v .at) + (left k - left (v .at))) (width k) store)) e
 
 module _ (v : View) (r on all : Rect) (store screen : List ℕ) (e : on ≡ placed v r) (f : all ≡ screenRect v) where
   met : (t : Bool) → meets on all ≡ t → meets (placed v r) (screenRect v) ≡ t
   met t m = ap (meets (placed v r)) (sym f) ∙ ap (λ (o : Rect). meets o all) (sym e) ∙ m
 
   pub region-drawn : (k : Rect) (screen′ : List ℕ) → Within (own v) r → meets on all ≡ true → k ≡ common on all → screen′ ≡ rows v store screen k
-      → screen′ ≡ drawRegion (v .at) (v .base) store (v .sw) (v .sh) r screen
+      → screen′ ≡ drawRegion (v .dim) (v .at) (v .base) store (v .sw) (v .sh) r screen
   region-drawn k screen′ w m ek es =
       let e′ : k ≡ common (placed v r) (screenRect v) = ek ∙ ap (λ (o : Rect). common o all) e ∙ ap (common (placed v r)) f in
       es
@@ -109,7 +110,7 @@ module _ (v : View) (r on all : Rect) (store screen : List ℕ) (e : on ≡ plac
       ∙ rows-rule v r store screen (met true m) (subst (Cut v) e′ (cut v r on all k w e f m ek))
 
   -- nothing of it is on the screen
-  pub region-off : meets on all ≡ false → screen ≡ drawRegion (v .at) (v .base) store (v .sw) (v .sh) r screen
+  pub region-off : meets on all ≡ false → screen ≡ drawRegion (v .dim) (v .at) (v .base) store (v .sw) (v .sh) r screen
   region-off m = cond-no (λ (l : List ℕ). screen ≡ l) (meets (placed v r) (screenRect v)) _ screen (met false m) refl
 
 -- Where a region is dirty ----------------------------------------------------------------------------------------------
@@ -143,10 +144,10 @@ meetsOf-next r d ds = go (meets r d) refl
 
 module _ (v : View) (store : List ℕ) where
   pub common-drawn : (r e k : Rect) (screen screen′ : List ℕ) → meets r e ≡ true → k ≡ common r e
-      → screen′ ≡ drawRegion (v .at) (v .base) store (v .sw) (v .sh) k screen → screen′ ≡ drawn v store (meetsOf r (e ∷ [])) screen
+      → screen′ ≡ drawRegion (v .dim) (v .at) (v .base) store (v .sw) (v .sh) k screen → screen′ ≡ drawn v store (meetsOf r (e ∷ [])) screen
   unfolding drawn meetsOf
   common-drawn r e k screen screen′ m ek es =
-      rw m (es ∙ ap (λ (q : Rect). drawRegion (v .at) (v .base) store (v .sw) (v .sh) q screen) ek)
+      rw m (es ∙ ap (λ (q : Rect). drawRegion (v .dim) (v .at) (v .base) store (v .sw) (v .sh) q screen) ek)
 
   pub common-none : (r e : Rect) (screen : List ℕ) → meets r e ≡ false → screen ≡ drawn v store (meetsOf r (e ∷ [])) screen
   unfolding drawn meetsOf

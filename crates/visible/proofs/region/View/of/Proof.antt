@@ -1,5 +1,6 @@
 -- Each number is small; the rectangle is that of the first four.
 use mathlib.Core.Path.{ap}
+use lib.Dec.{eqb}
 use lib.ListN.{getD}
 use Rattle.geom.specs.declared.Rect.{Rect}
 use Rattle.visible.specs.declared.region.View.{View}
@@ -49,11 +50,14 @@ element-copy-out-t17 c = search needs
 cast-t14 : tie.Need-cast-t14
 cast-t14 c = search needs
 
+element-copy-out-t13 : tie.Need-element-copy-out-t13
+element-copy-out-t13 c = search needs
+
 returns : tie.Need-returns
 returns c =
-    let l = c .before .before .before .before .before .before .before .before .args .l .now in
-    let f : Rect → View = λ r. record { at = r; base = getD l 4 0; sw = getD l 5 0; sh = getD l 6 0 } in
-    ap f (c .before .before .before .new .ensures)
+    let l = c .before .before .before .before .before .before .before .before .before .args .l .now in
+    let f : Rect → View = λ r. record { at = r; base = getD l 4 0; sw = getD l 5 0; sh = getD l 6 0; dim = eqb (getD l 7 0) 1 } in
+    ap f (c .before .before .before .before .new .ensures)
 
 pub of-spec : {M : Type 1} → statement M
 of-spec =
@@ -73,4 +77,5 @@ of-spec =
     cast-t18
     element-copy-out-t17
     cast-t14
+    element-copy-out-t13
     returns)
