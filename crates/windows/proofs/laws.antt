@@ -1,6 +1,7 @@
 -- The view, the two ends of a call, and what each call does to the session.
 pub mod Session
 pub mod Shared
+pub mod Dimmed
 pub mod One
 pub mod Places
 pub mod Frames

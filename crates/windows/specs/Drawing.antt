@@ -25,13 +25,13 @@ pub record Drawable (s : Session) (sw sh : ℕ) (store screen : List ℕ) : Type
   pub size : length screen ≡ sw * sh
 
 -- the screen after a window is drawn under some rectangles: "with full or an empty damage list all visible entries are written, else
--- `list_intersect` of visible and damage". Its pixels begin at `base` of the store
-abbrev pub painted : Window → Bool → ℕ → List Rect → List ℕ → ℕ → ℕ → List ℕ → List ℕ
-painted w full base above store sw sh screen =
+-- `list_intersect` of visible and damage". Its pixels begin at `base` of the store, and `dim` is whether dimming is on
+abbrev pub painted : Bool → Window → Bool → ℕ → List Rect → List ℕ → ℕ → ℕ → List ℕ → List ℕ
+painted dim w full base above store sw sh screen =
     let at : Rect = rectOf (w .at) in
     let dirty : List Rect = cond full [] (rects (w .damage)) in
     let seen : List Rect = map (relative at) (outsideAll (at ∷ []) above) in
-    drawRegions at base store sw sh (cond (none? dirty) seen (listIntersect seen dirty)) screen
+    drawRegions dim at base store sw sh (cond (none? dirty) seen (listIntersect seen dirty)) screen
 
 -- the order in what is shared holds numbers of windows
 pub record Ordered (k : Shared) : Type 0 where

@@ -53,6 +53,7 @@ group s =
       focus = s .shared .focus .0;
       owed = s .shared .due .owed;
       walk = walkOf (s .shared .due .walk);
+      dimmed = s .shared .dimmed;
     }
 
 -- Which sessions there are ----------------------------------------------------------------------------------------------

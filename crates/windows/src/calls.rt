@@ -10,6 +10,7 @@ use crate::Popped;
 use crate::Session;
 use crate::Written;
 use crate::WrittenOne;
+use crate::dim;
 use crate::events;
 use crate::one;
 use crate::one::slot;
@@ -164,6 +165,19 @@ impl Session {
         ensures { λ r. ⌜ Meets (Call.Begin told) self r ⌝ }
     {
         let d = portion::begin(self.shared, told);
+        let shared = d.shared;
+        self.shared = shared;
+        Done {
+            session: self,
+            answer: d.answer,
+        }
+    }
+
+    pub fn dim(mut self, on: bool) -> Done
+        requires { ⌜ Given self ⌝ }
+        ensures { λ r. ⌜ Meets (Call.Dim on) self r ⌝ }
+    {
+        let d = dim::dim(self.shared, on);
         let shared = d.shared;
         self.shared = shared;
         Done {

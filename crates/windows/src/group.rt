@@ -34,6 +34,7 @@ impl Session {
             shown: 0,
             c,
             focus: WinId(0),
+            dimmed: false,
             due,
         };
         Session { windows, shared }

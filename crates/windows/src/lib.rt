@@ -6,7 +6,7 @@
 //     windows: [Window; 16]      0     1     2     3     4  …  15     by number; a window that is not `used` is free
 //     shared: the order          3     0     1     -     -  …   -     the first `shown` places, lowest first: window 1 is on top
 //             place              0     1     2                        window 2 is hidden: it is used and has no place
-//             C, the focus, whether a full redraw is owed, and the walk of a redraw that goes window by window
+//             C, the focus, whether dimming is on, whether a full redraw is owed, and the walk of a redraw that goes window by window
 //     the lent store             C     C     C     C     C  …   C     window i has the C pixels from i × C on, rows of its own width
 //     the lent screen            what a redraw writes, window by window in the order, each under those above it
 use geom::Rect;
@@ -17,6 +17,7 @@ use window::Event;
 use window::Window;
 
 mod calls;
+pub mod dim;
 pub mod events;
 mod frames;
 mod group;
@@ -29,14 +30,15 @@ mod share;
 mod small;
 pub mod store;
 
-// What the windows share: the render order, which holds the shown ones in its first `shown` places, lowest first; C; the focus; and what is
-// still to be drawn.
+// What the windows share: the render order, which holds the shown ones in its first `shown` places, lowest first; C; the focus; whether dimming
+// is on; and what is still to be drawn.
 #[repr(C)]
 pub struct Shared {
     pub order: [WinId; 16],
     pub shown: usize,
     pub c: u32,
     pub focus: WinId,
+    pub dimmed: bool,
     pub due: Due,
 }
 

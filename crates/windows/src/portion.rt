@@ -97,6 +97,7 @@ pub fn treat(
                     screen,
                     width,
                     height,
+                    shared.dimmed,
                 );
                 window = cleaned(win, full);
                 let rest = due.further(shared.shown);

@@ -78,7 +78,7 @@ fn dirty_of(full: bool, d: Damage) -> Rects
     Rects::of_damage(d)
 }
 
-// Draws a window under n rectangles, if it is to be drawn. Its pixels begin at `base` of the store.
+// Draws a window under n rectangles, if it is to be drawn, as dimming is on or off. Its pixels begin at `base` of the store.
 pub fn draw_window(
     w: Window,
     base: usize,
@@ -89,10 +89,11 @@ pub fn draw_window(
     screen: &mut [u32],
     sw: u32,
     sh: u32,
+    dim: bool,
 )
     requires { ⌜ RepWindow w × (base + w .at .w * w .at .h ≤ length (now store)) × Lent n (now above) ⌝ }
     requires { ⌜ (sw ≤ 32767) × (sh ≤ 32767) × (length (now screen) ≡ sw * sh) ⌝ }
-    ensures { λ _. ⌜ now (screen .exit) ≡ cond (full || w .marked) (painted w full base (rectsOf n (now (above .entry))) (now (store .entry)) sw sh (now (screen .entry))) (now (screen .entry)) ⌝ }
+    ensures { λ _. ⌜ now (screen .exit) ≡ cond (full || w .marked) (painted dim w full base (rectsOf n (now (above .entry))) (now (store .entry)) sw sh (now (screen .entry))) (now (screen .entry)) ⌝ }
 {
     if either(full, w.marked) {
         let area = w.at;
@@ -110,6 +111,7 @@ pub fn draw_window(
             screen,
             sw,
             sh,
+            dim,
         );
     }
 }
@@ -143,6 +145,7 @@ impl Session {
                 screen,
                 sw,
                 sh,
+                self.shared.dimmed,
             );
             p = p.next();
         }

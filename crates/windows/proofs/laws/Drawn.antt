@@ -71,7 +71,7 @@ module _ (s : Session) (h : Given s) (i : ℕ) (l : i < s .shared .shown) (v : W
 
   -- it is drawn under the rectangles above it
   pub drawn-under : (above : List Rect) → above ≡ higher s (suc i) → (full : Bool) (store screen : List ℕ) (sw sh : ℕ) (screen′ : List ℕ)
-      → screen′ ≡ cond (full || windowAt s (v .0) .marked) (painted (windowAt s (v .0)) full (v .0 * s .shared .c) above store sw sh screen) screen
+      → screen′ ≡ cond (full || windowAt s (v .0) .marked) (painted (s .shared .dimmed) (windowAt s (v .0)) full (v .0 * s .shared .c) above store sw sh screen) screen
       → screen′ ≡ drawWindow (group s) full store sw sh (v .0) screen
   unfolding group
   drawn-under above a full store screen sw sh screen′ q =
@@ -110,7 +110,7 @@ module _ (s : Session) (h : Given s) (i : ℕ) (l : i < s .shared .shown) (v : W
 
     module _ (full : Bool) (store screen : List ℕ) (sw sh : ℕ) where
       pub window-drawn : (screen′ : List ℕ)
-          → screen′ ≡ cond (full || windowAt s (v .0) .marked) (painted (windowAt s (v .0)) full (v .0 * s .shared .c) (rectsOf (s .shared .shown - i - 1) rest) store sw sh screen) screen
+          → screen′ ≡ cond (full || windowAt s (v .0) .marked) (painted (s .shared .dimmed) (windowAt s (v .0)) full (v .0 * s .shared .c) (rectsOf (s .shared .shown - i - 1) rest) store sw sh screen) screen
           → screen′ ≡ drawWindow (group s) full store sw sh (getD (group s .order) i 0) screen
       window-drawn screen′ q =
           drawn-under _ lent-above full store screen sw sh screen′ q ∙ ap (λ (k : ℕ). drawWindow (group s) full store sw sh k screen) (sym (id-at s h i l v read))

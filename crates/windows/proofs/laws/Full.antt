@@ -50,12 +50,12 @@ module _ (r : Rect) (f : Fits r) where
       clash (says-meet r fullRect .test (omega arith)) e)
 
   module _ (v : View) (store screen : List ℕ) where
-    region-whole : drawn v store (meetsOf r (fullRect ∷ [])) screen ≡ drawRegion (v .at) (v .base) store (v .sw) (v .sh) r screen
+    region-whole : drawn v store (meetsOf r (fullRect ∷ [])) screen ≡ drawRegion (v .dim) (v .at) (v .base) store (v .sw) (v .sh) r screen
     unfolding drawn meetsOf
     region-whole = go (meets r fullRect) refl
       where
-        go : (t : Bool) → meets r fullRect ≡ t → drawn v store (meetsOf r (fullRect ∷ [])) screen ≡ drawRegion (v .at) (v .base) store (v .sw) (v .sh) r screen
-        go true e = rw e (ap (λ (q : Rect). drawRegion (v .at) (v .base) store (v .sw) (v .sh) q screen) cut-whole)
+        go : (t : Bool) → meets r fullRect ≡ t → drawn v store (meetsOf r (fullRect ∷ [])) screen ≡ drawRegion (v .dim) (v .at) (v .base) store (v .sw) (v .sh) r screen
+        go true e = rw e (ap (λ (q : Rect). drawRegion (v .dim) (v .at) (v .base) store (v .sw) (v .sh) q screen) cut-whole)
         go false e = rw e (cond-no (λ (l : List ℕ). screen ≡ l) _ _ screen (misses-all _ _ _ e) refl)
 
 -- The regions of a window --------------------------------------------------------------------------------------------
@@ -75,23 +75,23 @@ parts-fit at [] s h = tt
 parts-fit at (r ∷ rs) s h = (let w = h .0 in omega arith, parts-fit at rs s (h .1))
 
 -- the visible entries of a window, cut to what a redraw takes for dirty
-module _ (at : Rect) (s : Small at) (bs : List Rect) (base : ℕ) (store : List ℕ) (sw sh : ℕ) (screen : List ℕ) where
+module _ (dim : Bool) (at : Rect) (s : Small at) (bs : List Rect) (base : ℕ) (store : List ℕ) (sw sh : ℕ) (screen : List ℕ) where
   abbrev vis : List Rect
   vis = map (relative at) (outsideAll (at ∷ []) bs)
 
-  all-drawn : drawRegions at base store sw sh (listIntersect vis (fullRect ∷ [])) screen ≡ drawRegions at base store sw sh vis screen
+  all-drawn : drawRegions dim at base store sw sh (listIntersect vis (fullRect ∷ [])) screen ≡ drawRegions dim at base store sw sh vis screen
   unfolding drawn
-  all-drawn = full-drawn (record { at = at; base = base; sw = sw; sh = sh }) store vis screen (parts-fit at (outsideAll (at ∷ []) bs) s (left-within at bs))
+  all-drawn = full-drawn (record { at = at; base = base; sw = sw; sh = sh; dim = dim }) store vis screen (parts-fit at (outsideAll (at ∷ []) bs) s (left-within at bs))
 
-  dirty-drawn : (full : Bool) (ds : List Rect) → drawRegions at base store sw sh (listIntersect vis (dirtyOf full ds)) screen
-      ≡ drawRegions at base store sw sh (cond (none? (cond full [] ds)) vis (listIntersect vis (cond full [] ds))) screen
+  dirty-drawn : (full : Bool) (ds : List Rect) → drawRegions dim at base store sw sh (listIntersect vis (dirtyOf full ds)) screen
+      ≡ drawRegions dim at base store sw sh (cond (none? (cond full [] ds)) vis (listIntersect vis (cond full [] ds))) screen
   dirty-drawn true ds = all-drawn
   dirty-drawn false [] = all-drawn
   dirty-drawn false (d ∷ ds) = refl
 
 -- what the code lends to `draw` gives the screen that the rule says
-pub lent-drawn : (w : Window) (full : Bool) (base : ℕ) (bs : List Rect) (store : List ℕ) (sw sh : ℕ) (screen : List ℕ) (r : Rect) (ds : List Rect) (screen′ : List ℕ)
+pub lent-drawn : (dim : Bool) (w : Window) (full : Bool) (base : ℕ) (bs : List Rect) (store : List ℕ) (sw sh : ℕ) (screen : List ℕ) (r : Rect) (ds : List Rect) (screen′ : List ℕ)
     → Small (rectOf (w .at)) → full || w .marked ≡ true → r ≡ rectOf (w .at) → ds ≡ dirtyOf full (rects (w .damage))
-    → screen′ ≡ drawRegions r base store sw sh (listIntersect (map (relative r) (outsideAll (r ∷ []) bs)) ds) screen
-    → screen′ ≡ cond (full || w .marked) (painted w full base bs store sw sh screen) screen
-lent-drawn w full base bs store sw sh screen r ds screen′ s m e k q = q ∙ rw (e, k, m) (dirty-drawn (rectOf (w .at)) s bs base store sw sh screen full (rects (w .damage)))
+    → screen′ ≡ drawRegions dim r base store sw sh (listIntersect (map (relative r) (outsideAll (r ∷ []) bs)) ds) screen
+    → screen′ ≡ cond (full || w .marked) (painted dim w full base bs store sw sh screen) screen
+lent-drawn dim w full base bs store sw sh screen r ds screen′ s m e k q = q ∙ rw (e, k, m) (dirty-drawn dim (rectOf (w .at)) s bs base store sw sh screen full (rects (w .damage)))

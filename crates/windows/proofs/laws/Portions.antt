@@ -122,13 +122,13 @@ module _ (s : Session) (h : Given s) (on : s .shared .due .walk .on ≡ true) wh
 
   treats : (sw sh : ℕ) (store screen : List ℕ) → whole (group s) store ≡ true → screenFits sw sh screen ≡ true
       → (x : Next) → IsNext s (v .0) x → (screen′ : List ℕ)
-      → screen′ ≡ cond (full || w .marked) (painted w full (x .base) (rectsOf (x .above .len) (x .above .numbers)) store sw sh screen) screen
+      → screen′ ≡ cond (full || w .marked) (painted (s .shared .dimmed) w full (x .base) (rectsOf (x .above .len) (x .above .numbers)) store sw sh screen) screen
       → MeetsScreen (Portion sw sh store screen) s (done after 0) screen′
   unfolding does Rule.portion
   treats sw sh store screen y f x n screen′ e =
       let d : screen′ ≡ drawWindow (group s) full store sw sh (v .0) screen =
       drawn-under s h p place-low v refl _ (n .above .list) full store screen sw sh screen′
-      (e ∙ ap (λ (b : ℕ). cond (full || w .marked) (painted w full b (rectsOf (x .above .len) (x .above .numbers)) store sw sh screen) screen) (n .base)) in
+      (e ∙ ap (λ (b : ℕ). cond (full || w .marked) (painted (s .shared .dimmed) w full b (rectsOf (x .above .len) (x .above .numbers)) store sw sh screen) screen) (n .base)) in
       record {
         meets = gives (Portion sw sh store screen) s after h after-rep (rw (y, f, walk-is)) (after-group ∙ rw (y, f, next-is, walk-is));
         shown = d ∙ rw (y, f, next-is, walk-is);
@@ -179,7 +179,7 @@ module _ (w : Window) (k : Shared) (x : Next) where
 
     -- the screen once the window is drawn
     abbrev painting : Window → Shared → List ℕ
-    painting u j = cond (j .due .walk .full || u .marked) (painted u (j .due .walk .full) (x .base) (rectsOf (x .above .len) (x .above .numbers)) store sw sh screen) screen
+    painting u j = cond (j .due .walk .full || u .marked) (painted (j .dimmed) u (j .due .walk .full) (x .base) (rectsOf (x .above .len) (x .above .numbers)) store sw sh screen) screen
 
     pub yes : length store ≡ 16 * k .c → screenFits sw sh screen ≡ true → k .due .walk .on ≡ true → (screen′ : List ℕ)
         → screen′ ≡ painting w k → TreatsAt call w k x (record { window = cleanedIf (k .due .walk .full) w; shared = onward k; answer = 0 }) screen′

@@ -31,7 +31,7 @@ same-length c = search needs
 returns : tie.Need-returns
 returns c =
     let s = c .before .before .before .before .before .before .before .before .before .before .before .before .before .before .before in
-    lent-drawn (s .args .w) (s .args .full) (s .args .base) _ (s .args .store .now) (s .args .sw) (s .args .sh) (s .args .screen .now) _ _ _ (s .pre .0 .0 .at) (sym (c .before .before .before .before .before .before .before .before .before .before .before .either .ensures) ∙ c .before .before .before .before .before .before .before .before .before .before .if1 .taken) (c .before .before .before .before .before .rect .ensures) (c .before .before .before .before .before .before .before .dirty-of .ensures .list) (c .before .before .draw .ensures)
+    lent-drawn (s .args .dim) (s .args .w) (s .args .full) (s .args .base) _ (s .args .store .now) (s .args .sw) (s .args .sh) (s .args .screen .now) _ _ _ (s .pre .0 .0 .at) (sym (c .before .before .before .before .before .before .before .before .before .before .before .either .ensures) ∙ c .before .before .before .before .before .before .before .before .before .before .if1 .taken) (c .before .before .before .before .before .rect .ensures) (c .before .before .before .before .before .before .before .dirty-of .ensures .list) (c .before .before .draw .ensures)
 
 returns-2 : tie.Need-returns-2
 returns-2 c = rw (sym (c .before .either .ensures) ∙ c .if1 .left)
