@@ -66,6 +66,17 @@ static void walk(void) {
     EXPECT(roq_portion(s, 8, 8, store, 16 * C, screen, 64) == 20);
 }
 
+/* Dimming, a byte behind the focus; each switch owes a full redraw; a pixel that a redraw writes, and the store's, which stays. */
+static void dims(void) {
+    EXPECT(roq_resize(s, 7, 1, 1, store, 16 * C) == 0 && roq_fill(s, 7, rect(0, 0, 1, 1), 0x80ff8001, store, 16 * C) == 0);
+    EXPECT(roq_redraw(s, false, 8, 8, store, 16 * C, screen, 64) == 0 && screen[0] == 0x80ff8001);
+    EXPECT(roq_dim(s, false) == 0 && (s->words[701] >> 48 & 0xff) == 0 && (s->words[704] & 0xff) == 0);
+    EXPECT(roq_dim(s, true) == 0 && (s->words[701] >> 48 & 0xff) == 1 && (s->words[704] & 0xff) == 1);
+    EXPECT(roq_redraw(s, false, 8, 8, store, 16 * C, screen, 64) == 0 && screen[0] == 0x80ff4000 && store[7 * C] == 0x80ff8001);
+    EXPECT(roq_dim(s, false) == 0 && (s->words[701] >> 48 & 0xff) == 0 && roq_redraw(s, false, 8, 8, store, 16 * C, screen, 64) == 0);
+    EXPECT(screen[0] == 0x80ff8001 && roq_resize(s, 7, 0, 0, store, 16 * C) == 0);
+}
+
 /* The share of the window below, of which the other one covers two pixels of three; of the other one; and both refusals. */
 static void shares(void) {
     EXPECT(roq_share(s, 7).answer == 24);
@@ -87,7 +98,7 @@ static void fingers(void) {
     EXPECT(roq_hits(s, points, 6, answers, 8) == 5 && answers[0] == LAST);
 }
 
-/* A session as large as the library's: its last words hold C and the focus, the walk's next place, whether it is on and full, and the debt;
+/* A session as large as the library's: its last words hold C, the focus and dimming, the walk's next place, whether it is on and full, and the debt;
  * nothing is written beyond. */
 static void session(void) {
     EXPECT(roq_start(s, C) == 0 && (uint32_t)s->words[701] == C);
@@ -103,6 +114,7 @@ static void session(void) {
     EXPECT(roq_mark(s, LAST) == 0 && roq_redraw(s, false, 8, 8, store, 16 * C, screen, 64) == 0);
     EXPECT((s->words[704] & 0xff) == 0);
     walk();
+    dims();
     RoqAltered filled = roq_fill(s, LAST, rect(9, 5, 7, 3), 6, store, 16 * C);
     EXPECT(filled.answer == 0 && filled.altered == 21);
     filled = roq_fill(s, LAST, rect(9, 5, 7, 3), 6, store, 16 * C - 1);

@@ -143,20 +143,25 @@ typedef struct RoqPopped {
 /* The oldest event of a window's queue, or else its unread MouseMove. Asks 3, 10. */
 RoqPopped roq_pop(RoqSession *s, uint16_t id);
 
-/* Draws the shown windows on the screen, lowest first: everything where `told` or where a show, hide, move or resize came before,
- * else the marked windows. Reads the store, writes the screen. Asks 1, 8. */
+/* Draws the shown windows on the screen, lowest first: everything where `told` or where a show, hide, move, resize or switch of dimming came
+ * before, else the marked windows. Reads the store, writes the screen. Asks 1, 8. */
 uint32_t roq_redraw(RoqSession *s, bool told, uint32_t width, uint32_t height, const uint32_t *store, size_t store_len,
                     uint32_t *screen, size_t screen_len);
 
-/* Begins a walk, which is a redraw window by window: everything where `told` or where a show, hide, move or resize came before, else the
- * marked windows. Drops the walk that is on; so does roq_redraw. With no window shown the walk is over at once. Asks nothing. */
+/* Begins a walk, which is a redraw window by window: everything where `told` or where a show, hide, move, resize or switch of dimming came
+ * before, else the marked windows. Drops the walk that is on; so does roq_redraw. With no window shown the walk is over at once. Asks nothing. */
 uint32_t roq_begin(RoqSession *s, bool told);
 
 /* Draws the walk's next window, lowest first; after the last one the walk is over. Any calls may come between two portions: a show, hide,
- * move or resize sends the walk back to the lowest window, to draw everything; what is written to a window after its portion is damage for
- * the next redraw. Reads the store, writes the screen. Asks 1, 8, 20. */
+ * move, resize or switch of dimming sends the walk back to the lowest window, to draw everything; what is written to a window after its
+ * portion is damage for the next redraw. Reads the store, writes the screen. Asks 1, 8, 20. */
 uint32_t roq_portion(RoqSession *s, uint32_t width, uint32_t height, const uint32_t *store, size_t store_len, uint32_t *screen,
                      size_t screen_len);
+
+/* Switches dimming, which is off in a new session: while it is on, roq_redraw and roq_portion write red, green and blue (bits 16 to 23, 8 to
+ * 15, 0 to 7) of each pixel as (i x i + 127) / 255, rounded down, and the top byte as it is. The store keeps its pixels. To set what is set
+ * changes nothing. Asks nothing. */
+uint32_t roq_dim(RoqSession *s, bool on);
 
 /* How many rectangles a list has: on a no none. */
 typedef struct RoqListing {

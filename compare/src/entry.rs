@@ -13,10 +13,11 @@ pub enum Entry {
     NarrowTaller,
     SeventeenthEntry,
     Portion,
+    DimmingOn,
 }
 
 impl Entry {
-    pub const ALL: [Entry; 11] = [
+    pub const ALL: [Entry; 12] = [
         Entry::SomeEntriesMet,
         Entry::PiecesApart,
         Entry::BarePixels,
@@ -28,6 +29,7 @@ impl Entry {
         Entry::NarrowTaller,
         Entry::SeventeenthEntry,
         Entry::Portion,
+        Entry::DimmingOn,
     ];
 
     pub fn text(self) -> &'static str {
@@ -43,6 +45,7 @@ impl Entry {
             Entry::NarrowTaller => "a narrowing to greater height",
             Entry::SeventeenthEntry => "a 17th dirty entry",
             Entry::Portion => "a portion of a redraw",
+            Entry::DimmingOn => "a switch of dimming on",
         }
     }
 }

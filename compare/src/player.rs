@@ -191,6 +191,9 @@ impl Player {
                 }
             }
             Call::Portion(..) => out.instead("no such call"),
+            // To switch off what is off is nothing, and so common ground.
+            Call::Dim(on) if on || self.shadow.is_dimmed() => out.instead("no such call"),
+            Call::Dim(_) => {}
             // The original has no such calls either: the rule answers.
             Call::Busiest(ref times) => {
                 let second = busiest::second(times);

@@ -1,5 +1,5 @@
 //! A small shadow of the session. It is asked whether an accepted call falls under an entry of "Not common", and for what the original
-//! leaves to its caller: whether a full redraw is owed, and whether a walk is on.
+//! leaves to its caller: whether a full redraw is owed, whether a walk is on, and whether dimming is.
 use crate::area::Area;
 use crate::call::Call;
 use crate::damage::{Damage, Direction, Joined};
@@ -32,6 +32,7 @@ pub struct Shadow {
     /// "A full redraw is owed"
     pub owed: bool,
     walk: Option<Walk>,
+    dimmed: bool,
     pub seen: Seen,
 }
 
@@ -62,8 +63,13 @@ impl Shadow {
                 (size != pixels.len()).then_some(Entry::BarePixels)
             }
             Call::Portion(..) => Some(Entry::Portion),
+            Call::Dim(on) => (*on && !self.dimmed).then_some(Entry::DimmingOn),
             _ => self.list_entry(call),
         }
+    }
+
+    pub fn is_dimmed(&self) -> bool {
+        self.dimmed
     }
 
     pub fn is_walking(&self) -> bool {
@@ -95,6 +101,7 @@ impl Shadow {
             Call::Redraw(told, ..) => self.redraw(*told),
             Call::Begin(told) => self.begin(*told),
             Call::Portion(..) => self.portion(),
+            Call::Dim(on) => self.dim(*on),
             _ => {}
         }
     }
@@ -148,6 +155,14 @@ impl Shadow {
         let Some(Walk { done, full }) = self.walk else { return };
         self.treat(self.places.order[done], full);
         self.go_on(Walk { done: done + 1, full });
+    }
+
+    /// "Switching owes a full redraw"; "setting what is already set changes nothing"
+    fn dim(&mut self, on: bool) {
+        if on != self.dimmed {
+            self.dimmed = on;
+            self.owe();
+        }
     }
 
     /// "A call that owes a full redraw sends the walk back to the bottom, in full."

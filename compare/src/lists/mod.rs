@@ -77,6 +77,7 @@ impl<'a> Maker<'a> {
             (2, Maker::begin),
             (3, Maker::portion),
             (2, Maker::walk),
+            (3, Maker::dim),
             (16, Maker::event),
             (14, Maker::pop),
             (1, Maker::flood),

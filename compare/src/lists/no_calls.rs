@@ -11,5 +11,5 @@ pub const NO_CALLS: [&str; 68] = [
     "redraw 0 800 481", "redraw 0 4294967295 4294967295", "picture 800 481 a.ppm", "picture 1 1 .a",
     "picture 1 1 a/b", "picture 1 1", "picture 1 x a", "pieces 0 0 1 1 0 0 1 1 1", "lend", "screen 1", "pixels",
     "\u{e4}", "?", "!", "begin", "begin 2", "begin 0 0", "portion 4", "portion 1 4 4", "portion 800 481",
-    "share", "share 1 2", "share -1", "hits -1", "hits 1 2 x", "hits 1 4294967296",
+    "share", "share 1 2", "share -1", "hits -1", "hits 1 2 x", "hits 1 4294967296", "dim", "dim 2", "dim 0 0",
 ];

@@ -1,4 +1,5 @@
-//! Redraws begun, and portions of them. An accepted portion is outside the common ground, so that most of these are refused.
+//! Redraws begun, and portions of them. An accepted portion is outside the common ground, so that most of these are refused. And dimming, which
+//! is mostly switched off where it is off.
 use super::{Maker, Step};
 
 impl Maker<'_> {
@@ -35,6 +36,14 @@ impl Maker<'_> {
         }
         self.redraw()?;
         self.portion()?;
+        self.screen()
+    }
+
+    /// Off, it is as it was, and a walk goes on; on, the list ends here.
+    pub fn dim(&mut self) -> Step {
+        let on = u32::from(self.random.chance(200));
+        self.say(&format!("dim {on}"))?;
+        self.redraw()?;
         self.screen()
     }
 

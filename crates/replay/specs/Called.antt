@@ -25,7 +25,8 @@ pub record Picked (o : Option Call) (P : Call → Type 0) : Type 0 where
   pub is : o ≡ some call
   pub so : P call
 
--- "`show ID` · `hide ID` · `drop ID` · `mark ID`: these"; "`move ID X Y`: move"; "`begin FULL`: begin; FULL is 0 or 1"
+-- "`show ID` · `hide ID` · `drop ID` · `mark ID`: these"; "`move ID X Y`: move"; "`begin FULL`: begin; FULL is 0 or 1"; "`dim B`:
+-- dim; B is 0 or 1"
 abbrev pub windowCalls : List ℕ → List (ℕ × Call)
 windowCalls ns =
     (Kind.show, Call.Show (idOf ns))
@@ -34,6 +35,7 @@ windowCalls ns =
     ∷ (Kind.mark, Call.Mark (idOf ns))
     ∷ (Kind.move, Call.Move (idOf ns) (num ns 1) (num ns 2))
     ∷ (Kind.begin, Call.Begin (eqb (num ns 0) 1))
+    ∷ (Kind.dim, Call.Dim (eqb (num ns 0) 1))
     ∷ []
 
 -- "`keydown V` · `keyup V` · `keyfire V` · `text V`: route"; "`mousemove X Y`: route a MouseMove, its differences 0"; "`mousedown X Y B` ·

@@ -38,6 +38,7 @@ fn plain(s: Session, line: Line, ns: &[u32; 4200]) -> Done
         kind::MARK => s.mark(id),
         kind::MOVE => s.move_window(id, numbers::pos(ns, 1)),
         kind::BEGIN => s.begin(ns[0] == 1),
+        kind::DIM => s.dim(ns[0] == 1),
         _ => s.route(events::event(line, ns)),
     }
 }

@@ -18,6 +18,7 @@ use windows::InView;
 use windows::Listing;
 use windows::Placed;
 use windows::Session;
+use windows::dim;
 use windows::events::tell;
 use windows::one;
 use windows::one::slot;
@@ -228,6 +229,17 @@ pub extern "C" fn roq_begin(s: &mut Session, told: bool) -> u32
     ensures { λ r. ⌜ Meets (Call.Begin told) (now (s .entry)) (done (now (s .exit)) r) ⌝ }
 {
     let d = portion::begin((*s).shared, told);
+    let k = d.shared;
+    (*s).shared = k;
+    d.answer
+}
+
+#[no_mangle]
+pub extern "C" fn roq_dim(s: &mut Session, on: bool) -> u32
+    requires { ⌜ Given (now s) ⌝ }
+    ensures { λ r. ⌜ Meets (Call.Dim on) (now (s .entry)) (done (now (s .exit)) r) ⌝ }
+{
+    let d = dim::dim((*s).shared, on);
     let k = d.shared;
     (*s).shared = k;
     d.answer

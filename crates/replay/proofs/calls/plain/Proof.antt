@@ -37,6 +37,12 @@ element-copy-out-begin c = search needs
 begin-requires : tie.Need-begin-requires
 begin-requires c κs = search needs
 
+element-copy-out-dim : tie.Need-element-copy-out-dim
+element-copy-out-dim c = search needs
+
+dim-requires : tie.Need-dim-requires
+dim-requires c κs = search needs
+
 event-requires : tie.Need-event-requires
 event-requires c κs = (c .before .before .pre .1, routes-left _ _ (c .match .rest) (c .before .before .pre .2))
 
@@ -70,7 +76,10 @@ returns-6 : tie.Need-returns-6
 returns-6 c = plain-at (c .before .before .match .keys6) _ refl (c .begin .ensures)
 
 returns-7 : tie.Need-returns-7
-returns-7 c = record { call = Call.Route (c .before .event .result); is = c .before .event .ensures; so = c .route .ensures }
+returns-7 c = plain-at (c .before .before .match .keys7) _ refl (c .dim .ensures)
+
+returns-8 : tie.Need-returns-8
+returns-8 c = record { call = Call.Route (c .before .event .result); is = c .before .event .ensures; so = c .route .ensures }
 
 pub plain-spec : {M : Type 1} → statement M
 plain-spec =
@@ -85,6 +94,8 @@ plain-spec =
     move-window-requires
     element-copy-out-begin
     begin-requires
+    element-copy-out-dim
+    dim-requires
     event-requires
     route-requires
     returns
@@ -93,4 +104,5 @@ plain-spec =
     returns-4
     returns-5
     returns-6
-    returns-7)
+    returns-7
+    returns-8)
