@@ -1,12 +1,15 @@
 -- Pixels that go through a function on their way: a run of a row after the other, and a run of pixels that are all alike.
 use mathlib.Core.Path.{_≡_, refl, sym, ap, _∙_}
-use mathlib.Core.Bool.{Bool, true, false}
+use mathlib.Core.Bool.{Bool, true, false, _&&_}
 use mathlib.Core.List.{List, _∷_, _++_, map, map-append, map-id}
 use Prim.Native.Nat.{ℕ, zero, suc, _+_, _-_, _≤_, _<_}
 use native.Mathlib.Omega.{arith}
 use native.Mathlib.Nat.{add-zero}
-use lib.ListN.{length, getD, set, replicate, drop, take, length-map, length-replicate, getD-replicate}
+use lib.Dec.{eqb}
+use lib.ListN.{length, getD, set, replicate, drop, length-map, getD-replicate}
 use lib.Seq.{sets, drop-cons, drop-drop, take-add, ext-getD}
+use borrow.Author.Tests.{eqb-true}
+use Rattle.geom.proofs.basics.Tests.{fst, snd}
 use Rattle.winbuf.specs.Pixels.{writeRows, part}
 use Rattle.winbuf.specs.Shade.{shade, tone}
 use Rattle.winbuf.proofs.rows.Paint.{getD-part}
@@ -37,23 +40,30 @@ map-replicate : (f : ℕ → ℕ) (n v : ℕ) → map f (replicate n v) ≡ repl
 map-replicate f zero v = refl
 map-replicate f (suc n) v = ap (λ (l : List ℕ). f v ∷ l) (map-replicate f n v)
 
--- eight pixels that the tests of `are_alike` say to be alike
-pub eight-alike : (s : List ℕ) (at v : ℕ) → at + 8 ≤ length s → getD s at 0 ≡ v → getD s (at + 7) 0 ≡ v → getD s (at + 4) 0 ≡ v
-    → getD s (at + 2) 0 ≡ v → getD s (at + 6) 0 ≡ v → getD s (at + 1) 0 ≡ v → getD s (at + 3) 0 ≡ v → getD s (at + 5) 0 ≡ v
-    → part at 8 s ≡ replicate 8 v
-eight-alike s at v h e0 e7 e4 e2 e6 e1 e3 e5 =
-    ext-getD 0 (part at 8 s) (replicate 8 v) (full-part s at 8 h)
-    (λ i l. let k : i < 8 = omega (arith, full-part s at 8 h) in getD-part at 8 s i 0 k ∙ each i k ∙ sym (getD-replicate 8 i v 0 k))
+-- the pixel k behind `at` is like the one at `at`
+abbrev like : List ℕ → ℕ → ℕ → Bool
+like s at k = eqb (getD s (at + k) 0) (getD s at 0)
+
+-- and so are the seven behind it
+pub eight-alike : (s : List ℕ) (at : ℕ) → at + 8 ≤ length s
+    → (((((like s at 1 && like s at 2) && like s at 3) && like s at 4) && like s at 5) && like s at 6) && like s at 7 ≡ true
+    → part at 8 s ≡ replicate 8 (getD s at 0)
+eight-alike s at h t7 =
+    ext-getD 0 (part at 8 s) (replicate 8 (getD s at 0)) (full-part s at 8 h)
+    (λ i l. let k : i < 8 = omega (arith, full-part s at 8 h) in getD-part at 8 s i 0 k ∙ each i k ∙ sym (getD-replicate 8 i (getD s at 0) 0 k))
   where
-    each : (i : ℕ) → i < 8 → getD s (at + i) 0 ≡ v
-    each zero k = rw add-zero e0
-    each (suc zero) k = e1
-    each (suc (suc zero)) k = e2
-    each (suc (suc (suc zero))) k = e3
-    each (suc (suc (suc (suc zero)))) k = e4
-    each (suc (suc (suc (suc (suc zero))))) k = e5
-    each (suc (suc (suc (suc (suc (suc zero)))))) k = e6
-    each (suc (suc (suc (suc (suc (suc (suc zero))))))) k = e7
+    is : (k : ℕ) → like s at k ≡ true → getD s (at + k) 0 ≡ getD s at 0
+    is k e = eqb-true (getD s (at + k) 0) (getD s at 0) e
+
+    each : (i : ℕ) → i < 8 → getD s (at + i) 0 ≡ getD s at 0
+    each zero k = rw add-zero
+    each (suc zero) k = is 1 (search (fst, snd))
+    each (suc (suc zero)) k = is 2 (search (fst, snd))
+    each (suc (suc (suc zero))) k = is 3 (search (fst, snd))
+    each (suc (suc (suc (suc zero)))) k = is 4 (search (fst, snd))
+    each (suc (suc (suc (suc (suc zero))))) k = is 5 (search (fst, snd))
+    each (suc (suc (suc (suc (suc (suc zero)))))) k = is 6 (search (fst, snd))
+    each (suc (suc (suc (suc (suc (suc (suc zero))))))) k = is 7 (search (fst, snd))
     each (suc (suc (suc (suc (suc (suc (suc (suc i)))))))) k = absurd (omega arith)
 
 -- pixels that are all alike go through once

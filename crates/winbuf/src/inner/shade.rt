@@ -66,18 +66,20 @@ fn shade_each(px: &mut [u32], at: usize, src: &[u32], from: usize, n: u16, table
     }
 }
 
-// Are eight pixels all alike? The first and the last are compared first: where runs of one colour are short, these differ, and a test that
-// mostly has one answer costs the processor less.
+// Are eight pixels all alike? All are compared, whatever the first of them say: the processor takes several at once, and foresees the one answer
+// better than seven.
 fn are_alike(src: &[u32], at: usize) -> bool
     requires { ⌜ at + 8 ≤ length (now src) ⌝ }
     ensures { λ r. ⌜ (r ≡ true → part at 8 (now (src .entry)) ≡ replicate 8 (getD (now (src .entry)) at 0)) ⌝ }
 {
     let v = src[at];
-    src[at + 7] == v
-        && (src[at + 4] == v
-            && (src[at + 2] == v
-                && (src[at + 6] == v
-                    && (src[at + 1] == v && (src[at + 3] == v && src[at + 5] == v)))))
+    (src[at + 1] == v)
+        & (src[at + 2] == v)
+        & (src[at + 3] == v)
+        & (src[at + 4] == v)
+        & (src[at + 5] == v)
+        & (src[at + 6] == v)
+        & (src[at + 7] == v)
 }
 
 // Eight pixels. Where all are alike, the table is asked for one.
