@@ -36,6 +36,7 @@ static const RoqEvent press = {25, 25, 0, 0, 0, ROQ_MOUSE_DOWN, 1, 0};
     CALL(roq_redraw, (s, true, WIDTH, HEIGHT, store, 16 * C, screen, C))               \
     CALL(roq_begin, (s, true))                                                         \
     CALL(roq_portion, (s, WIDTH, HEIGHT, store, 16 * C, screen, C))                    \
+    CALL(roq_dim, (s, false))                                                          \
     CALL(roq_visible, (s, 0, list, 1984))                                              \
     CALL(roq_share, (s, 0))                                                            \
     CALL(roq_hits, (s, data, 64, list, 1984))                                          \
@@ -57,7 +58,7 @@ static void nothing(void) {}
 #define RUN(name, arguments) static void run_##name(void) { (void)name arguments; }
 CALLS(RUN)
 
-/* The windows; all have events, the plan damage and the next portion. The last id is left unused where a create is to find one. */
+/* The windows; all have events, the plan damage and the next portion; dimming is on. The last id is left unused where a create is to find one. */
 static void scene(int windows) {
     memset(&session, 0, sizeof session);
     roq_start(s, C);
@@ -74,6 +75,7 @@ static void scene(int windows) {
     }
     roq_fill(s, 0, area, 6, store, 16 * C);
     roq_fill(s, 0, other, 6, store, 16 * C);
+    roq_dim(s, true);
     roq_begin(s, true);
 }
 

@@ -25,6 +25,7 @@ pub enum Call {
     Redraw(bool),
     Begin(bool),
     Portion,
+    Dim(bool),
     Visible(u16),
     Share(u16),
     /// x and y in turn.
@@ -50,6 +51,7 @@ impl Call {
             Call::Redraw(_) => "roq_redraw",
             Call::Begin(_) => "roq_begin",
             Call::Portion => "roq_portion",
+            Call::Dim(_) => "roq_dim",
             Call::Visible(_) => "roq_visible",
             Call::Share(_) => "roq_share",
             Call::Hits(_) => "roq_hits",

@@ -17,6 +17,10 @@ pub enum Beside {
     Loops,
     /// Our own library, with an undivided redraw in place of a walk's first portion and nothing in place of the others.
     Undivided,
+    /// A loop over the same rows and the same table in Rust, in place of a dimmed redraw.
+    Table,
+    /// Our own library, with dimming off.
+    Bright,
     /// Our own library, with a visible list in place of a share.
     Listed,
     /// A loop over event times in Rust, the same as ours.
@@ -30,8 +34,9 @@ impl Beside {
         match self {
             Beside::Original => "original",
             Beside::Pixman | Beside::PixmanAtOnce => "pixman",
-            Beside::Loops | Beside::OnePass | Beside::Square => "Rust",
+            Beside::Loops | Beside::Table | Beside::OnePass | Beside::Square => "Rust",
             Beside::Undivided => "undivided",
+            Beside::Bright => "dimming off",
             Beside::Listed => "visible list",
         }
     }

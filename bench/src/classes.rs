@@ -1,6 +1,7 @@
 //! The classes of the tables, and those of the two plots.
 use crate::call::{Area, Call};
 use crate::class::{Beside, Class, Limit};
+use crate::dims;
 use crate::mix::Drag;
 use crate::pixman;
 use crate::plain::Copied;
@@ -41,6 +42,7 @@ pub fn table() -> Vec<Class> {
     all.extend(rows::classes());
     all.extend(portions());
     all.extend(seconds::classes());
+    all.extend(dims::classes());
     all.extend(shares::classes());
     all.extend(points::classes());
     all

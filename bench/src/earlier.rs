@@ -1,11 +1,12 @@
-//! Archives of earlier commits, which have no walks, no busiest second, no share or no answer for many points: there these functions answer 20,
-//! 26, 24 and 25. Where an archive has its own, those are linked.
+//! Archives of earlier commits, which have no walks, no dimming, no busiest second, no share or no answer for many points: there these functions
+//! answer 20, 20, 26, 24 and 25. Where an archive has its own, those are linked.
 use crate::call::Call;
 use crate::class::{Beside, Class};
 use crate::station::{busiest, Station};
 
 std::arch::global_asm!(".weak roq_begin", "roq_begin:", ".weak roq_portion", "roq_portion:", "mov eax, 20", "ret");
 std::arch::global_asm!(".weak roq_hits", "roq_hits:", "mov eax, 25", "ret");
+std::arch::global_asm!(".weak roq_dim", "roq_dim:", "mov eax, 20", "ret");
 // The struct goes back in two registers.
 std::arch::global_asm!(".weak roq_share", "roq_share:", "mov eax, 24", "xor edx, edx", "ret");
 // The caller hands over where the struct goes.
@@ -29,6 +30,7 @@ pub fn has(class: &Class) -> bool {
     }
     match class.beside {
         Beside::Undivided => Station::start(1).1.begin(false) == 0,
+        Beside::Table | Beside::Bright => Station::start(1).1.dim(false) == 0,
         Beside::OnePass | Beside::Square => busiest(&[]).answer == 0,
         _ => true,
     }

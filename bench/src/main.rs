@@ -7,6 +7,7 @@ mod call;
 mod check;
 mod class;
 mod classes;
+mod dims;
 mod earlier;
 mod loops;
 mod measure;
@@ -71,6 +72,7 @@ fn tables(folder: &Path, copies: &str, stack: &str) {
         ("targets", targets::table(&table, of_table)),
         ("portions", summary::portions(&table, of_table)),
         ("seconds", summary::seconds(&table, of_table)),
+        ("dims", summary::dims(&table, of_table)),
         ("calls", summary::calls(&table, of_table, &copies, &stack)),
     ];
     let long = tell(&table, of_table, &runs);
@@ -90,6 +92,7 @@ fn tell(classes: &[Class], results: &[Measured], runs: &[Vec<Measured>]) -> Stri
     let table = |beside| report::table(beside, classes, results, runs);
     let (original, loops, undivided) = (table(Beside::Original), table(Beside::Loops), table(Beside::Undivided));
     let (one_pass, square, listed) = (table(Beside::OnePass), table(Beside::Square), table(Beside::Listed));
+    let (through, bright) = (table(Beside::Table), table(Beside::Bright));
     let pixman = if pixman::INSTALLED { table(Beside::Pixman) } else { report::NO_PIXMAN.to_string() };
     format!(
         "# Speed table\n\nWritten by `bash bench/run`. [SPEED.md](SPEED.md) says what is measured.\n\n\
@@ -97,7 +100,9 @@ fn tell(classes: &[Class], results: &[Measured], runs: &[Vec<Measured>]) -> Stri
          ## Beside a loop over rows in Rust\n\n{loops}\n## Portions beside our undivided redraw\n\n{undivided}\n\
          ## Busiest second of 4,096 events beside the same loop in Rust\n\n{one_pass}\n\
          ## Busiest second of 4,096 events beside the square form in Rust\n\n{square}\n\
-         ## Share in view beside our visible list and the sum of its areas\n\n{listed}",
+         ## Share in view beside our visible list and the sum of its areas\n\n{listed}\n\
+         ## Dimmed redraw beside a loop over the same table in Rust\n\n{through}\n\
+         ## Dimmed redraw beside our redraw with dimming off\n\n{bright}",
         report::notes(classes)
     )
 }

@@ -1,6 +1,7 @@
 //! Our side: a station's session with the store and the screen that it is lent.
 use crate::call::{Area, Call, Popped, Reply, Side, State};
 use crate::class::Class;
+use crate::dims;
 use crate::plain::{Piece, Plain};
 use crate::shares;
 use crate::station::{busiest, Event, Share, Station, MOUSE_DOWN, MOUSE_MOVE, MOUSE_UP, RESIZE};
@@ -55,13 +56,25 @@ impl Ours {
         unsafe { _mm_mfence() };
     }
 
+    /// The visible rectangles of all windows.
+    pub fn all_pieces(&mut self) -> Vec<Piece> {
+        (0..16).flat_map(|id| self.pieces(id)).collect()
+    }
+
+    /// Draws them through a table.
+    pub fn draw_through(&mut self, table: &[u8; 256], pieces: &[Piece]) {
+        for piece in pieces {
+            dims::draw(&mut self.screen, self.width as usize, &self.store, piece, table);
+        }
+    }
+
     /// What the redraws among the calls draw, drawn by `memcpy`.
     pub fn plain(&mut self, class: &Class) -> Plain {
         let mut pieces = Vec::new();
         for call in &class.timed {
             self.call(call);
             if let Call::Redraw(_) = call {
-                pieces.extend((0..16).flat_map(|id| self.pieces(id)));
+                pieces.extend(self.all_pieces());
             }
         }
         let plain = Plain::drawn(pieces, class.parts, self.store.clone(), &self.screen, self.width);
@@ -153,6 +166,7 @@ impl Side for Ours {
             Call::Redraw(told) => s.redraw(told, &self.store, &mut self.screen, self.width, self.height),
             Call::Begin(told) => s.begin(told),
             Call::Portion => s.portion(&self.store, &mut self.screen, self.width, self.height),
+            Call::Dim(on) => s.dim(on),
         })
     }
 

@@ -135,6 +135,7 @@ extern "C" {
         screen: *mut u32,
         screen_len: usize,
     ) -> u32;
+    fn roq_dim(s: *mut Session, on: bool) -> u32;
     fn roq_visible(s: *const Session, id: u16, list: *mut u32, list_len: usize) -> Listing;
     fn roq_share(s: *const Session, id: u16) -> Share;
     fn roq_hits(s: *const Session, points: *const u32, points_len: usize, answers: *mut u32, answers_len: usize)
@@ -216,6 +217,9 @@ impl Station {
     pub fn portion(&mut self, store: &[u32], screen: &mut [u32], width: u32, height: u32) -> u32 {
         let (px, len) = (screen.as_mut_ptr(), screen.len());
         unsafe { roq_portion(&mut self.0, width, height, store.as_ptr(), store.len(), px, len) }
+    }
+    pub fn dim(&mut self, on: bool) -> u32 {
+        unsafe { roq_dim(&mut self.0, on) }
     }
     /// The answer, and how many rectangles are in the list, four numbers each.
     pub fn visible(&self, id: u16, list: &mut [u32]) -> (u32, usize) {

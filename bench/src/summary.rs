@@ -1,6 +1,8 @@
 //! What a station's engineer wants to know, and what each exported call takes.
 use crate::class::{Beside, Class, COLD};
 use crate::classes::{ALL, EIGHT, LONGEST, MIX, MIX_OF_EIGHT, THREE};
+use crate::dims;
+use crate::dims::DIMMED;
 use crate::measure::Measured;
 use crate::report::{nanoseconds, whole};
 use crate::scene::{HEIGHT, WIDTH};
@@ -112,6 +114,25 @@ pub fn seconds(classes: &[Class], results: &[Measured]) -> String {
     format!(
         "| 4,096 events | ours, ns an event | the same loop in Rust | ratio | the square form in Rust |\n\
          |---|---:|---:|---:|---:|\n{rows}"
+    )
+}
+
+/// Dimmed full redraws of a station's screen, by the pixel.
+pub fn dims(classes: &[Class], results: &[Measured]) -> String {
+    let a_pixel = |time: f64| format!("{:.2}", time / f64::from(WIDTH * HEIGHT));
+    let row = |name: &String| {
+        let of = |beside| {
+            let is = |(class, _): &(&Class, &Measured)| class.name == *name && class.beside == beside;
+            *classes.iter().zip(results).find(is).expect("a class of this name").1
+        };
+        let (table, bright) = (of(Beside::Table), of(Beside::Bright));
+        let (ours, loops, off) = (a_pixel(table.ours), a_pixel(table.theirs), a_pixel(bright.theirs));
+        let what = name.trim_start_matches(DIMMED).trim_start_matches(", ");
+        format!("| {what} | {ours} | {loops} | {:.2} | {off} |\n", table.ratio)
+    };
+    let rows: String = dims::names().iter().map(row).collect();
+    format!(
+        "| 800 by 480 | ours, ns a pixel | the loop in Rust | ratio | dimming off |\n|---|---:|---:|---:|---:|\n{rows}"
     )
 }
 

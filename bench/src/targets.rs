@@ -1,6 +1,7 @@
 //! What the times are held against.
 use crate::class::{Beside, Class};
 use crate::classes::MIX;
+use crate::dims::DIMMED;
 use crate::measure::Measured;
 use crate::pixman;
 use crate::points::POINTS;
@@ -57,6 +58,7 @@ const TARGETS: [Target; 23] = [
     target("fill, 300 and wider", Beside::Loops, WIDE_FILLS, Time(1.15)),
     target("blit, narrower than 300", Beside::Loops, NARROW_BLITS, Time(1.0)),
     target("blit, 300 and wider", Beside::Loops, WIDE_BLITS, Time(1.15)),
+    target("dimmed full redraw", Beside::Table, &[DIMMED], Time(1.1)),
     target("share in view", Beside::Pixman, &[SHARE], Time(1.0)),
     target("share in view", Beside::Listed, &[SHARE], Time(1.0)),
     target("32 points together", Beside::Original, &[POINTS], Time(1.0)),
@@ -75,6 +77,8 @@ impl Target {
             (_, Beside::Pixman | Beside::PixmanAtOnce) => "pixman, time",
             (_, Beside::Loops) => "a loop in Rust, time",
             (_, Beside::Undivided) => "our undivided redraw, time",
+            (_, Beside::Table) => "a loop over the same table in Rust, time",
+            (_, Beside::Bright) => "our redraw with dimming off, time",
             (_, Beside::Listed) => "our visible list, time",
             (_, Beside::OnePass) => "the same loop in Rust, time",
             (_, Beside::Square) => "the square form in Rust, time",

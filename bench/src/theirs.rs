@@ -80,7 +80,7 @@ impl Side for Theirs {
                 self.points.clear();
                 self.points.extend(points.chunks_exact(2).map(|point| g.at(point[0], point[1])));
             }
-            Call::Begin(_) | Call::Portion | Call::Share(_) | Call::Busiest(_) => {
+            Call::Begin(_) | Call::Portion | Call::Dim(_) | Call::Share(_) | Call::Busiest(_) => {
                 unreachable!("the original has no such call")
             }
         }

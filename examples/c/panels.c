@@ -90,6 +90,12 @@ static void walk(void) {
     say_numbers(0, screen, SCREEN);
 }
 
+/* Dimming on, and the screen. */
+static void dim(void) {
+    say(roq_dim(&s, true));
+    redraw();
+}
+
 static void draw_panels(void) {
     static const uint32_t track[WIDTH] = {2, 2, 2, 2, 2, 2, 2, 2, 2, 2, 2, 2};
     RoqRect line = {{0, 3}, {WIDTH, 1}};
@@ -133,5 +139,8 @@ int main(void) {
     fill(0, 0, 3, 12, 1, 6);
     say(roq_mark(&s, 0));
     walk();
+    fill(0, 0, 3, 12, 1, 0xff8040);
+    dim();
+    dim();
     return 0;
 }

@@ -82,6 +82,12 @@ impl Panels {
         println!("0{}", numbers(&self.screen));
     }
 
+    /// Dimming on, and the screen.
+    fn dim(&mut self) {
+        say(self.station.dim(true));
+        self.redraw();
+    }
+
     fn draw_panels(&mut self) {
         self.create();
         self.create();
@@ -126,4 +132,6 @@ fn main() {
     panels.fill(0, [0, 3, 12, 1], 6);
     say(panels.station.mark(0));
     panels.walk();
+    panels.fill(0, [0, 3, 12, 1], 0x00ff_8040);
+    (0..2).for_each(|_| panels.dim());
 }
