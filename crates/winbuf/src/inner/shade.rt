@@ -88,9 +88,9 @@ fn shade_eight(px: &mut [u32], at: usize, src: &[u32], from: usize, table: &[u8;
     ensures { λ _. ⌜ now (px .exit) ≡ sets (now (px .entry)) at (map Shade.shade (part from 8 (now (src .entry)))) ⌝ }
 {
     if are_alike(src, from) {
-        fill_part(px, at, 8, shade(src[from], table))
+        fill_part(px, at, 8, shade(src[from], table));
     } else {
-        shade_each(px, at, src, from, 8, table)
+        shade_each(px, at, src, from, 8, table);
     }
 }
 

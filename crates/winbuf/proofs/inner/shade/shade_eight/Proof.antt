@@ -36,7 +36,7 @@ returns c =
     let f = c .before .before in
     let r = f .before .before .before .before .before in
     let a = r .before .before .before .args in
-    f .fill-part .ensures
+    f .fill-part .ensures .pixels
     ∙ ap (λ (v : ℕ). sets (a .px .now) (a .at) (replicate 8 v)) (f .before .shade .ensures)
     ∙ ap (sets (a .px .now) (a .at)) (through-alike shade (part (a .from) 8 (a .src .now)) 8 _ (r .are-alike .ensures (f .before .before .before .before .if1 .taken)))
 
