@@ -41,12 +41,20 @@ fn draw_dirty(view: View, r: Rect, dirty: &[u32], m: usize, store: &[u32], scree
 }
 
 // Draws a part of the window that no higher window covers, where it is dirty.
-fn draw_part(view: View, part: Rect, dirty: &[u32], m: usize, store: &[u32], screen: &mut [u32])
-    requires { ⌜ Drawable view (now store) (now screen) × Within (view .at) part × Lent m (now dirty) ⌝ }
-    ensures { λ _. ⌜ now (screen .exit) ≡ drawn view (now (store .entry)) (regions (view .at) (part ∷ []) [] (rectsOf m (now (dirty .entry)))) (now (screen .entry)) ⌝ }
+fn draw_part(
+    view: &[usize; 8],
+    part: Rect,
+    dirty: &[u32],
+    m: usize,
+    store: &[u32],
+    screen: &mut [u32],
+)
+    requires { ⌜ Drawable (viewOf (now view)) (now store) (now screen) × Within (viewOf (now view) .at) part × Lent m (now dirty) ⌝ }
+    ensures { λ _. ⌜ now (screen .exit) ≡ drawn (viewOf (now (view .entry))) (now (store .entry)) (regions (viewOf (now (view .entry)) .at) (part ∷ []) [] (rectsOf m (now (dirty .entry)))) (now (screen .entry)) ⌝ }
 {
-    let r = rects::relative(view.at, part);
-    draw_dirty(view, r, dirty, m, store, screen);
+    let v = View::of(view);
+    let r = rects::relative(v.at, part);
+    draw_dirty(v, r, dirty, m, store, screen);
 }
 
 // Draws what the rectangles from the i-th of the n on leave of `part`, a part of the window.
@@ -66,7 +74,7 @@ fn draw_seen(
 {
     let k = rects::first_met(part, above, i, n);
     if k == n {
-        draw_part(View::of(view), part, dirty, m, store, screen);
+        draw_part(view, part, dirty, m, store, screen);
         return;
     }
     let both = inner::common(part, rects::rect_at(above, k));
@@ -129,5 +137,10 @@ pub fn draw(
         dim,
     };
     let numbers = view.numbers();
+    // Called from two places, what draws a part is not compiled into the search, of which each turn would hold the table of dimming.
+    if n == 0 {
+        draw_part(&numbers, at, dirty, m, store, screen);
+        return;
+    }
     draw_seen(&numbers, at, above, 0, n, dirty, m, store, screen)
 }

@@ -33,7 +33,6 @@ use Rattle.visible.proofs.around.below.Reads as below-reads
 use Rattle.visible.proofs.around.left.Reads as left-reads
 use Rattle.visible.proofs.around.right.Reads as right-reads
 use Rattle.visible.proofs.draw.draw_part.Reads as draw-part-reads
-use Rattle.visible.proofs.region.View.of.Reads as of-reads
 use Rattle.visible.proofs.rects.first_met.Reads as first-met-reads
 use Rattle.visible.proofs.rects.rect_at.Reads as rect-at-reads
 use Rattle.visible.proofs.draw.+draw_piece+draw_seen.{statement}
@@ -98,8 +97,6 @@ abbrev seen-calls : ℕ → draw-seen-lts.Claims
 seen-calls t = (
   first-met-reads.Asked,
   first-met-reads.Learnt,
-  of-reads.Asked,
-  of-reads.Learnt,
   draw-part-reads.Asked,
   draw-part-reads.Learnt,
   rect-at-reads.Asked,
@@ -123,32 +120,22 @@ draw-seen-first-met-requires t c κs =
     let s = c .before .before .before .before in
     (part-fits (viewOf (s .args .view .now)) (s .args .part) (s .args .store .now) (s .args .screen .now) (s .pre .1 .0) (s .pre .1 .1), s .pre .1 .2 .0, s .pre .1 .2 .1)
 
-draw-seen-of-requires : (t : ℕ) → draw-seen-lts.Need-of-requires (seen-calls t) (draw-seen-at t) draw-seen.Post
-draw-seen-of-requires t c κs =
-    let d = c .before .before .before .before .before .before .pre .1 .0 in
-    (d .at, d .sw≤, d .sh≤)
-
 draw-seen-draw-part-requires : (t : ℕ) → draw-seen-lts.Need-draw-part-requires (seen-calls t) (draw-seen-at t) draw-seen.Post
 draw-seen-draw-part-requires t c κs =
-    let s = c .before .before .before .before .before .before .before .before in
-    let e = sym (c .before .of .ensures) in (
-      subst (λ (v : View). Drawable v (s .args .store .now) (s .args .screen .now)) e (s .pre .1 .0),
-      subst (λ (v : View). Within (v .at) (s .args .part)) e (s .pre .1 .1),
-      s .pre .1 .3,
-    )
+    let s = c .before .before .before .before .before .before .before in
+    (s .pre .1 .0, s .pre .1 .1, s .pre .1 .3)
 
 draw-seen-same-length : (t : ℕ) → draw-seen-lts.Need-same-length (seen-calls t) (draw-seen-at t) draw-seen.Post
 draw-seen-same-length t c = search needs
 
 draw-seen-returns : (t : ℕ) → draw-seen-lts.Need-returns (seen-calls t) (draw-seen-at t) draw-seen.Post
 draw-seen-returns t c =
-    let s = c .before .before .before .before .before .before .before .before .before .before .before .args in
-    let m = c .before .before .before .before .before .before .first-met in
+    let s = c .before .before .before .before .before .before .before .before .before .before .args in
+    let m = c .before .before .before .before .before .first-met in
     let ds = rectsOf (s .m) (s .dirty .now) in
     c .before .before .draw-part .ensures
-    ∙ ap (λ (v : View). drawn v (s .store .now) (regions (v .at) (s .part ∷ []) [] ds) (s .screen .now)) (c .before .before .before .before .of .ensures)
     ∙ ap (λ (rs : List Rect). drawn (viewOf (s .view .now)) (s .store .now) rs (s .screen .now))
-    (regions-leaf (s .part) (s .n) (s .above .now) (s .i) (m .result) (m .ensures .0) (c .before .before .before .before .before .if1 .taken) (viewOf (s .view .now) .at) ds)
+    (regions-leaf (s .part) (s .n) (s .above .now) (s .i) (m .result) (m .ensures .0) (c .before .before .before .before .if1 .taken) (viewOf (s .view .now) .at) ds)
 
 draw-seen-rect-at-requires : (t : ℕ) → draw-seen-lts.Need-rect-at-requires (seen-calls t) (draw-seen-at t) draw-seen.Post
 draw-seen-rect-at-requires t c κs =
@@ -270,7 +257,6 @@ pub +draw-piece+draw-seen-spec : {M : Type 1} → statement M
     (draw-seen-at t)
     draw-seen.Post
     (draw-seen-first-met-requires t)
-    (draw-seen-of-requires t)
     (draw-seen-draw-part-requires t)
     (draw-seen-same-length t)
     (draw-seen-returns t)
