@@ -1,7 +1,7 @@
 //! Lines that make no call: passed over, malformed, or above the program's limits; and two that only look so.
 
 #[rustfmt::skip]
-pub const NO_CALLS: [&str; 68] = [
+pub const NO_CALLS: [&str; 71] = [
     "", "#", "# show 0", " ", "   ", " #", "Create", "create 0", "create\t", "show", "show 1 2", "show -1", "show +1",
     "show 1.0", "show 0x1", "show 4294967296", "show 00000000000000000000000018", "  show   16  ", "move 0 0",
     "redraw 2 4 4", "redraw 1 4", "mousedown 0 0 256", "mouseclick 0 0 0 256", "mouseup 0 0", "keydown",
