@@ -68,7 +68,7 @@ static void walk(void) {
 
 /* Dimming, a byte behind the focus; each switch owes a full redraw; a pixel that a redraw writes, and the store's, which stays. */
 static void dims(void) {
-    EXPECT(roq_resize(s, 7, 1, 1, store, 16 * C) == 0 && roq_fill(s, 7, rect(0, 0, 1, 1), 0x80ff8001, store, 16 * C) == 0);
+    EXPECT(roq_resize(s, 7, 1, 1, store, 16 * C) == 0 && roq_fill(s, 7, rect(0, 0, 1, 1), 0x80ff8001, store, 16 * C).answer == 0);
     EXPECT(roq_redraw(s, false, 8, 8, store, 16 * C, screen, 64) == 0 && screen[0] == 0x80ff8001);
     EXPECT(roq_dim(s, false) == 0 && (s->words[701] >> 48 & 0xff) == 0 && (s->words[704] & 0xff) == 0);
     EXPECT(roq_dim(s, true) == 0 && (s->words[701] >> 48 & 0xff) == 1 && (s->words[704] & 0xff) == 1);
