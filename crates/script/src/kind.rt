@@ -97,6 +97,7 @@ pub const BUSIEST: u8 = 43;
 pub const SHARE: u8 = 44;
 
 pub const HITS: u8 = 45;
+
 pub const DIM: u8 = 46;
 
 // The last of them.
