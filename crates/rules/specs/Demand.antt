@@ -16,10 +16,11 @@ use Rattle.window.specs.declared.Event.the-variants as Event
 use Rattle.rules.specs.Group.{Group, start, win}
 use Rattle.rules.specs.Order.{isIn, above}
 use Rattle.rules.specs.Visible.{Listed, visibleList, rectsOf}
+use Rattle.rules.specs.Nearest.{nearestX, nearestY}
 use Rattle.rules.specs.Events.{route}
 use Rattle.rules.specs.Calls.{Call, Made, does, byRule, accepted, after}
 use Rattle.rules.specs.Book.{Book, page, bookOf, topmost}
-use Rattle.rules.specs.Ledger.{Ledger, waiting, ledgerOf}
+use Rattle.rules.specs.Ledger.{Ledger, waiting, heldBy, ledgerOf}
 use Rattle.rules.specs.Conditions.{deed, Quiet, Sized, noRedraw, ends, wrote, beforeLast, written, unmarked}
 
 -- Pixels ----------------------------------------------------------------------------------------------------------------
@@ -79,39 +80,63 @@ Pixels c ks =
 
 -- Presses ---------------------------------------------------------------------------------------------------------------
 
--- "A press is a MouseDown, MouseClick or MouseUp": which, with its button and count
+-- "From this request on a press, in demand 3 too, is a MouseDown or a MouseClick": which, with its button and count
 pub data Press : Type 0 where
-  down up : ℕ → Press
+  down : ℕ → Press
   click : ℕ → ℕ → Press
 
 abbrev pub pressAt : Press → ℕ → ℕ → Event
 pressAt (down n) x y = Event.MouseDown x y n
-pressAt (up n) x y = Event.MouseUp x y n
 pressAt (click n m) x y = Event.MouseClick x y n m
 
 abbrev pub queueOf : Group → ℕ → List Event
 queueOf g id = win g id .queue
 
--- "it reaches a window if, position subtracted, it joins the end of that window's queue": g and h are the group before and after it
-abbrev pub Reaches : Book → Group → Group → Press → ℕ → ℕ → ℕ → Type 0
-Reaches b g h p px py id = queueOf h id ≡ queueOf g id ++ (pressAt p (px - left (page b id .at)) (py - top (page b id .at)) ∷ [])
+-- "it reaches a window if … it joins the end of that window's queue": g and h are the group before and after it
+abbrev pub Reaches : Group → Group → Event → ℕ → Type 0
+Reaches g h e id = queueOf h id ≡ queueOf g id ++ (e ∷ [])
 
 -- the window's queue is as it was
 abbrev pub Unreached : Group → Group → ℕ → Type 0
 Unreached g h id = queueOf h id ≡ queueOf g id
 
--- "a press at any point reaches the topmost window there exactly when fewer than 16 events wait for it, and never another window"
-abbrev pub Pressed : Book → Ledger → Group → Group → Press → ℕ → ℕ → Type 0
-Pressed b l g h p px py =
+-- an event for a window, or for nobody, "reaches [it] exactly when fewer than 16 events wait for it, and never another window": `e` is the event
+-- as each window would get it
+abbrev pub Taken : Ledger → Group → Group → Option ℕ → (ℕ → Event) → Type 0
+Taken l g h to e =
     (id : ℕ) →
-    (topmost b px py ≡ some id → waiting l id < 16 → Reaches b g h p px py id)
-    × (topmost b px py ≡ some id → 16 ≤ waiting l id → Unreached g h id)
-    × (topmost b px py ≢ some id → Unreached g h id)
+    (to ≡ some id → waiting l id < 16 → Reaches g h (e id) id)
+    × (to ≡ some id → 16 ≤ waiting l id → Unreached g h id)
+    × (to ≢ some id → Unreached g h id)
+
+-- "a press at any point reaches the topmost window there", "position subtracted"
+abbrev pub Pressed : Book → Ledger → Group → Group → Press → ℕ → ℕ → Type 0
+Pressed b l g h p px py = Taken l g h (topmost b px py) (λ id. pressAt p (px - left (page b id .at)) (py - top (page b id .at)))
 
 unfoldable pub Presses : ℕ → List Call → Type 0
 Presses c ks =
     (p : Press) (px py : ℕ) → px ≤ 32767 → py ≤ 32767 →
     Pressed (bookOf c ks) (ledgerOf c ks) (after c ks) (route (after c ks) (pressAt p px py) .group) p px py
+
+-- Releases --------------------------------------------------------------------------------------------------------------
+
+-- "MouseUp goes there, at the window pixel nearest to the point": to the window held, if it has pixels by the book
+abbrev pub ReleasedTo : Book → Ledger → Group → Group → ℕ → ℕ → ℕ → Option ℕ → Type 0
+ReleasedTo b l g h n px py (some to) =
+    Taken l g h (some to)
+    (λ id. Event.MouseUp (nearestX (page b id .at) px - left (page b id .at)) (nearestY (page b id .at) py - top (page b id .at)) n)
+-- "With none remembered, or a remembered window of no pixels, document 01 holds."
+ReleasedTo b l g h n px py none = Taken l g h (topmost b px py) (λ id. Event.MouseUp (px - left (page b id .at)) (py - top (page b id .at)) n)
+
+-- a MouseUp with button n: where it goes, "exactly when fewer than 16 events wait" there, "and never another window"
+abbrev pub Released : Book → Ledger → Group → Group → ℕ → ℕ → ℕ → Type 0
+Released b l g h n px py = ReleasedTo b l g h n px py (heldBy b (l .held))
+
+-- no request asks for this part: a release is no press any more, and is promised as much
+unfoldable pub Releases : ℕ → List Call → Type 0
+Releases c ks =
+    (n px py : ℕ) → px ≤ 32767 → py ≤ 32767 →
+    Released (bookOf c ks) (ledgerOf c ks) (after c ks) (route (after c ks) (Event.MouseUp px py n) .group) n px py
 
 -- Visible rectangles ----------------------------------------------------------------------------------------------------
 
@@ -145,5 +170,6 @@ Visibles c ks = (id : ℕ) (lent : List ℕ) → T (isIn id (bookOf c ks .order)
 
 -- Demand 3 --------------------------------------------------------------------------------------------------------------
 
+-- document 01's three parts, and the releases beside them
 unfoldable pub Demand3 : Type 0
-Demand3 = (c : ℕ) (ks : List Call) → Pixels c ks × Presses c ks × Visibles c ks
+Demand3 = (c : ℕ) (ks : List Call) → Pixels c ks × Presses c ks × Releases c ks × Visibles c ks

@@ -22,14 +22,14 @@ use Rattle.window.proofs.laws.Damage.{addDirty-old}
 use Rattle.rules.specs.Group as Group
 use Rattle.rules.specs.Store as Store
 use Rattle.rules.specs.Events as Events
-use Rattle.rules.specs.Group.{Group, Walk, used, win, setWin, isOver, sentBack, theWin}
+use Rattle.rules.specs.Group.{Group, Walk, used, win, withHeld, setWin, isOver, sentBack, theWin}
 use Rattle.rules.specs.Order.{isIn, without, shown}
 use Rattle.rules.specs.Events.{topmost, afterPop}
 use Rattle.rules.specs.Walk.{doneOf}
 use Rattle.rules.specs.Calls.{Call, Create, Show, Hide, Drop, Mark, Pop, Move, Resize, Fill, Blit, Route, Redraw, Begin, Portion, Dim, does, accepted}
 use Rattle.rules.specs.Conditions.{deed, lentScreen, owesMark}
 use Rattle.rules.proofs.group.Topmost.{topmost-same}
-use Rattle.rules.proofs.group.Steps.{on-create, on-show, on-hide, on-drop, on-move, on-pop, on-key, on-pointer, on-pointed, on-route, on-dim, on-resize, on-fill, on-blit}
+use Rattle.rules.proofs.group.Steps.{on-create, on-show, on-hide, on-drop, on-move, on-pop, on-key, on-to, on-pointed, on-route, on-dim, on-resize, on-fill, on-blit}
 use Rattle.rules.proofs.group.Invariant.{Ok, used-below, free-place}
 
 -- What is kept -------------------------------------------------------------------------------------------------------
@@ -129,6 +129,10 @@ module _ (g : Group) (ok : Ok g) where
   calm-alike : (i : ℕ) (v : Win) → v .at ≡ win g i .at → v .marked ≡ win g i .marked → v .damage ≡ win g i .damage → Calm g (setWin i (some v) g) as-was
   calm-alike i v a m d = calm-set g ok i v as-was (λ s. keeps-same (win g i) v (as-was i) a m d (λ u e. e)) (λ id ne u e. e)
 
+  -- another window is remembered, or none
+  calm-held : (r : Group) (h : Option ℕ) → Calm g r as-was → Calm g (withHeld h r) as-was
+  calm-held r h k = record { c = k .c; order = k .order; owed = k .owed; walk = k .walk; dimmed = k .dimmed; each = k .each }
+
   calm-pop : (i : ℕ) (q : List Event) (d : Bool) → Calm g (setWin i (some (afterPop (win g i) q d)) g) as-was
   calm-pop i [] true = calm-alike i _ refl refl refl
   calm-pop i [] false = calm-alike i _ refl refl refl
@@ -138,7 +142,7 @@ module _ (g : Group) (ok : Ok g) where
   calm-route =
       on-route P g as-it-was (λ e. on-key P g e (λ u. calm-alike _ _ refl refl refl) (λ u. as-it-was))
       (λ x y. on-pointed P g x y (λ id t u. calm-alike _ _ refl refl refl) (λ id t u. as-it-was) (λ t. as-it-was))
-      (λ x y e. on-pointer P g x y e (λ id t u. calm-alike _ _ refl refl refl) (λ id t u. as-it-was) (λ t. as-it-was))
+      (λ x y to e h a k. on-to P g x y to e h (λ id t u. calm-held _ h (calm-alike _ _ refl refl refl)) (λ id t u. as-it-was) (λ t. as-it-was))
     where
       P : Group → Type 0
       P r = Calm g r as-was
