@@ -27,10 +27,11 @@ apart a b = (a - b) + (b - a)
 abbrev pub distance² : ℕ → ℕ → ℕ → ℕ → ℕ
 distance² px py x y = apart px x * apart px x + apart py y * apart py y
 
--- for any rectangle that has pixels and any point: it is a pixel of the rectangle, and no pixel of the rectangle is nearer to the point in a
--- straight line
+-- for any rectangle that has pixels and any point: it is a pixel of the rectangle, no pixel of the rectangle is nearer to the point in a straight
+-- line, and no other is as near
 unfoldable pub Nearest : Type 0
 Nearest =
     (r : Rect) (px py : ℕ) → isEmpty r ≡ false →
     T (contains r (nearestX r px) (nearestY r py))
     × ((x y : ℕ) → T (contains r x y) → distance² px py (nearestX r px) (nearestY r py) ≤ distance² px py x y)
+    × ((x y : ℕ) → T (contains r x y) → distance² px py x y ≤ distance² px py (nearestX r px) (nearestY r py) → (x ≡ nearestX r px) × (y ≡ nearestY r py))
