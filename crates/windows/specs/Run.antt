@@ -4,13 +4,14 @@ use mathlib.Core.Path.{_≡_}
 use mathlib.Core.List.{List, [], _∷_, _++_, map}
 use mathlib.Core.Option.{Option, none, some}
 use lib.Dec.{T}
+use Rattle.window.specs.declared.Event.the-variants as Event
 use Rattle.rules.specs.Group.{Group, start}
 use Rattle.rules.specs.Order.{isIn}
 use Rattle.rules.specs.Calls.{Call, Made, Route, does, after}
 use Rattle.rules.specs.Book.{bookOf, topmost}
 use Rattle.rules.specs.Ledger.{ledgerOf}
 use Rattle.rules.specs.Conditions.{lentStore, lentScreen, beforeLast}
-use Rattle.rules.specs.Demand.{pixelAt, pixelOf, Ended, Two, Repainted, Press, pressAt, Pressed, ListShows}
+use Rattle.rules.specs.Demand.{pixelAt, pixelOf, Ended, Two, Repainted, Press, pressAt, Pressed, Released, ListShows}
 use Rattle.windows.specs.declared.Session.{Session}
 use Rattle.windows.specs.declared.Done.{Done}
 use Rattle.windows.specs.declared.Listing.{Listing}
@@ -71,6 +72,12 @@ RunPresses c ms s =
     (p : Press) (px py : ℕ) → px ≤ 32767 → py ≤ 32767 → (r : Done) → Meets (Route (pressAt p px py)) s r →
     Pressed (bookOf c (calls ms)) (ledgerOf c (calls ms)) (group s) (group (r .session)) p px py
 
+-- the releases: r is what a call of `route` then gives
+unfoldable pub RunReleases : ℕ → List Made → Session → Type 0
+RunReleases c ms s =
+    (n px py : ℕ) → px ≤ 32767 → py ≤ 32767 → (r : Done) → Meets (Route (Event.MouseUp px py n)) s r →
+    Released (bookOf c (calls ms)) (ledgerOf c (calls ms)) (group s) (group (r .session)) n px py
+
 -- the visible rectangles: r is what a call of `visible` then gives, and `list` what it makes of the list that it is lent
 unfoldable pub RunVisibles : ℕ → List Made → Session → Type 0
 RunVisibles c ms s =
@@ -81,4 +88,5 @@ RunVisibles c ms s =
 unfoldable pub ProgramDemand3 : Type 0
 ProgramDemand3 =
     (c : ℕ) (ms : List Made) (s : Session) → Run c ms s →
-    (group s ≡ after c (calls ms)) × AsRuled (start c .group) ms × RunPixels c ms × RunPortions c ms × RunPresses c ms s × RunVisibles c ms s
+    (group s ≡ after c (calls ms)) × AsRuled (start c .group) ms × RunPixels c ms × RunPortions c ms × RunPresses c ms s × RunReleases c ms s
+    × RunVisibles c ms s
