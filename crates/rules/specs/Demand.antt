@@ -132,7 +132,7 @@ ReleasedTo b l g h n px py none = Taken l g h (topmost b px py) (λ id. Event.Mo
 abbrev pub Released : Book → Ledger → Group → Group → ℕ → ℕ → ℕ → Type 0
 Released b l g h n px py = ReleasedTo b l g h n px py (heldBy b (l .held))
 
--- no request asks for this part: a release is no press any more, and is promised as much
+-- beyond the request: since a release is no press any more, it is promised as much, after every list of calls, with any button
 unfoldable pub Releases : ℕ → List Call → Type 0
 Releases c ks =
     (n px py : ℕ) → px ≤ 32767 → py ≤ 32767 →
