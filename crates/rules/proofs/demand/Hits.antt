@@ -22,7 +22,7 @@ use Rattle.rules.specs.Hits.{hitBy, hitAt, eachPoint, allSmall, fit, hit
 use Rattle.rules.proofs.group.Invariant.{Ok, used-small}
 use Rattle.rules.proofs.group.Inside.{topmost-used}
 use Rattle.rules.proofs.group.Kept.{ok-after}
-use Rattle.rules.proofs.demand.Presses.{joined, elsewhere}
+use Rattle.rules.proofs.demand.Taken.{joined, elsewhere}
 
 -- The numbers of a point ------------------------------------------------------------------------------------------------
 

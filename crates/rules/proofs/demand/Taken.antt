@@ -23,6 +23,15 @@ use Rattle.rules.proofs.group.Invariant.{Ok, used-below}
 use Rattle.rules.proofs.group.Inside.{among-shown}
 use Rattle.rules.proofs.demand.Ledger.{LedgerOk, pushed-room}
 
+-- an event joins the end of a queue with a free place
+pub joined : (g : Group) (id : ℕ) (e : Event) → used g id ≡ true → room g id ≡ true → queueOf (pushedTo g id e) id ≡ queueOf g id ++ (e ∷ [])
+joined g id e u r =
+    ap (λ (o : Option Win). theWin o .queue) (getD-set-same (g .windows) id _ none (used-below g id u)) ∙ pushed-room (queueOf g id) e r
+
+-- and no other queue
+pub elsewhere : (g : Group) (i id : ℕ) (e : Event) → id ≢ i → queueOf (pushedTo g i e) id ≡ queueOf g id
+elsewhere g i id e n = ap (λ (o : Option Win). theWin o .queue) (getD-set-other (g .windows) i id _ none n)
+
 module _ (g : Group) (l : Ledger) (ok : Ok g) (k : LedgerOk l g) (px py : ℕ) (hx : px ≤ 32767) (hy : py ≤ 32767)
     (to : Option ℕ) (e : Rect → Event) (h : Option ℕ) (a : Among g px py to) where
   small-point : small px && small py ≡ true
@@ -43,14 +52,10 @@ module _ (g : Group) (l : Ledger) (ok : Ok g) (k : LedgerOk l g) (px py : ℕ) (
   abbrev event : ℕ → Event
   event id = e (win g id .at)
 
-  joined : (id : ℕ) → to ≡ some id → room g id ≡ true → queueOf (pushedTo g id (event id)) id ≡ queueOf g id ++ (event id ∷ [])
-  joined id t r =
-      ap (λ (o : Option Win). theWin o .queue) (getD-set-same (g .windows) id _ none (used-below g id (in-use id t))) ∙ pushed-room (queueOf g id) (event id) r
-
   reached : (id : ℕ) → to ≡ some id → waiting l id < 16 → queueOf (routeTo g px py to e h .group) id ≡ queueOf g id ++ (event id ∷ [])
   reached id t w =
       on-to (λ r. queueOf r id ≡ queueOf g id ++ (event id ∷ [])) g px py to e h
-      (λ i q u. rw (← (one id i t q)) (joined i q (snd (small px && small py) (room g i) u)))
+      (λ i q u. rw (← (one id i t q)) (joined g i (event i) (in-use i q) (snd (small px && small py) (room g i) u)))
       (λ i q u. clash (both small-point (rw (one id i t q) has-room)) u)
       (λ q. absurd (Option·none-ne-some id (sym q ∙ t)))
     where
@@ -68,7 +73,7 @@ module _ (g : Group) (l : Ledger) (ok : Ok g) (k : LedgerOk l g) (px py : ℕ) (
   other : (id : ℕ) → to ≢ some id → queueOf (routeTo g px py to e h .group) id ≡ queueOf g id
   other id n =
       on-to (λ r. queueOf r id ≡ queueOf g id) g px py to e h
-      (λ i q u. ap (λ (o : Option Win). theWin o .queue) (getD-set-other (g .windows) i id _ none (λ j. n (q ∙ ap {B = Option ℕ} some (sym j)))))
+      (λ i q u. elsewhere g i id (event i) (λ j. n (q ∙ ap {B = Option ℕ} some (sym j))))
       (λ i q u. refl) (λ q. refl)
 
   pub taken : Taken l g (routeTo g px py to e h .group) to event
