@@ -1,6 +1,9 @@
--- The ids that an array of them holds.
+-- The ids that an array of them holds, and an id that there may be none of.
 use Prim.Native.Nat.{ℕ}
+use mathlib.Core.Bool.{cond}
 use mathlib.Core.List.{List, map}
+use mathlib.Core.Option.{Option, none, some}
+use lib.Dec.{ltb}
 use lib.ListN.{take}
 use Rattle.order.specs.declared.WinId.{WinId}
 
@@ -10,3 +13,7 @@ num i = i .0
 -- the first n ids
 abbrev pub ids : ℕ → List WinId → List ℕ
 ids n l = map num (take n l)
+
+-- the window that is remembered: a number below 16 is its id, and any other says that there is none
+abbrev pub heldOf : ℕ → Option ℕ
+heldOf n = cond (ltb n 16) (some n) none

@@ -17,6 +17,7 @@ pub mod hits;
 pub mod places;
 pub mod points;
 pub mod rects;
+pub mod release;
 pub mod topmost;
 
 // The number of a window, 0 to 15. Any other number is answered by 3.

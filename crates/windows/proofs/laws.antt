@@ -23,3 +23,4 @@ pub mod Popping
 pub mod Telling
 pub mod Routing
 pub mod Aimed
+pub mod Released

@@ -1,7 +1,8 @@
 -- The parts of `route` and `pop` as functions of one window: where an event goes, and what the session is once the window there was told.
 use Prim.Native.Nat.{ℕ, _<_}
 use mathlib.Core.Path.{_≡_}
-use mathlib.Core.Bool.{true, false}
+use mathlib.Core.Bool.{true, false, cond}
+use lib.Dec.{eqb}
 use Rattle.window.specs.declared.Event.{Event}
 use Rattle.window.specs.declared.Event.the-variants.{Resize}
 use Rattle.window.specs.declared.Window.{Window}
@@ -16,26 +17,33 @@ use Rattle.windows.specs.declared.events.Message.{Message}
 use Rattle.windows.specs.declared.events.PoppedOne.{PoppedOne}
 use Rattle.windows.specs.View.{windowAt, Given, MeetsEvent, done}
 use Rattle.windows.specs.One.{At, put}
+use Rattle.windows.specs.Walk.{holding}
 use Rattle.windows.specs.Events.{Tellable, ToldTo}
 
 -- no window is told, and this is the answer
 abbrev pub toNobody : ℕ → Aim
-toNobody answer = record { at = 0; what = record { told = false; answer = answer; event = Resize } }
+toNobody answer = record { at = 0; what = record { told = false; held = 16; answer = answer; event = Resize } }
 
-abbrev pub toWindow : ℕ → Event → Aim
-toWindow at e = record { at = at; what = record { told = true; answer = 0; event = e } }
+-- the window at this place is told, and this one is remembered once it took the event
+abbrev pub toWindow : ℕ → Event → ℕ → Aim
+toWindow at e held = record { at = at; what = record { told = true; held = held; answer = 0; event = e } }
 
--- a window was told, or is as it was; what the windows share is as it was
+-- another window is remembered, if the answer is 0: "a refused call changes nothing, the memory included"
+abbrev pub remembered : ℕ → ℕ → Shared → Shared
+remembered answer held k = cond (eqb answer 0) (holding held k) k
+
+-- a window was told, or is as it was
 pub record Heard (w : Window) (k : Shared) (m : Message) (r : Changed) : Type 0 where
   pub told : m .told ≡ true → ToldTo w (m .event) (record { window = r .window; answer = r .answer })
   pub kept : m .told ≡ false → r ≡ record { window = w; shared = k; answer = m .answer }
-  pub shared : r .shared ≡ k
+  pub shared : m .told ≡ true → r .shared ≡ remembered (r .answer) (m .held) k
 
--- Q holds of the session in which the window at that place was told, and of the session itself if no window is told
+-- Q holds of the session in which the window at that place was told, with what is then remembered, and of the session itself if no window is told
 pub record Aims (Q : Done → Type 0) (s : Session) (r : Aim) : Type 0 where
   pub inside : r .at < 16
   pub able : r .what .told ≡ true → Tellable (r .what .event)
-  pub told : r .what .told ≡ true → (t : Told) → ToldTo (windowAt s (r .at)) (r .what .event) t → Q (done (put (r .at) (t .window) (s .shared) s) (t .answer))
+  pub told : r .what .told ≡ true → (t : Told) → ToldTo (windowAt s (r .at)) (r .what .event) t
+      → Q (done (put (r .at) (t .window) (remembered (t .answer) (r .what .held) (s .shared)) s) (t .answer))
   pub kept : r .what .told ≡ false → Q (done s (r .what .answer))
 
 -- every session that holds the window, with the new one put in its place, is the session that a pop promises

@@ -3,6 +3,7 @@ use Prim.Native.Nat.{ℕ, _≤_}
 use mathlib.Core.Bool.{Bool, true}
 use mathlib.Core.Path.{_≡_}
 use mathlib.Core.List.{[], _∷_}
+use mathlib.Core.Option.{Option, none}
 use lib.Dec.{ltb}
 use lib.ListN.{length}
 use Rattle.geom.specs.Questions.{_is_, asked}
@@ -12,12 +13,14 @@ use Rattle.window.specs.declared.Event.the-variants.{Resize, KeyDown, KeyUp, Ke
 use Rattle.window.specs.Window.{Win, pushed, cursorTo}
 use Rattle.window.specs.Held.{winOf, RepWindow}
 use Rattle.window.specs.Inner.{Queued}
-use Rattle.rules.specs.Events.{withQueue, withCursor}
+use Rattle.rules.specs.Group.{Group}
+use Rattle.rules.specs.Events.{withQueue, withCursor, holder}
 use Rattle.windows.specs.declared.events.Target.{Target}
-use Rattle.windows.specs.declared.events.Target.the-variants.{Nobody, Focus, Point}
+use Rattle.windows.specs.declared.events.Target.the-variants.{Nobody, Focus, Point, Release}
 use Rattle.windows.specs.declared.events.Told.{Told}
 
--- keys go to the focus, pointer events to a window at their point; a Resize goes nowhere, and a KeyFire is refused
+-- keys go to the focus, pointer events to a window at their point, a release to the window that is remembered; a Resize goes nowhere, and a
+-- KeyFire is refused
 abbrev pub targetOf : Event → Target
 targetOf Resize = Nobody 0
 targetOf (KeyDown v) = Focus
@@ -27,7 +30,14 @@ targetOf (Text v) = Focus
 targetOf (MouseMove x y dx dy) = Point x y
 targetOf (MouseDown x y b) = Point x y
 targetOf (MouseClick x y b n) = Point x y
-targetOf (MouseUp x y b) = Point x y
+targetOf (MouseUp x y b) = Release x y
+
+-- what is aimed there is for the topmost window at the point: a release is where "none remembered, or a remembered window of no pixels"
+abbrev pub ToTop : Group → ℕ → ℕ → Target → Type 0
+ToTop g x y (Nobody n) = ⊥
+ToTop g x y Focus = ⊥
+ToTop g x y (Point a b) = (a ≡ x) × (b ≡ y)
+ToTop g x y (Release a b) = (a ≡ x) × (b ≡ y) × (holder g (g .held) ≡ none)
 
 -- a pointer event at another point
 abbrev pub atPoint : Event → ℕ → ℕ → Event
@@ -40,6 +50,18 @@ atPoint (MouseMove _ _ dx dy) x y = MouseMove x y dx dy
 atPoint (MouseDown _ _ b) x y = MouseDown x y b
 atPoint (MouseClick _ _ b n) x y = MouseClick x y b n
 atPoint (MouseUp _ _ b) x y = MouseUp x y b
+
+-- "The window that took the last MouseDown is remembered until a MouseUp is delivered": who is, once the window `to` took the event
+abbrev pub heldAfter : Event → Option ℕ → Option ℕ → Option ℕ
+heldAfter Resize to held = held
+heldAfter (KeyDown v) to held = held
+heldAfter (KeyUp v) to held = held
+heldAfter (KeyFire v) to held = held
+heldAfter (Text v) to held = held
+heldAfter (MouseMove x y dx dy) to held = held
+heldAfter (MouseDown x y b) to held = to
+heldAfter (MouseClick x y b n) to held = held
+heldAfter (MouseUp x y b) to held = none
 
 -- by cases: a move by its point, any other event whole
 abbrev pub moveOr {ℓ} : {A : Type ℓ} → (ℕ → ℕ → A) → (Event → A) → Event → A

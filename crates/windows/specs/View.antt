@@ -19,7 +19,7 @@ use Rattle.rules.specs.Hits.{hits}
 use Rattle.rules.specs.Visible.{visibleList}
 use Rattle.rules.specs.Calls.{Call, does, after}
 use Rattle.order.specs.declared.due.Walk.{Walk}
-use Rattle.order.specs.Ids.{ids}
+use Rattle.order.specs.Ids.{ids, heldOf}
 use Rattle.windows.specs.declared.Session.{Session}
 use Rattle.windows.specs.declared.Done.{Done}
 use Rattle.windows.specs.declared.Written.{Written}
@@ -54,6 +54,7 @@ group s =
       owed = s .shared .due .owed;
       walk = walkOf (s .shared .due .walk);
       dimmed = s .shared .dimmed;
+      held = heldOf (s .shared .held);
     }
 
 -- Which sessions there are ----------------------------------------------------------------------------------------------

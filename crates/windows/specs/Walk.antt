@@ -24,15 +24,19 @@ use Rattle.windows.specs.One.{put}
 -- Parts of what is shared set -----------------------------------------------------------------------------------------
 
 abbrev pub ordered : List WinId → ℕ → WinId → Shared → Shared
-ordered o n f k = record { order = o; shown = n; c = k .c; focus = f; dimmed = k .dimmed; due = k .due }
+ordered o n f k = record { order = o; shown = n; c = k .c; focus = f; dimmed = k .dimmed; held = k .held; due = k .due }
 
 -- what is still to be drawn
 abbrev pub noted : Due → Shared → Shared
-noted u k = record { order = k .order; shown = k .shown; c = k .c; focus = k .focus; dimmed = k .dimmed; due = u }
+noted u k = record { order = k .order; shown = k .shown; c = k .c; focus = k .focus; dimmed = k .dimmed; held = k .held; due = u }
 
 -- whether dimming is on
 abbrev pub dimming : Bool → Shared → Shared
-dimming on k = record { order = k .order; shown = k .shown; c = k .c; focus = k .focus; dimmed = on; due = k .due }
+dimming on k = record { order = k .order; shown = k .shown; c = k .c; focus = k .focus; dimmed = on; held = k .held; due = k .due }
+
+-- the number of the window that is remembered
+abbrev pub holding : ℕ → Shared → Shared
+holding h k = record { order = k .order; shown = k .shown; c = k .c; focus = k .focus; dimmed = k .dimmed; held = h; due = k .due }
 
 abbrev pub sharing : Shared → Session → Session
 sharing k s = record { windows = s .windows; shared = k }

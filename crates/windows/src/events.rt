@@ -1,10 +1,17 @@
-// The calls route and pop: document 01, "Events". Translated from WindowGroup::handle_input, get_win_at_pos and, of window.rs, WindowInput.
+// The calls route and pop: document 01, "Events", and document 02, N1. Translated from WindowGroup::handle_input, get_win_at_pos and, of
+// window.rs, WindowInput.
 ghost use mathlib.Core.Path.{_≡_};
-ghost use mathlib.Core.Bool.{true};
+ghost use mathlib.Core.Bool.{true, false, cond, _&&_};
+ghost use mathlib.Core.Option.{some};
+ghost use Prim.Native.Nat.{_-_, _<_};
+ghost use Rattle.geom.specs.Questions.{small};
+ghost use Rattle.geom.specs.Geom.{left, top, isEmpty};
 ghost use Rattle.window.specs.Held.{RepWindow};
+ghost use Rattle.rules.specs.Nearest.{nearestX, nearestY};
 ghost use Rattle.rules.specs.Calls.{Call};
-ghost use Rattle.windows.specs.View.{Given, Meets};
-ghost use Rattle.windows.specs.Events.{targetOf, atPoint, Tellable, ToldTo};
+ghost use Rattle.order.specs.Ids.{heldOf};
+ghost use Rattle.windows.specs.View.{group, Given, Meets};
+ghost use Rattle.windows.specs.Events.{targetOf, ToTop, atPoint, heldAfter, Tellable, ToldTo};
 ghost use Rattle.windows.specs.Aimed.{toNobody, toWindow, Heard, Aims, PopsAt};
 use crate::Changed;
 use crate::NextEvent;
@@ -12,19 +19,25 @@ use crate::Session;
 use crate::Shared;
 use crate::one::is_used;
 use crate::small::small_point;
+use geom::Rect;
+use geom::inner::is_empty;
 use order::RenderIdx;
 use order::WinId;
 use order::get_render_idx;
+use order::release::NOBODY;
+use order::release::nearest;
 use order::topmost::Hit;
 use order::topmost::topmost;
 use window::Event;
 use window::Window;
 
-// Where an event goes: to no window, with this answer, to the focus, or to the topmost window at a point of the screen.
+// Where an event goes: to no window, with this answer, to the focus, or to the topmost window at a point of the screen; and a release, if it can,
+// to the window that took the last MouseDown.
 pub enum Target {
     Nobody { answer: u32 },
     Focus,
     Point { x: u32, y: u32 },
+    Release { x: u32, y: u32 },
 }
 
 // A window that was told of an event, and the answer: 12 where its queue was full.
@@ -33,9 +46,10 @@ pub struct Told {
     pub answer: u32,
 }
 
-// What a window is told, if `told`; else the answer.
+// What a window is told, if `told`, and which one is remembered once it took the event; else the answer.
 pub struct Message {
     pub told: bool,
+    pub held: u8,
     pub answer: u32,
     pub event: Event,
 }
@@ -71,7 +85,7 @@ fn target_of(e: Event) -> Target
             button: _,
             count: _,
         } => Target::Point { x, y },
-        Event::MouseUp { x, y, button: _ } => Target::Point { x, y },
+        Event::MouseUp { x, y, button: _ } => Target::Release { x, y },
     }
 }
 
@@ -95,6 +109,26 @@ fn at_point(e: Event, x: u32, y: u32) -> Event
         },
         Event::MouseUp { x: _, y: _, button } => Event::MouseUp { x, y, button },
         _ => e,
+    }
+}
+
+// Who is remembered once the window at that place took an event: a MouseDown's window, until a MouseUp was taken, by any.
+fn held_after(e: Event, at: usize, held: u8) -> u8
+    requires { ⌜ at < 16 ⌝ }
+    ensures { λ r. ⌜ heldOf r ≡ heldAfter e (some at) (heldOf held) ⌝ }
+{
+    match e {
+        Event::MouseDown {
+            x: _,
+            y: _,
+            button: _,
+        } => at as u8,
+        Event::MouseUp {
+            x: _,
+            y: _,
+            button: _,
+        } => NOBODY,
+        _ => held,
     }
 }
 
@@ -126,8 +160,8 @@ fn push_event(mut win: Window, e: Event) -> Told
     }
 }
 
-// A window is told, or left as it is.
-pub fn tell(win: Window, shared: Shared, m: Message) -> Changed
+// A window is told, or left as it is. One that does not take the event changes nothing.
+pub fn tell(win: Window, mut shared: Shared, m: Message) -> Changed
     requires { ⌜ RepWindow win × (m .told ≡ true → Tellable (m .event)) ⌝ }
     ensures { λ r. ⌜ Heard win shared m r ⌝ }
 {
@@ -135,6 +169,9 @@ pub fn tell(win: Window, shared: Shared, m: Message) -> Changed
         let e = m.event;
         let told = push_event(win, e);
         let window = told.window;
+        if told.answer == 0 {
+            shared.held = m.held;
+        }
         return Changed {
             window,
             shared,
@@ -154,21 +191,37 @@ pub fn nobody(answer: u32) -> Aim
 {
     let what = Message {
         told: false,
+        held: NOBODY,
         answer,
         event: Event::Resize,
     };
     Aim { at: 0, what }
 }
 
-fn to_window(at: usize, event: Event) -> Aim
-    ensures { λ r. ⌜ r ≡ toWindow at event ⌝ }
+fn to_window(at: usize, event: Event, held: u8) -> Aim
+    ensures { λ r. ⌜ r ≡ toWindow at event held ⌝ }
 {
     let what = Message {
         told: true,
+        held,
         answer: 0,
         event,
     };
     Aim { at, what }
+}
+
+// At the window at that place, which has this rectangle, at its pixel nearest to the point.
+fn to_nearest(at: usize, r: Rect, e: Event, x: u32, y: u32) -> Aim
+    requires { ⌜ isEmpty r ≡ false ⌝ }
+    ensures { λ a. ⌜ a ≡ cond (small x && small y) (toWindow at (atPoint e (nearestX r x - left r) (nearestY r y - top r)) 16) (toNobody 5) ⌝ }
+{
+    if small_point(x, y) {
+        let column = nearest(r.pos.x, r.dims.w, x);
+        let row = nearest(r.pos.y, r.dims.h, y);
+        let inside = at_point(e, column, row);
+        return to_window(at, inside, NOBODY);
+    }
+    nobody(5)
 }
 
 impl Session {
@@ -182,6 +235,7 @@ impl Session {
             Target::Nobody { answer } => nobody(answer),
             Target::Focus => self.aim_key(e),
             Target::Point { x, y } => self.aim_pointer(e, x, y),
+            Target::Release { x, y } => self.aim_release(e, x, y),
         }
     }
 
@@ -194,14 +248,14 @@ impl Session {
         let order = self.shared.order;
         let idx = get_render_idx(order, self.shared.shown, focus);
         match idx {
-            RenderIdx::At(_) => to_window(focus.0 as usize, e),
+            RenderIdx::At(_) => to_window(focus.0 as usize, e, self.shared.held),
             RenderIdx::Hidden => nobody(11),
         }
     }
 
     // At the topmost window that contains the point.
     fn aim_pointer(self, e: Event, x: u32, y: u32) -> Aim
-        requires { ⌜ Given self × (targetOf e ≡ Target.Point x y) ⌝ }
+        requires { ⌜ Given self × ToTop (group self) x y (targetOf e) ⌝ }
         ensures { λ r. ⌜ Aims (Meets (Call.Route e) self) self r ⌝ }
     {
         if small_point(x, y) {
@@ -214,13 +268,33 @@ impl Session {
                     let at = id.0 as usize;
                     let area = areas[at];
                     let inside = at_point(e, x - area.x as u32, y - area.y as u32);
-                    to_window(at, inside)
+                    to_window(at, inside, held_after(e, at, self.shared.held))
                 }
                 Hit::Nobody => nobody(11),
             }
         } else {
             nobody(5)
         }
+    }
+
+    // At the window that is remembered, if it has pixels; else as any other pointer event.
+    fn aim_release(self, e: Event, x: u32, y: u32) -> Aim
+        requires { ⌜ Given self × (targetOf e ≡ Target.Release x y) ⌝ }
+        ensures { λ r. ⌜ Aims (Meets (Call.Route e) self) self r ⌝ }
+    {
+        let held = self.shared.held;
+        if held < 16 {
+            let at = held as usize;
+            let frames = self.frames();
+            let areas = frames.areas;
+            let area = areas[at];
+            let r = area.rect();
+            if is_empty(r) {
+                return self.aim_pointer(e, x, y);
+            }
+            return to_nearest(at, r, e, x, y);
+        }
+        self.aim_pointer(e, x, y)
     }
 }
 

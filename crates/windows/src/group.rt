@@ -16,6 +16,7 @@ use order::WinId;
 use order::due::Due;
 use order::due::Walk;
 use order::frames::first_free;
+use order::release::NOBODY;
 use window::Window;
 
 impl Session {
@@ -35,6 +36,7 @@ impl Session {
             c,
             focus: WinId(0),
             dimmed: false,
+            held: NOBODY,
             due,
         };
         Session { windows, shared }

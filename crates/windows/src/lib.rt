@@ -6,7 +6,8 @@
 //     windows: [Window; 16]      0     1     2     3     4  …  15     by number; a window that is not `used` is free
 //     shared: the order          3     0     1     -     -  …   -     the first `shown` places, lowest first: window 1 is on top
 //             place              0     1     2                        window 2 is hidden: it is used and has no place
-//             C, the focus, whether dimming is on, whether a full redraw is owed, and the walk of a redraw that goes window by window
+//             C, the focus, whether dimming is on, the window that took the last MouseDown, whether a full redraw is owed, and the walk of a
+//             redraw that goes window by window
 //     the lent store             C     C     C     C     C  …   C     window i has the C pixels from i × C on, rows of its own width
 //     the lent screen            what a redraw writes, window by window in the order, each under those above it
 use geom::Rect;
@@ -31,7 +32,7 @@ mod small;
 pub mod store;
 
 // What the windows share: the render order, which holds the shown ones in its first `shown` places, lowest first; C; the focus; whether dimming
-// is on; and what is still to be drawn.
+// is on; `held`, the number of the window that took the last MouseDown, while it is remembered, else 16; and what is still to be drawn.
 #[repr(C)]
 pub struct Shared {
     pub order: [WinId; 16],
@@ -39,6 +40,7 @@ pub struct Shared {
     pub c: u32,
     pub focus: WinId,
     pub dimmed: bool,
+    pub held: u8,
     pub due: Due,
 }
 

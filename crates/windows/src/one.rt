@@ -18,6 +18,7 @@ use order::close_gap;
 use order::focus_after;
 use order::get_render_idx;
 use order::places::with_window;
+use order::release::forget;
 use window::Window;
 
 // Where the window of an id lies: at its number. For a number that no window has it is 0, and the call is refused, whatever lies there.
@@ -127,7 +128,7 @@ pub fn show(win: Window, mut shared: Shared, id: WinId) -> Changed
     }
 }
 
-// What is shared, without this window in the render order; as it is if the window is hidden.
+// What is shared, without this window in the render order, and not remembered; as it is if the window is hidden.
 fn hidden(mut shared: Shared, id: WinId) -> Shared
     requires { ⌜ SharedBy shared ⌝ }
     ensures { λ r. ⌜ Hides (id .0) shared r ⌝ }
@@ -141,6 +142,8 @@ fn hidden(mut shared: Shared, id: WinId) -> Shared
         shared.order = closed;
         shared.shown = n - 1;
         shared.focus = focus;
+        let held = forget(shared.held, id);
+        shared.held = held;
         shared = shared.owing();
     }
     shared

@@ -5,6 +5,7 @@ use mathlib.Core.Bool.{Bool, true, false, cond, _&&_}
 use lib.Dec.{T}
 use mathlib.Core.List.{List, [], _∷_, _++_, append-assoc}
 use Rattle.geom.proofs.basics.Tests.{is-true, clash, snd}
+use Rattle.window.specs.declared.Event.the-variants.{MouseUp}
 use Rattle.rules.specs.Group.{Group, start}
 use Rattle.rules.specs.Visible.{Listed, visibleList}
 use Rattle.rules.specs.Walk.{begun}
@@ -13,13 +14,13 @@ use Rattle.rules.specs.Book.{bookOf, topmost}
 use Rattle.rules.specs.Ledger.{ledgerOf}
 use Rattle.rules.specs.Conditions.{Drawing, nothing, undivided, portion, deed, screenOf, isEnd, ends, wrote}
 use Rattle.rules.specs.Demand as Demand
-use Rattle.rules.specs.Demand.{pixelAt, expected, leftAt, pressAt, Pressed, ListShows}
+use Rattle.rules.specs.Demand.{pixelAt, expected, leftAt, pressAt, Pressed, Released, ListShows}
 use Rattle.rules.specs.Portions as Portions
 use Rattle.rules.proofs.demand.Demand3.{demand-3}
 use Rattle.rules.proofs.demand.Walks.{walks}
 use Rattle.windows.specs.declared.Session.{Session}
 use Rattle.windows.specs.View.{group}
-use Rattle.windows.specs.Run.{calls, LeftAs, Run, AsRuled, RunPixels, RunPortions, RunPresses, RunVisibles, ProgramDemand3}
+use Rattle.windows.specs.Run.{calls, LeftAs, Run, AsRuled, RunPixels, RunPortions, RunPresses, RunReleases, RunVisibles, ProgramDemand3}
 use Rattle.windows.proofs.demand.Runs.{calls-append, ruled-from, reached, ruled}
 
 -- The screens --------------------------------------------------------------------------------------------------------
@@ -76,7 +77,7 @@ run-portions c ms h w v ms₁ m rest e ended px py id hx hy t =
     ap (λ (z : List ℕ). pixelAt z w px py) (screen-is c ms₁ m rest (subst (AsRuled (start c .group)) e h) (ended .ended))
     ∙ walks .1 c w v (calls ms₁) (m .call) ended px py id hx hy t
 
--- Presses and lists ----------------------------------------------------------------------------------------------------
+-- Presses, releases and lists ----------------------------------------------------------------------------------------
 
 run-presses : (c : ℕ) (ms : List Made) (s : Session) → group s ≡ after c (calls ms) → RunPresses c ms s
 unfolding RunPresses Demand.Demand3 Demand.Presses does
@@ -85,14 +86,28 @@ run-presses c ms s e p px py hx hy r m =
     (sym (m .after ∙ ap (λ (g : Group). does g (Route (pressAt p px py)) .group) e))
     (demand-3 c (calls ms) .1 p px py hx hy)
 
+run-releases : (c : ℕ) (ms : List Made) (s : Session) → group s ≡ after c (calls ms) → RunReleases c ms s
+unfolding RunReleases Demand.Demand3 Demand.Releases does
+run-releases c ms s e n px py hx hy r m =
+    subst₂ (λ (g h : Group). Released (bookOf c (calls ms)) (ledgerOf c (calls ms)) g h n px py) (sym e)
+    (sym (m .after ∙ ap (λ (g : Group). does g (Route (MouseUp px py n)) .group) e))
+    (demand-3 c (calls ms) .2 n px py hx hy)
+
 run-visibles : (c : ℕ) (ms : List Made) (s : Session) → group s ≡ after c (calls ms) → RunVisibles c ms s
 unfolding RunVisibles Demand.Demand3 Demand.Visibles
 run-visibles c ms s e id lent list r shown l =
     subst (ListShows (bookOf c (calls ms)) id lent)
     (sym ((λ i. record { answer = l .answer i; count = l .count i; list = l .list i }) ∙ ap (λ (g : Group). visibleList g id lent) e))
-    (demand-3 c (calls ms) .2 id lent shown)
+    (demand-3 c (calls ms) .3 id lent shown)
 
 pub program-demand-3 : ProgramDemand3
 unfolding ProgramDemand3
-program-demand-3 c ms s r =
-    (reached r, ruled r, run-pixels c ms (ruled r), run-portions c ms (ruled r), run-presses c ms s (reached r), run-visibles c ms s (reached r))
+program-demand-3 c ms s r = (
+  reached r,
+  ruled r,
+  run-pixels c ms (ruled r),
+  run-portions c ms (ruled r),
+  run-presses c ms s (reached r),
+  run-releases c ms s (reached r),
+  run-visibles c ms s (reached r),
+)

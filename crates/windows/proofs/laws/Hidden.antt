@@ -1,4 +1,4 @@
--- A window hidden: the order without it, and who has the focus then.
+-- A window hidden: the order without it, who has the focus then, and who is remembered.
 use Prim.Native.Nat.{ℕ, _-_}
 use mathlib.Core.Path.{_≡_, _∙_}
 use mathlib.Core.Bool.{true, false, cond}
@@ -7,24 +7,24 @@ use mathlib.Core.Option.{none, some}
 use native.Mathlib.Omega.{arith}
 use lib.Dec.{eqb}
 use lib.ListN.{getD}
-use Rattle.rules.specs.Group.{withOrder, owing}
-use Rattle.rules.specs.Order.{shown, without, nextFocus, hidden}
+use Rattle.rules.specs.Group.{withOrder, withHeld, owing}
+use Rattle.rules.specs.Order.{shown, without, nextFocus, forget, hidden}
 use Rattle.order.specs.declared.WinId.{WinId}
 use Rattle.windows.specs.declared.Session.{Session}
 use Rattle.windows.specs.View.{group, Rep, Given}
-use Rattle.order.specs.Ids.{ids}
+use Rattle.order.specs.Ids.{ids, heldOf}
 use Rattle.order.specs.Order.{renderIdx, Closed}
 use Rattle.order.proofs.laws.Order.{ids-closed}
-use Rattle.windows.specs.Walk.{ordered, sharing, indebted}
+use Rattle.windows.specs.Walk.{ordered, holding, sharing, indebted}
 use Rattle.windows.proofs.laws.Shared.{debt-shared}
 use Rattle.windows.proofs.laws.Places.{has-place, is-shown, in-order, isnt-shown}
 
--- the session with the order and the focus that the code made, before and after a full redraw is owed
-abbrev left : Session → List WinId → WinId → Session
-left s order focus = sharing (ordered order (s .shared .shown - 1) focus (s .shared)) s
+-- the session with the order, the focus and the window remembered that the code made, before and after a full redraw is owed
+abbrev left : Session → List WinId → WinId → ℕ → Session
+left s order focus held = sharing (holding held (ordered order (s .shared .shown - 1) focus (s .shared))) s
 
-abbrev after : Session → List WinId → WinId → Session
-after s order focus = sharing (indebted (ordered order (s .shared .shown - 1) focus (s .shared))) s
+abbrev after : Session → List WinId → WinId → ℕ → Session
+after s order focus held = sharing (indebted (holding held (ordered order (s .shared .shown - 1) focus (s .shared)))) s
 
 module _ (s : Session) (h : Given s) (id : ℕ) where
   pub hidden-already : none ≡ renderIdx id (ids (s .shared .shown) (s .shared .order)) → (group s ≡ hidden id (group s)) × Rep s
@@ -36,15 +36,17 @@ module _ (s : Session) (h : Given s) (id : ℕ) where
     closed : ids (s .shared .shown - 1) order ≡ without id (ids (s .shared .shown) (s .shared .order))
     closed = ids-closed id (s .shared .shown) p (s .shared .order) order (has-place s h id p at) (in-order s h id p at) q
 
-    left-rep : (focus : WinId) → Rep (left s order focus)
-    left-rep focus = record { windows = h .rep .windows; order = q .all; shown = omega (arith, h .rep .shown); each = h .rep .each }
+    left-rep : (focus : WinId) (held : ℕ) → Rep (left s order focus held)
+    left-rep focus held = record { windows = h .rep .windows; order = q .all; shown = omega (arith, h .rep .shown); each = h .rep .each }
 
-    pub hidden-now : (focus : WinId) → focus .0 ≡ cond (eqb (s .shared .focus .0) id) (getD (ids (s .shared .shown - 1) order) (p - 1) 0) (s .shared .focus .0)
-        → (group (after s order focus) ≡ hidden id (group s)) × Rep (after s order focus)
+    pub hidden-now : (focus : WinId) (held : ℕ)
+        → focus .0 ≡ cond (eqb (s .shared .focus .0) id) (getD (ids (s .shared .shown - 1) order) (p - 1) 0) (s .shared .focus .0)
+        → heldOf held ≡ forget id (heldOf (s .shared .held))
+        → (group (after s order focus held) ≡ hidden id (group s)) × Rep (after s order focus held)
     unfolding group
-    hidden-now focus e =
+    hidden-now focus held e u =
         let y : shown (group s) id ≡ true = is-shown s h id p at in
         let f : focus .0 ≡ nextFocus id (ids (s .shared .shown) (s .shared .order)) (s .shared .focus .0) = e ∙ rw (closed, has-place s h id p at) in (
-          debt-shared .group (left s order focus) (left-rep focus) ∙ (λ i. owing (withOrder (closed i) (f i) (group s))) ∙ rw y,
-          debt-shared .rep (left s order focus) (left-rep focus),
+          debt-shared .group (left s order focus held) (left-rep focus held) ∙ (λ i. owing (withOrder (closed i) (f i) (withHeld (u i) (group s)))) ∙ rw y,
+          debt-shared .rep (left s order focus held) (left-rep focus held),
         )

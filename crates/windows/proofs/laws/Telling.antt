@@ -3,10 +3,10 @@ use Prim.Native.Nat.{ℕ, zero, suc, _≤_, _<_}
 use mathlib.Core.Path.{_≡_, refl, sym, ap, subst, _∙_}
 use mathlib.Core.Bool.{Bool, true, false, cond}
 use mathlib.Core.List.{List, [], _∷_, _++_}
-use mathlib.Core.Option.{some}
+use mathlib.Core.Option.{Option, some}
 use native.Mathlib.Omega.{arith}
 use lib.IntN.{ℤ}
-use lib.Dec.{ltb, eqb}
+use lib.Dec.{ltb, eqb, eqb·suc-zero}
 use lib.ListN.{length}
 use lib.Seq.{set-getD}
 use borrow.Author.Tests.{lt-ltb, le-ltb}
@@ -22,14 +22,20 @@ use Rattle.window.specs.Window.{Win, pushed, cursorTo}
 use Rattle.window.specs.Held.{winOf, events, RepCursor, RepWindow}
 use Rattle.window.specs.Inner.{Queued, PushedTo}
 use Rattle.window.proofs.Event.{the-type}
-use Rattle.rules.specs.Group.{Outcome, win, setWin, leaves}
+use Rattle.rules.specs.Group.{Group, Outcome, win, setWin, withHeld, leaves}
 use Rattle.rules.specs.Events.{withQueue, withCursor}
 use Rattle.rules.specs.Calls.{Call, does}
+use Rattle.order.specs.Ids.{heldOf}
+use Rattle.windows.specs.declared.Shared.{Shared}
 use Rattle.windows.specs.declared.Session.{Session}
 use Rattle.windows.specs.declared.events.Told.{Told}
-use Rattle.windows.specs.View.{group, blank, windowAt, Given, Meets, done}
+use Rattle.windows.specs.View.{group, blank, windowAt, Rep, Given, Meets, done}
+use Rattle.windows.specs.One.{put}
+use Rattle.windows.specs.Walk.{holding}
 use Rattle.windows.specs.Events.{moveOr, Tellable, takes, told, ToldTo}
-use Rattle.windows.proofs.laws.Session.{win-at, putWindow, refuses, puts}
+use Rattle.windows.specs.Aimed.{remembered}
+use Rattle.windows.proofs.laws.Session.{win-at, put-group, put-rep, putWindow, refuses, gives}
+use Rattle.windows.proofs.laws.One.{put-back}
 use Rattle.windows.proofs.laws.Parts.{setQueue, setCursor, queue-rep, cursor-rep, events-length}
 
 -- One window ---------------------------------------------------------------------------------------------------------
@@ -102,37 +108,47 @@ module _ (w : Window) (r : RepWindow w) (e : Event) where
 
 -- The window of a session --------------------------------------------------------------------------------------------
 
-put-same : (s : Session) (id : ℕ) → putWindow id (windowAt s id) s ≡ s
-put-same s id =
-    ap (λ (l : List Window). record { windows = l; shared = s .shared })
-    (set-getD (s .windows) id blank)
+-- a window put back, and another one remembered
+held-group : (s : Session) (id : ℕ) (v : Window) (m : ℕ) → v .used ≡ true
+    → group (put id v (holding m (s .shared)) s) ≡ withHeld (heldOf m) (setWin id (some (winOf v)) (group s))
+unfolding group
+held-group s id v m u = ap (λ (g : Group). withHeld (heldOf m) g) (put-group s id v u)
 
--- a call whose last question is 12, and which tells one window
+held-rep : (s : Session) (id : ℕ) (v : Window) (m : ℕ) → Rep s → RepWindow v → Rep (put id v (holding m (s .shared)) s)
+held-rep s id v m r h =
+    let q = put-rep s id v r h in
+    record { windows = q .windows; order = q .order; shown = q .shown; each = q .each }
+
+-- a call whose last question is 12, and which tells one window; `held` is remembered then, which m stands for
 module _ (k : Call) (s : Session) (id : ℕ) (e : Event) (t : Told) (h : Given s) (u : windowAt s id .used ≡ true) (to : ToldTo (windowAt s id) e t)
-    (qs : List Question) (d : does (group s) k ≡ leaves qs (group s) (setWin id (some (told (win (group s) id) e)) (group s)))
+    (m : ℕ) (held : Option ℕ) (stands : heldOf m ≡ held)
+    (qs : List Question) (d : does (group s) k ≡ leaves qs (group s) (withHeld held (setWin id (some (told (win (group s) id) e)) (group s))))
     (a : asked qs ≡ asked ((12 is takes (win (group s) id) e) ∷ [])) where
   answers : asked qs ≡ t .answer
   answers = a ∙ ap (λ (w : Win). asked ((12 is takes w e) ∷ [])) (win-at s id u) ∙ sym (to .answer)
 
-  tells-yes : t .answer ≡ 0 → Meets k s (done (putWindow id (t .window) s) (t .answer))
+  -- what the call leaves, by its answer
+  abbrev Left : ℕ → Type 0
+  Left n = Meets k s (done (put id (t .window) (remembered n m (s .shared)) s) n)
+
+  tells-yes : t .answer ≡ 0 → Left 0
   tells-yes z =
-      subst (λ (n : ℕ). Meets k s (done (putWindow id (t .window) s) n)) (sym z)
-      (puts k s id (t .window) h (to .used ∙ u) (to .rep) (ap (λ (o : Outcome). o .answer) d ∙ answers ∙ z)
-      (ap (λ (w : Win). setWin id (some w) (group s)) (to .becomes ∙ ap (λ (w : Win). told w e) (sym (win-at s id u)))
+      gives k s _ h (held-rep s id (t .window) m (h .rep) (to .rep)) (ap (λ (o : Outcome). o .answer) d ∙ answers ∙ z)
+      (held-group s id (t .window) m (to .used ∙ u)
+      ∙ (λ i. withHeld (stands i) (setWin id (some ((to .becomes ∙ ap (λ (w : Win). told w e) (sym (win-at s id u))) i)) (group s)))
       ∙ sym
       (ap (λ (o : Outcome). o .group) d
-      ∙ ap (λ (n : ℕ). cond (eqb n 0) (setWin id (some (told (win (group s) id) e)) (group s)) (group s)) (answers ∙ z))))
+      ∙ ap (λ (n : ℕ). cond (eqb n 0) (withHeld held (setWin id (some (told (win (group s) id) e)) (group s))) (group s)) (answers ∙ z)))
 
-  tells-no : (n : ℕ) → t .answer ≡ suc n → Meets k s (done (putWindow id (t .window) s) (t .answer))
+  tells-no : (n : ℕ) → t .answer ≡ suc n → Left (suc n)
   tells-no n z =
-      let same : putWindow id (t .window) s ≡ s =
-      ap (λ (w : Window). putWindow id w s) (to .same (λ o. let q : suc n ≡ 0 = sym z ∙ o in omega arith)) ∙ put-same s id in
-      subst (λ (r : Session). Meets k s (done r (t .answer))) (sym same)
-      (subst (λ (m : ℕ). Meets k s (done s m)) (sym z) (refuses k s n h (ap (λ (o : Outcome). o .answer) d ∙ answers ∙ z)))
+      let was : windowAt s id ≡ t .window = sym (to .same (λ o. let q : suc n ≡ 0 = sym z ∙ o in omega arith)) in
+      rw (eqb·suc-zero n)
+      (subst (λ (r : Session). Meets k s (done r (suc n))) (sym (put-back s id was refl)) (refuses k s n h (ap (λ (o : Outcome). o .answer) d ∙ answers ∙ z)))
 
-  pub tells : Meets k s (done (putWindow id (t .window) s) (t .answer))
+  pub tells : Left (t .answer)
   tells = go (t .answer) refl
     where
-      go : (n : ℕ) → t .answer ≡ n → Meets k s (done (putWindow id (t .window) s) (t .answer))
+      go : (n : ℕ) → t .answer ≡ n → Left n
       go zero z = tells-yes z
       go (suc n) z = tells-no n z

@@ -5,7 +5,7 @@ use native.Mathlib.Omega.{arith}
 use Rattle.geom.specs.Questions.{small}
 use Rattle.order.specs.Frames.{hitOf}
 use Rattle.windows.proofs.laws.Frames.{Found, order-lies, none-found, found}
-use Rattle.windows.proofs.laws.Routing.{too-far, nowhere}
+use Rattle.windows.proofs.laws.Routing.{top-far, nowhere}
 use Rattle.windows.proofs.laws.Aimed.{aims-point, aims-nobody}
 use borrow.Author.Needs.{needs}
 use Rattle.windows.proofs.Session.aim_pointer.Statement.{statement}
@@ -66,6 +66,9 @@ sub-at-point-2 c = omega (arith, at (c .before .before .before) .has .north)
 at-point-requires : tie.Need-at-point-requires
 at-point-requires c κs = search needs
 
+held-after-requires : tie.Need-held-after-requires
+held-after-requires c κs = at (c .before .before .before .before) .low
+
 to-window-requires : tie.Need-to-window-requires
 to-window-requires c κs = search needs
 
@@ -80,14 +83,15 @@ nobody-requires-2 c κs = search needs
 
 returns : tie.Need-returns
 returns c =
-    let p = c .before .at-point in
-    let k = c .before .before .before .before .before in
+    let m = c .before .held-after in
+    let p = c .before .before .at-point in
+    let k = c .before .before .before .before .before .before in
     let f = k .before .before .before .before .before .before .before in
     let s = f .before .before .before in
     let a = s .args in
     rw (c .to-window .ensures)
     (aims-point (a .e) (a .self) (f .frames .result .areas) (a .x) (a .y) (k .before .before .hit .given .0 .0 .0) (s .pre .0) (s .pre .1)
-    (is-small (f .before)) (at k) (p .result) (p .ensures))
+    (is-small (f .before)) (at k) (p .result) (p .ensures) (m .result) (m .ensures))
 
 returns-2 : tie.Need-returns-2
 returns-2 c =
@@ -97,7 +101,7 @@ returns-2 c =
     let a = s .args in
     rw (c .nobody .ensures)
     (aims-nobody _ (a .self) 11
-    (nowhere (a .self) (a .e) (s .pre .0) (s .pre .1) (is-small (f .before))
+    (nowhere (a .self) (a .e) (s .pre .0) (a .x) (a .y) (s .pre .1) (is-small (f .before))
     (none-found (a .self) (s .pre .0) (f .frames .result) (f .frames .ensures) (a .x) (a .y)
     (sym (ap hitOf (c .before .enum-told .given .1)) ∙ t .topmost .ensures))))
 
@@ -106,7 +110,7 @@ returns-3 c =
     let s = c .before .before .before in
     let a = s .args in
     rw (c .nobody2 .ensures)
-    (aims-nobody _ (a .self) 5 (too-far (a .self) (a .e) (s .pre .0) (s .pre .1) (sym (c .before .before .small-point .ensures) ∙ c .before .if1 .left)))
+    (aims-nobody _ (a .self) 5 (top-far (a .self) (a .e) (s .pre .0) (a .x) (a .y) (s .pre .1) (sym (c .before .before .small-point .ensures) ∙ c .before .if1 .left)))
 
 pub aim-pointer-spec : {M : Type 1} → statement M
 aim-pointer-spec =
@@ -124,6 +128,7 @@ aim-pointer-spec =
     cast-at-point-2
     sub-at-point-2
     at-point-requires
+    held-after-requires
     to-window-requires
     enum-told
     nobody-requires

@@ -1,4 +1,4 @@
--- A window with a place leaves it, and the focus goes on if it was the window's.
+-- A window with a place leaves it, the focus goes on if it was the window's, and it is not remembered.
 use Prim.Native.Nat.{ℕ, _-_, _≤_, _<_}
 use mathlib.Core.Path.{_≡_, refl, sym, ap, subst, _∙_}
 use mathlib.Core.Bool.{cond}
@@ -8,13 +8,13 @@ use native.Mathlib.Omega.{arith}
 use lib.Dec.{eqb}
 use lib.ListN.{getD}
 use Rattle.order.specs.declared.WinId.{WinId}
-use Rattle.order.specs.Ids.{ids}
+use Rattle.order.specs.Ids.{ids, heldOf}
 use Rattle.order.specs.Order.{idxOf, renderIdx, Closed}
 use Rattle.rules.specs.Order as Rule
 use Rattle.windows.specs.declared.Session.{Session}
 use Rattle.windows.specs.declared.Shared.{Shared}
 use Rattle.windows.specs.View.{group, Rep}
-use Rattle.windows.specs.Walk.{ordered, sharing, indebted}
+use Rattle.windows.specs.Walk.{ordered, holding, sharing, indebted}
 use Rattle.windows.proofs.laws.One.{same-place}
 use Rattle.windows.proofs.laws.Places.{in-order}
 use Rattle.windows.proofs.laws.Hidden.{hidden-already, hidden-now}
@@ -23,8 +23,8 @@ use Rattle.windows.proofs.one.hidden.Statement.{statement}
 use Rattle.windows.proofs.one.hidden.Tie as tie
 
 -- the share without the window
-abbrev left : List WinId → WinId → Shared → Shared
-left order focus k = ordered order (k .shown - 1) focus k
+abbrev left : List WinId → WinId → ℕ → Shared → Shared
+left order focus held k = holding held (ordered order (k .shown - 1) focus k)
 
 few : (c : tie.Start) → c .args .shared .shown ≤ 16
 few c = let q = c .pre in subst (λ (k : Shared). k .shown ≤ 16) (q .shared) (q .given .rep .shown)
@@ -57,6 +57,9 @@ focus-after-requires c κs = omega (arith, low (c .before .before), few (c .befo
 sub-shared : tie.Need-sub-shared
 sub-shared c = omega (arith, low (c .before .before .before))
 
+forget-requires : tie.Need-forget-requires
+forget-requires c κs = search needs
+
 owing-requires : tie.Need-owing-requires
 owing-requires c κs = search needs
 
@@ -65,7 +68,8 @@ enum-told c = search needs
 
 returns : tie.Need-returns
 returns c s h same =
-    let f = c .before in
+    let held = c .before .forget in
+    let f = c .before .before in
     let order = f .before .close-gap in
     let focus = f .focus-after in
     let i = f .before .before .before in
@@ -73,10 +77,13 @@ returns c s h same =
     let id = a .id .0 in
     let p = i .idx .given .0 .0 .0 in
     rw (c .owing .ensures)
-    (subst (λ (k : Shared). (group (sharing (indebted (left (order .result) (focus .result) k)) s) ≡ Rule.hidden id (group s)) × Rep (sharing (indebted (left (order .result) (focus .result) k)) s)) same
+    (subst (λ (k : Shared).
+    (group (sharing (indebted (left (order .result) (focus .result) (held .result) k)) s) ≡ Rule.hidden id (group s))
+    × Rep (sharing (indebted (left (order .result) (focus .result) (held .result) k)) s)) same
     (hidden-now s h id p (same-place _ _ same (placed i)) (order .result)
-    (subst (λ (k : Shared). Closed (k .order) (k .shown) p (order .result)) (sym same) (order .ensures)) (focus .result)
-    (subst (λ (k : Shared). focus .result .0 ≡ cond (eqb (k .focus .0) id) (getD (ids (k .shown - 1) (order .result)) (p - 1) 0) (k .focus .0)) (sym same) (focus .ensures))))
+    (subst (λ (k : Shared). Closed (k .order) (k .shown) p (order .result)) (sym same) (order .ensures)) (focus .result) (held .result)
+    (subst (λ (k : Shared). focus .result .0 ≡ cond (eqb (k .focus .0) id) (getD (ids (k .shown - 1) (order .result)) (p - 1) 0) (k .focus .0)) (sym same) (focus .ensures))
+    (subst (λ (k : Shared). heldOf (held .result) ≡ Rule.forget id (heldOf (k .held))) (sym same) (held .ensures))))
 
 returns-2 : tie.Need-returns-2
 returns-2 c s h same =
@@ -95,6 +102,7 @@ hidden-spec =
     sub-focus-after
     focus-after-requires
     sub-shared
+    forget-requires
     owing-requires
     enum-told
     returns
