@@ -77,6 +77,22 @@ static void dims(void) {
     EXPECT(screen[0] == 0x80ff8001 && roq_resize(s, 7, 0, 0, store, 16 * C) == 0);
 }
 
+static RoqEvent mouse(uint8_t kind, uint32_t x, uint32_t y, uint8_t button, uint8_t count) {
+    RoqEvent e = {x, y, 0, 0, 0, kind, button, count};
+    return e;
+}
+
+/* The window that took the last MouseDown, in the byte behind dimming, or 16; a release off it, at its last pixel, and one that it refuses. */
+static void releases(void) {
+    EXPECT(s->words[701] >> 56 == 16 && roq_route(s, mouse(ROQ_MOUSE_DOWN, 3001, 4002, 1, 0)) == 0 && s->words[701] >> 56 == LAST);
+    EXPECT(roq_pop(s, LAST).event.kind == ROQ_RESIZE && roq_pop(s, LAST).event.kind == ROQ_MOUSE_DOWN);
+    EXPECT(roq_route(s, mouse(ROQ_MOUSE_UP, 3001, 40000, 1, 0)) == 5 && s->words[701] >> 56 == LAST);
+    EXPECT(roq_route(s, mouse(ROQ_MOUSE_UP, 9, 9000, 1, 0)) == 0 && s->words[701] >> 56 == 16);
+    RoqEvent up = roq_pop(s, LAST).event;
+    EXPECT(up.kind == ROQ_MOUSE_UP && up.x == 0 && up.y == 149 && up.button == 1);
+    EXPECT(roq_route(s, mouse(ROQ_MOUSE_UP, 9, 9000, 1, 0)) == 11);
+}
+
 /* The share of the window below, of which the other one covers two pixels of three; of the other one; and both refusals. */
 static void shares(void) {
     EXPECT(roq_share(s, 7).answer == 24);
@@ -98,8 +114,8 @@ static void fingers(void) {
     EXPECT(roq_hits(s, points, 6, answers, 8) == 5 && answers[0] == LAST);
 }
 
-/* A session as large as the library's: its last words hold C, the focus and dimming, the walk's next place, whether it is on and full, and the debt;
- * nothing is written beyond. */
+/* A session as large as the library's: its last words hold C, the focus, dimming and the window of the last MouseDown, the walk's next place,
+ * whether it is on and full, and the debt; nothing is written beyond. */
 static void session(void) {
     EXPECT(roq_start(s, C) == 0 && (uint32_t)s->words[701] == C);
     for (int id = 0; id < 16; id++) {
@@ -129,14 +145,9 @@ static void session(void) {
     EXPECT(at.answer == 0 && is_rect(at.rect, 3000, 4000, 200, 150));
 }
 
-static RoqEvent mouse(uint8_t kind, uint32_t x, uint32_t y, uint8_t button, uint8_t count) {
-    RoqEvent e = {x, y, 0, 0, 0, kind, button, count};
-    return e;
-}
-
 /* The fields of an event, there and back. */
 static void events(void) {
-    EXPECT(roq_pop(s, LAST).event.kind == ROQ_RESIZE);
+    releases();
     RoqEvent key = {0, 0, 0x12345678, 0, 0, ROQ_TEXT, 0, 0};
     EXPECT(roq_route(s, key) == 0);
     EXPECT(roq_route(s, mouse(ROQ_MOUSE_CLICK, 3011, 4022, 33, 44)) == 0);

@@ -129,7 +129,9 @@ RoqAltered roq_blit(RoqSession *s, uint16_t id, RoqRect area, size_t stride, con
                     size_t store_len);
 
 /* Hands an event on: keys and Text to the focus, if it is shown; pointer events to the topmost window at the point, relative to it;
- * Resize to nobody, with answer 0. Differences (dx, dy) are not read. A kind that is none of ROQ_RESIZE to ROQ_MOUSE_UP is answered
+ * Resize to nobody, with answer 0. A MouseUp stays with its MouseDown: it goes to the window that took the last one, at that window's pixel
+ * nearest to the point, if no MouseUp was taken since, the window was not hidden since, and it has pixels; else to the topmost window as
+ * the others. Differences (dx, dy) are not read. A kind that is none of ROQ_RESIZE to ROQ_MOUSE_UP is answered
  * by 11, and ROQ_KEY_FIRE by 21, before every other question: a throttle repeats its keys itself, and no pop gives one. KeyDown, KeyUp
  * and Text ask 11, 12; a MouseMove 5, 11; other pointer events 5, 11, 12. */
 uint32_t roq_route(RoqSession *s, RoqEvent e);

@@ -1,4 +1,4 @@
-//! The entries of "Not common" that an accepted call can fall under.
+//! The entries of "Not common" that an accepted call can fall under, and a release that is refused too.
 
 #[derive(Clone, Copy, Debug, PartialEq, Eq, PartialOrd, Ord)]
 pub enum Entry {
@@ -14,10 +14,11 @@ pub enum Entry {
     SeventeenthEntry,
     Portion,
     DimmingOn,
+    ReleaseOff,
 }
 
 impl Entry {
-    pub const ALL: [Entry; 12] = [
+    pub const ALL: [Entry; 13] = [
         Entry::SomeEntriesMet,
         Entry::PiecesApart,
         Entry::BarePixels,
@@ -30,6 +31,7 @@ impl Entry {
         Entry::SeventeenthEntry,
         Entry::Portion,
         Entry::DimmingOn,
+        Entry::ReleaseOff,
     ];
 
     pub fn text(self) -> &'static str {
@@ -46,6 +48,7 @@ impl Entry {
             Entry::SeventeenthEntry => "a 17th dirty entry",
             Entry::Portion => "a portion of a redraw",
             Entry::DimmingOn => "a switch of dimming on",
+            Entry::ReleaseOff => "a release off the window of its press",
         }
     }
 }

@@ -11,6 +11,7 @@ use crate::questions::{answer, cannot, Lent, SCREEN};
 use crate::shadow::{Seen, Shadow};
 use crate::share;
 use crate::text::Text;
+use original::input::Event;
 use original::metadevs::video::lent::{lend_screen, Pixels};
 use original::sync::mutex::Mutex;
 use original::windows::group::Group;
@@ -69,6 +70,9 @@ impl Player {
             Line::Call(call) if cannot(&call, &self.lent) => out.line("!"),
             Line::Call(call) => {
                 let answer = answer(&call, &self.group, &self.lent, self.shadow.is_walking());
+                if let Call::Route(Event::MouseUp(x, y, _)) = call {
+                    self.shadow.count_release(x, y);
+                }
                 if let Some(entry) = self.entry(&call, answer) {
                     self.lines -= 1;
                     return Played::Outside(entry);
@@ -80,10 +84,12 @@ impl Player {
     }
 
     fn entry(&self, call: &Call, answer: u8) -> Option<Entry> {
-        if self.mode != Mode::Common || answer != 0 {
-            return None;
+        match *call {
+            _ if self.mode != Mode::Common => None,
+            Call::Route(Event::MouseUp(x, y, _)) => self.shadow.release_entry(x, y),
+            _ if answer != 0 => None,
+            _ => self.shadow.entry(call),
         }
-        self.shadow.entry(call)
     }
 
     fn call(&mut self, call: &Call, answer: u8, out: &mut Text) {
@@ -129,7 +135,13 @@ impl Player {
     /// Makes the call on the original and writes what it gives; the id is that of a create.
     fn make(&mut self, call: &Call, out: &mut Text) -> usize {
         match *call {
-            Call::Route(event) => out.answer(events::route(&mut self.group, event)),
+            Call::Route(event) => {
+                let answer = events::route(&mut self.group, event);
+                if answer == 0 {
+                    self.shadow.took(&event);
+                }
+                out.answer(answer);
+            }
             Call::Pop(id) => events::pop(&mut self.group, id, out),
             Call::Create => {
                 let id = self.group.create();

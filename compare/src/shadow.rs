@@ -1,10 +1,11 @@
 //! A small shadow of the session. It is asked whether an accepted call falls under an entry of "Not common", and for what the original
-//! leaves to its caller: whether a full redraw is owed, whether a walk is on, and whether dimming is.
+//! leaves to its caller: whether a full redraw is owed, whether a walk is on, whether dimming is, and which window took the last MouseDown.
 use crate::area::Area;
 use crate::call::Call;
 use crate::damage::{Damage, Direction, Joined};
 use crate::entry::Entry;
 use crate::places::Places;
+use original::input::Event;
 
 /// What the shadow saw, for the table.
 #[derive(Clone, Copy, Default)]
@@ -15,6 +16,17 @@ pub struct Seen {
     pub appended: u64,
     pub changed: u64,
     pub meeting: u64,
+    pub released: Released,
+}
+
+/// Releases, by the window that took the last MouseDown: there was none; it had no pixels; it was the topmost at the point; or it was not, which
+/// is outside the common ground.
+#[derive(Clone, Copy, Default)]
+pub struct Released {
+    pub none: u64,
+    pub no_pixels: u64,
+    pub on: u64,
+    pub off: u64,
 }
 
 /// A redraw that was begun and is neither over nor dropped: so many windows of the order are done.
@@ -33,6 +45,8 @@ pub struct Shadow {
     pub owed: bool,
     walk: Option<Walk>,
     dimmed: bool,
+    /// "The window that took the last MouseDown"
+    held: Option<usize>,
     pub seen: Seen,
 }
 
@@ -68,6 +82,33 @@ impl Shadow {
         }
     }
 
+    /// The entry that this release falls under, "refused or not".
+    pub fn release_entry(&self, x: u32, y: u32) -> Option<Entry> {
+        let held = self.held.filter(|&id| !self.places.at[id].is_empty())?;
+        (self.places.topmost(x, y) != Some(held)).then_some(Entry::ReleaseOff)
+    }
+
+    /// Counts a release that the list came to.
+    pub fn count_release(&mut self, x: u32, y: u32) {
+        let is_off = self.release_entry(x, y).is_some();
+        let released = &mut self.seen.released;
+        match self.held {
+            None => released.none += 1,
+            Some(id) if self.places.at[id].is_empty() => released.no_pixels += 1,
+            Some(_) if is_off => released.off += 1,
+            Some(_) => released.on += 1,
+        }
+    }
+
+    /// Follows an event that a window took.
+    pub fn took(&mut self, event: &Event) {
+        match *event {
+            Event::MouseDown(x, y, _) => self.held = self.places.topmost(x, y),
+            Event::MouseUp(..) => self.held = None,
+            _ => {}
+        }
+    }
+
     pub fn is_dimmed(&self) -> bool {
         self.dimmed
     }
@@ -86,6 +127,8 @@ impl Shadow {
         if let Some(places) = self.places.after(call) {
             let owes = places.owes(&self.places, call);
             self.places = places;
+            // "or that window is hidden"
+            self.held = self.held.filter(|id| self.places.order.contains(id));
             if owes {
                 self.owe();
             }

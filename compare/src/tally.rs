@@ -80,6 +80,10 @@ impl Tally {
         self.seen.appended += seen.appended;
         self.seen.changed += seen.changed;
         self.seen.meeting += seen.meeting;
+        self.seen.released.none += seen.released.none;
+        self.seen.released.no_pixels += seen.released.no_pixels;
+        self.seen.released.on += seen.released.on;
+        self.seen.released.off += seen.released.off;
     }
 
     pub fn print(&self) {
@@ -100,6 +104,10 @@ impl Tally {
         let damage = [("contained", seen.contained), ("merged right", seen.right), ("merged down", seen.down)];
         damage.iter().for_each(|(how, count)| println!("  {how:14} {count:9}"));
         println!("  {:14} {:9}", "appended", seen.appended);
+        println!("releases, by the window that took the last MouseDown:");
+        let released = &seen.released;
+        let to = [("none", released.none), ("no pixels", released.no_pixels), ("topmost", released.on), ("off, not made", released.off)];
+        to.iter().for_each(|(which, count)| println!("  {which:14} {count:9}"));
         println!("show, hide, drop, move, resize: {}, of these {} left windows that meet", seen.changed, seen.meeting);
         self.longest.iter().for_each(|(what, most)| println!("{what}: at most {most}"));
         println!("lists ended by a call outside the common ground:");

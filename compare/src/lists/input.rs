@@ -29,6 +29,30 @@ impl Maker<'_> {
         }
     }
 
+    /// A press, at times a change of the windows, and its release, mostly at the same point. Off the window the list may end.
+    pub fn press(&mut self) -> Step {
+        let (x, y) = self.point();
+        self.say(&format!("mousedown {x} {y} 1"))?;
+        match self.random.from_to(0, 9) {
+            0 => self.hide()?,
+            1 => self.drag()?,
+            2 => self.mark()?,
+            3 => {
+                // The window has no pixels then, and is remembered all the same.
+                if let Some(id) = self.script.player.shadow.places.topmost(x, y) {
+                    self.say(&format!("resize {id} 0 0"))?;
+                }
+            }
+            _ => {}
+        }
+        let (x, y) = match self.random.chance(800) {
+            true => (x, y),
+            false => self.point(),
+        };
+        self.say(&format!("mouseup {x} {y} 1"))?;
+        self.pop()
+    }
+
     pub fn pop(&mut self) -> Step {
         let id = self.id();
         for _ in 0..self.random.from_to(1, 3) {

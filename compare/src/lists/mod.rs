@@ -79,6 +79,7 @@ impl<'a> Maker<'a> {
             (2, Maker::walk),
             (3, Maker::dim),
             (16, Maker::event),
+            (4, Maker::press),
             (14, Maker::pop),
             (1, Maker::flood),
             (12, Maker::look),
