@@ -6,7 +6,7 @@ use mathlib.Core.List.{List, [], _∷_}
 use mathlib.Core.Option.{Option, none, some}
 use lib.ListN.{getD}
 use Rattle.geom.specs.declared.Rect.{Rect}
-use Rattle.geom.specs.Geom.{contains}
+use Rattle.geom.specs.Geom.{isEmpty, contains}
 use Rattle.window.specs.declared.damage.Area.{Area}
 use Rattle.window.specs.Held.{rectOf, noArea, Small}
 use Rattle.order.specs.declared.WinId.{WinId}
@@ -32,6 +32,11 @@ hitOf Nobody = none
 abbrev pub topmostAt : (ℕ → Rect) → ℕ → ℕ → List ℕ → Option ℕ → Option ℕ
 topmostAt frame px py [] best = best
 topmostAt frame px py (i ∷ rest) best = topmostAt frame px py rest (cond (contains (frame i) px py) (some i) best)
+
+-- the window that is remembered, if it has pixels; else the topmost one of the order
+abbrev pub takerAt : (ℕ → Rect) → ℕ → ℕ → List ℕ → Option ℕ → Option ℕ
+takerAt frame px py os none = topmostAt frame px py os none
+takerAt frame px py os (some id) = cond (isEmpty (frame id)) (topmostAt frame px py os none) (some id)
 
 -- the smallest number that is not in use; any number where all are
 pub record FirstFree (used : List Bool) (at : ℕ) : Type 0 where

@@ -23,4 +23,3 @@ pub mod Popping
 pub mod Telling
 pub mod Routing
 pub mod Aimed
-pub mod Released

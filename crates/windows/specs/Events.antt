@@ -13,31 +13,23 @@ use Rattle.window.specs.declared.Event.the-variants.{Resize, KeyDown, KeyUp, Ke
 use Rattle.window.specs.Window.{Win, pushed, cursorTo}
 use Rattle.window.specs.Held.{winOf, RepWindow}
 use Rattle.window.specs.Inner.{Queued}
-use Rattle.rules.specs.Group.{Group}
-use Rattle.rules.specs.Events.{withQueue, withCursor, holder}
+use Rattle.rules.specs.Events.{withQueue, withCursor}
 use Rattle.windows.specs.declared.events.Target.{Target}
-use Rattle.windows.specs.declared.events.Target.the-variants.{Nobody, Focus, Point, Release}
+use Rattle.windows.specs.declared.events.Target.the-variants.{Nobody, Focus, Point}
 use Rattle.windows.specs.declared.events.Told.{Told}
 
--- keys go to the focus, pointer events to a window at their point, a release to the window that is remembered; a Resize goes nowhere, and a
--- KeyFire is refused
-abbrev pub targetOf : Event → Target
-targetOf Resize = Nobody 0
-targetOf (KeyDown v) = Focus
-targetOf (KeyUp v) = Focus
-targetOf (KeyFire v) = Nobody 21
-targetOf (Text v) = Focus
-targetOf (MouseMove x y dx dy) = Point x y
-targetOf (MouseDown x y b) = Point x y
-targetOf (MouseClick x y b n) = Point x y
-targetOf (MouseUp x y b) = Release x y
-
--- what is aimed there is for the topmost window at the point: a release is where "none remembered, or a remembered window of no pixels"
-abbrev pub ToTop : Group → ℕ → ℕ → Target → Type 0
-ToTop g x y (Nobody n) = ⊥
-ToTop g x y Focus = ⊥
-ToTop g x y (Point a b) = (a ≡ x) × (b ≡ y)
-ToTop g x y (Release a b) = (a ≡ x) × (b ≡ y) × (holder g (g .held) ≡ none)
+-- keys go to the focus, pointer events to a point, where a release alone is for the window that is remembered, `held`; a Resize goes nowhere, and
+-- a KeyFire is refused
+abbrev pub targetOf : Event → ℕ → Target
+targetOf Resize held = Nobody 0
+targetOf (KeyDown v) held = Focus
+targetOf (KeyUp v) held = Focus
+targetOf (KeyFire v) held = Nobody 21
+targetOf (Text v) held = Focus
+targetOf (MouseMove x y dx dy) held = Point 16 x y
+targetOf (MouseDown x y b) held = Point 16 x y
+targetOf (MouseClick x y b n) held = Point 16 x y
+targetOf (MouseUp x y b) held = Point held x y
 
 -- a pointer event at another point
 abbrev pub atPoint : Event → ℕ → ℕ → Event

@@ -1,17 +1,14 @@
 // The calls route and pop: document 01, "Events", and document 02, N1. Translated from WindowGroup::handle_input, get_win_at_pos and, of
 // window.rs, WindowInput.
 ghost use mathlib.Core.Path.{_≡_};
-ghost use mathlib.Core.Bool.{true, false, cond, _&&_};
+ghost use mathlib.Core.Bool.{true};
 ghost use mathlib.Core.Option.{some};
-ghost use Prim.Native.Nat.{_-_, _<_};
-ghost use Rattle.geom.specs.Questions.{small};
-ghost use Rattle.geom.specs.Geom.{left, top, isEmpty};
+ghost use Prim.Native.Nat.{_<_};
 ghost use Rattle.window.specs.Held.{RepWindow};
-ghost use Rattle.rules.specs.Nearest.{nearestX, nearestY};
 ghost use Rattle.rules.specs.Calls.{Call};
 ghost use Rattle.order.specs.Ids.{heldOf};
-ghost use Rattle.windows.specs.View.{group, Given, Meets};
-ghost use Rattle.windows.specs.Events.{targetOf, ToTop, atPoint, heldAfter, Tellable, ToldTo};
+ghost use Rattle.windows.specs.View.{Given, Meets};
+ghost use Rattle.windows.specs.Events.{targetOf, atPoint, heldAfter, Tellable, ToldTo};
 ghost use Rattle.windows.specs.Aimed.{toNobody, toWindow, Heard, Aims, PopsAt};
 use crate::Changed;
 use crate::NextEvent;
@@ -19,25 +16,22 @@ use crate::Session;
 use crate::Shared;
 use crate::one::is_used;
 use crate::small::small_point;
-use geom::Rect;
-use geom::inner::is_empty;
 use order::RenderIdx;
 use order::WinId;
 use order::get_render_idx;
 use order::release::NOBODY;
 use order::release::nearest;
+use order::release::taker;
 use order::topmost::Hit;
-use order::topmost::topmost;
 use window::Event;
 use window::Window;
 
-// Where an event goes: to no window, with this answer, to the focus, or to the topmost window at a point of the screen; and a release, if it can,
-// to the window that took the last MouseDown.
+// Where an event goes: to no window, with this answer, to the focus, or to a point of the screen: there to window `held`, if it is one and has
+// pixels, else to the topmost window.
 pub enum Target {
     Nobody { answer: u32 },
     Focus,
-    Point { x: u32, y: u32 },
-    Release { x: u32, y: u32 },
+    Point { held: u8, x: u32, y: u32 },
 }
 
 // A window that was told of an event, and the answer: 12 where its queue was full.
@@ -67,8 +61,9 @@ pub struct PoppedOne {
     pub event: NextEvent,
 }
 
-fn target_of(e: Event) -> Target
-    ensures { λ t. ⌜ t ≡ targetOf e ⌝ }
+// Only a release is for the window that is remembered.
+fn target_of(e: Event, held: u8) -> Target
+    ensures { λ t. ⌜ t ≡ targetOf e held ⌝ }
 {
     match e {
         Event::Resize => Target::Nobody { answer: 0 },
@@ -77,15 +72,15 @@ fn target_of(e: Event) -> Target
         // question 21, before every other
         Event::KeyFire(_) => Target::Nobody { answer: 21 },
         Event::Text(_) => Target::Focus,
-        Event::MouseMove { x, y, dx: _, dy: _ } => Target::Point { x, y },
-        Event::MouseDown { x, y, button: _ } => Target::Point { x, y },
+        Event::MouseMove { x, y, dx: _, dy: _ } => Target::Point { held: NOBODY, x, y },
+        Event::MouseDown { x, y, button: _ } => Target::Point { held: NOBODY, x, y },
         Event::MouseClick {
             x,
             y,
             button: _,
             count: _,
-        } => Target::Point { x, y },
-        Event::MouseUp { x, y, button: _ } => Target::Release { x, y },
+        } => Target::Point { held: NOBODY, x, y },
+        Event::MouseUp { x, y, button: _ } => Target::Point { held, x, y },
     }
 }
 
@@ -210,38 +205,23 @@ fn to_window(at: usize, event: Event, held: u8) -> Aim
     Aim { at, what }
 }
 
-// At the window at that place, which has this rectangle, at its pixel nearest to the point.
-fn to_nearest(at: usize, r: Rect, e: Event, x: u32, y: u32) -> Aim
-    requires { ⌜ isEmpty r ≡ false ⌝ }
-    ensures { λ a. ⌜ a ≡ cond (small x && small y) (toWindow at (atPoint e (nearestX r x - left r) (nearestY r y - top r)) 16) (toNobody 5) ⌝ }
-{
-    if small_point(x, y) {
-        let column = nearest(r.pos.x, r.dims.w, x);
-        let row = nearest(r.pos.y, r.dims.h, y);
-        let inside = at_point(e, column, row);
-        return to_window(at, inside, NOBODY);
-    }
-    nobody(5)
-}
-
 impl Session {
     // Where an event goes, and what the window there is told.
     pub fn aim(self, e: Event) -> Aim
         requires { ⌜ Given self ⌝ }
         ensures { λ r. ⌜ Aims (Meets (Call.Route e) self) self r ⌝ }
     {
-        let target = target_of(e);
+        let target = target_of(e, self.shared.held);
         match target {
             Target::Nobody { answer } => nobody(answer),
             Target::Focus => self.aim_key(e),
-            Target::Point { x, y } => self.aim_pointer(e, x, y),
-            Target::Release { x, y } => self.aim_release(e, x, y),
+            Target::Point { held, x, y } => self.aim_pointer(e, held, x, y),
         }
     }
 
     // At the focus, if it is shown.
     fn aim_key(self, e: Event) -> Aim
-        requires { ⌜ Given self × (targetOf e ≡ Target.Focus) ⌝ }
+        requires { ⌜ Given self × (targetOf e (self .shared .held) ≡ Target.Focus) ⌝ }
         ensures { λ r. ⌜ Aims (Meets (Call.Route e) self) self r ⌝ }
     {
         let focus = self.shared.focus;
@@ -253,21 +233,23 @@ impl Session {
         }
     }
 
-    // At the topmost window that contains the point.
-    fn aim_pointer(self, e: Event, x: u32, y: u32) -> Aim
-        requires { ⌜ Given self × ToTop (group self) x y (targetOf e) ⌝ }
+    // At the window that takes it, at the pixel nearest to the point: in the topmost window that contains the point, the point itself.
+    fn aim_pointer(self, e: Event, held: u8, x: u32, y: u32) -> Aim
+        requires { ⌜ Given self × (targetOf e (self .shared .held) ≡ Target.Point held x y) ⌝ }
         ensures { λ r. ⌜ Aims (Meets (Call.Route e) self) self r ⌝ }
     {
         if small_point(x, y) {
             let frames = self.frames();
             let areas = frames.areas;
             let order = self.shared.order;
-            let hit = topmost(areas, order, self.shared.shown, x, y);
+            let hit = taker(areas, order, self.shared.shown, held, x, y);
             match hit {
                 Hit::Window(id) => {
                     let at = id.0 as usize;
                     let area = areas[at];
-                    let inside = at_point(e, x - area.x as u32, y - area.y as u32);
+                    let column = nearest(area.x as u32, area.w as u32, x);
+                    let row = nearest(area.y as u32, area.h as u32, y);
+                    let inside = at_point(e, column, row);
                     to_window(at, inside, held_after(e, at, self.shared.held))
                 }
                 Hit::Nobody => nobody(11),
@@ -275,26 +257,6 @@ impl Session {
         } else {
             nobody(5)
         }
-    }
-
-    // At the window that is remembered, if it has pixels; else as any other pointer event.
-    fn aim_release(self, e: Event, x: u32, y: u32) -> Aim
-        requires { ⌜ Given self × (targetOf e ≡ Target.Release x y) ⌝ }
-        ensures { λ r. ⌜ Aims (Meets (Call.Route e) self) self r ⌝ }
-    {
-        let held = self.shared.held;
-        if held < 16 {
-            let at = held as usize;
-            let frames = self.frames();
-            let areas = frames.areas;
-            let area = areas[at];
-            let r = area.rect();
-            if is_empty(r) {
-                return self.aim_pointer(e, x, y);
-            }
-            return to_nearest(at, r, e, x, y);
-        }
-        self.aim_pointer(e, x, y)
     }
 }
 

@@ -3,34 +3,39 @@ use Prim.Native.Nat.{ℕ, _-_, _≤_, _<_}
 use mathlib.Core.Path.{_≡_, refl, sym, ap, subst, _∙_}
 use mathlib.Core.Bool.{Bool, true, false, _&&_}
 use mathlib.Core.List.{List}
-use mathlib.Core.Option.{Option, some}
+use mathlib.Core.Logic.{⊎-elim}
+use mathlib.Core.Option.{some, Option·none-ne-some}
 use native.Mathlib.Omega.{arith}
 use borrow.Author.Tests.{leb-true}
 use Rattle.geom.specs.declared.Rect.{Rect}
 use Rattle.geom.specs.Questions.{small}
 use Rattle.geom.specs.Geom.{left, top}
 use Rattle.geom.proofs.basics.Tests.{clash, fst, snd}
+use Rattle.geom.proofs.geometry.Facts.{In}
 use Rattle.window.specs.declared.Event.{Event}
 use Rattle.window.specs.declared.damage.Area.{Area}
 use Rattle.window.specs.Window.{Win}
 use Rattle.rules.specs.Group.{win}
+use Rattle.rules.specs.Order.{shown}
+use Rattle.rules.specs.Nearest.{nearestX, nearestY}
 use Rattle.rules.specs.Calls.{Route, does}
 use Rattle.order.specs.Ids.{heldOf}
 use Rattle.order.specs.Frames.{frameAt}
 use Rattle.windows.specs.declared.Session.{Session}
 use Rattle.windows.specs.declared.Shared.{Shared}
 use Rattle.windows.specs.declared.Changed.{Changed}
+use Rattle.windows.specs.declared.events.Target.the-variants.{Point}
 use Rattle.windows.specs.declared.Done.{Done}
 use Rattle.windows.specs.declared.events.Told.{Told}
 use Rattle.windows.specs.declared.events.Aim.{Aim}
 use Rattle.windows.specs.View.{group, windowAt, Given, Meets, done}
 use Rattle.windows.specs.One.{put}
-use Rattle.windows.specs.Events.{targetOf, ToTop, atPoint, heldAfter, Tellable, ToldTo}
+use Rattle.windows.specs.Events.{targetOf, atPoint, heldAfter, Tellable, ToldTo}
 use Rattle.windows.specs.Aimed.{toNobody, toWindow, remembered, Heard, Aims}
-use Rattle.windows.proofs.laws.Session.{win-at}
+use Rattle.windows.proofs.laws.Session.{win-at, given-ok}
 use Rattle.windows.proofs.laws.One.{put-back}
 use Rattle.windows.proofs.laws.Frames.{Found}
-use Rattle.windows.proofs.laws.Routing.{at-point, top-point, pointed, inside, to-top, window-told}
+use Rattle.windows.proofs.laws.Routing.{point-tellable, held-point, pointed, topped, near, to-point, window-told}
 
 module _ (Q : Done → Type 0) (s : Session) where
   pub aims-window : (at : ℕ) (i : Event) (m : ℕ) → at < 16 → Tellable i
@@ -54,28 +59,41 @@ module _ (Q : Done → Type 0) (s : Session) where
           (a .told q (record { window = r .window; answer = r .answer }) (h .told q))
       by false q = subst Put (sym (h .kept q)) (subst (λ (u : Session). Q (done u (t .what .answer))) (sym (put-back s (t .at) refl refl)) (a .kept q))
 
--- at a window, for which the event is `i`
-pub aims-told : (e : Event) (s : Session) (i : ℕ → Event) (x y id : ℕ) (held : Option ℕ) → Given s
-    → does (group s) (Route e) ≡ pointed (group s) i x y (some id) held → small x && small y ≡ true → id < 16 → windowAt s id .used ≡ true
-    → (j : Event) → j ≡ i id → Tellable j → (m : ℕ) → heldOf m ≡ held
-    → Aims (Meets (Route e) s) s (toWindow id j m)
-aims-told e s i x y id held g d l low u j is able m stands =
-    aims-window (Meets (Route e) s) s id j m low able
-    (λ t to. window-told s e g i x y held id d l u m stands t (subst (λ (o : Event). ToldTo (windowAt s id) o t) is to))
-
--- a point is small
-pub low-point : (x y : ℕ) → small x && small y ≡ true → (x ≤ 32767) × (y ≤ 32767)
-low-point x y l = (leb-true x 32767 (fst (small x) (small y) l), leb-true y 32767 (snd (small x) (small y) l))
-
--- at the window that the search found, with its corner subtracted
-pub aims-point : (e : Event) (s : Session) (areas : List Area) (x y id : ℕ) → Given s → ToTop (group s) x y (targetOf e) → small x && small y ≡ true
-    → Found s areas x y id → (i : Event) → i ≡ atPoint e (x - left (frameAt areas id)) (y - top (frameAt areas id))
-    → (m : ℕ) → heldOf m ≡ heldAfter e (some id) (heldOf (s .shared .held)) → Aims (Meets (Route e) s) s (toWindow id i m)
+-- a release of no window and the one that is remembered, as the session has it, are shown
+pub held-known : (e : Event) (s : Session) (m x y : ℕ) → Given s → targetOf e (s .shared .held) ≡ Point m x y
+    → (id : ℕ) → heldOf m ≡ some id → shown (group s) id ≡ true
 unfolding group
-aims-point e s areas x y id g k l at i is m stands =
-    let low = low-point x y l in
-    let f = frameAt areas id in
-    let same : f ≡ win (group s) id .at = at .frame ∙ sym (ap (λ (w : Win). w .at) (win-at s id (at .used))) in
-    aims-told e s (inside (group s) e x y) x y id _ g (to-top s e g x y k (at .top)) l (at .low) (at .used) i (is ∙ ap (λ (r : Rect). atPoint e (x - left r) (y - top r)) same)
-    (subst Tellable (sym is) (at-point e (top-point (group s) x y (targetOf e) k) (x - left f) (y - top f) (omega (arith, low .0)) (omega (arith, low .1))))
-    m stands
+held-known e s m x y h k =
+    held-point (λ n. (id : ℕ) → heldOf n ≡ some id → shown (group s) id ≡ true) e k (λ id q. absurd (Option·none-ne-some id q)) (given-ok s h .held-shown)
+
+module _ (e : Event) (s : Session) (areas : List Area) (m x y id : ℕ) (h : Given s) (k : targetOf e (s .shared .held) ≡ Point m x y)
+    (at : Found s areas x y (heldOf m) id) where
+  frame-is : frameAt areas id ≡ win (group s) id .at
+  frame-is = at .frame ∙ sym (ap (λ (w : Win). w .at) (win-at s id (at .used)))
+
+  -- of a rectangle that has the point, the nearest pixel is the point
+  to-window : does (group s) (Route e) ≡ pointed (group s) (near (group s) e x y) x y (some id) (heldAfter e (some id) (group s .held))
+  to-window =
+      ⊎-elim (λ q. to-point s e h m x y k q)
+      (λ q.
+      let i : In (win (group s) id .at) x y = subst (λ (r : Rect). In r x y) frame-is (q .2) in
+      let same-x : x ≡ nearestX (win (group s) id .at) x = omega (arith, i .west, i .east) in
+      let same-y : y ≡ nearestY (win (group s) id .at) y = omega (arith, i .north, i .south) in
+      to-point s e h m x y k (q .0) ∙ ap (topped (group s) e x y) (q .1)
+      ∙ ap (λ (o : Event). pointed (group s) (λ _. o) x y (some id) (heldAfter e (some id) (group s .held)))
+      (λ j. atPoint e (same-x j - left (win (group s) id .at)) (same-y j - top (win (group s) id .at))))
+      (at .which)
+
+  -- at the window that the search found, at its pixel nearest to the point
+  pub aims-point : small x && small y ≡ true → (i : Event)
+      → i ≡ atPoint e (nearestX (frameAt areas id) x - left (frameAt areas id)) (nearestY (frameAt areas id) y - top (frameAt areas id))
+      → (n : ℕ) → heldOf n ≡ heldAfter e (some id) (heldOf (s .shared .held)) → Aims (Meets (Route e) s) s (toWindow id i n)
+  unfolding group
+  aims-point l i is n stands =
+      let low-x : x ≤ 32767 = leb-true x 32767 (fst (small x) (small y) l) in
+      let low-y : y ≤ 32767 = leb-true y 32767 (snd (small x) (small y) l) in
+      let j : i ≡ near (group s) e x y id =
+      is ∙ ap (λ (r : Rect). atPoint e (nearestX r x - left r) (nearestY r y - top r)) frame-is in
+      aims-window (Meets (Route e) s) s id i n (at .low)
+      (subst Tellable (sym is) (point-tellable e (s .shared .held) k _ _ (omega arith) (omega arith)))
+      (λ t to. window-told s e h (near (group s) e x y) x y id _ to-window l (at .used) n stands t (subst (λ (o : Event). ToldTo (windowAt s id) o t) j to))

@@ -1,30 +1,33 @@
--- The frames of a session: one window after the other; where the windows of its order lie; and the rule's topmost window among them.
+-- The frames of a session: one window after the other; where the windows of its order lie; and the window among them that an event at a point
+-- is for, the one that is remembered or the rule's topmost.
 use Prim.Native.Nat.{ℕ, _+_, _<_}
 use mathlib.Core.Path.{_≡_, refl, sym, ap, subst, _∙_}
 use mathlib.Core.Bool.{Bool, true, false, cond}
 use mathlib.Core.List.{List, [], _∷_, map}
-use mathlib.Core.Option.{Option, none, some}
+use mathlib.Core.Option.{Option, none, some, Option·none-ne-some, Option·some-ne-none}
+use mathlib.Core.Logic.{_⊎_, inl, inr}
 use native.Mathlib.Omega.{arith}
 use lib.Dec.{eqb}
 use lib.ListN.{getD, set, length-set}
 use Rattle.geom.specs.declared.Rect.{Rect}
-use Rattle.geom.specs.Geom.{contains}
+use Rattle.geom.specs.Geom.{isEmpty, contains}
 use Rattle.geom.proofs.basics.Tests.{or-right}
 use Rattle.geom.proofs.basics.Lists.{set-in}
-use Rattle.geom.proofs.geometry.Facts.{In, says-in}
+use Rattle.geom.proofs.geometry.Facts.{In, Solid, says-in, solid}
 use Rattle.window.specs.declared.damage.Area.{Area}
 use Rattle.window.specs.Window.{Win}
 use Rattle.window.specs.Held.{rectOf, noArea, Small}
 use Rattle.rules.specs.Group.{Group, win}
 use Rattle.rules.specs.Order.{isIn, shown}
-use Rattle.rules.specs.Events.{topmostOf, topmost}
+use Rattle.rules.specs.Events.{topmostOf, topmost, holder}
 use Rattle.rules.proofs.group.Order.{isIn-here}
 use Rattle.rules.proofs.group.Invariant.{used-small}
 use Rattle.rules.proofs.group.Topmost.{topmost-tops}
+use Rattle.rules.proofs.group.Steps.{holder-held}
 use Rattle.order.specs.declared.frames.Frames.{Frames}
 use Rattle.order.specs.Ids.{ids}
 use Rattle.order.specs.Order.{noId}
-use Rattle.order.specs.Frames.{frameAt, Shown, topmostAt}
+use Rattle.order.specs.Frames.{frameAt, Shown, topmostAt, takerAt}
 use Rattle.windows.specs.declared.Session.{Session}
 use Rattle.windows.specs.View.{group, windowAt, Given}
 use Rattle.windows.specs.Frames.{Framed}
@@ -67,6 +70,14 @@ agrees-topmost g frame x y (j ∷ os) best a =
     agrees-topmost g frame x y os (cond (contains (frame j) x y) (some j) best) (agrees-rest g frame j os a)
     ∙ ap (λ (r : Rect). topmostOf g x y os (cond (contains r x y) (some j) best)) (a j (isIn-here j os))
 
+-- a window that is remembered and has pixels
+holder-solid : (g : Group) (o : Option ℕ) (id : ℕ) → holder g o ≡ some id → isEmpty (win g id .at) ≡ false
+holder-solid g o id e = go (isEmpty (win g id .at)) (ap (holder g) (sym (holder-held g o id e)) ∙ e)
+  where
+    go : (b : Bool) → cond b none (some id) ≡ some id → b ≡ false
+    go true q = absurd (Option·none-ne-some id q)
+    go false q = refl
+
 -- The windows of a session -------------------------------------------------------------------------------------------
 
 -- a shown window is in use
@@ -75,13 +86,18 @@ shown-used s id h e =
     let ok = given-ok s h in
     (used-small (group s) id ok (ok .shown-used id e), sym (used-at s id) ∙ ok .shown-used id e)
 
--- the window that a search found: it is the rule's and in use, and its rectangle has the point
-pub record Found (s : Session) (areas : List Area) (x y id : ℕ) : Type 0 where
-  pub top : topmost (group s) x y ≡ some id
+-- by the window that is remembered, if it has pixels
+abbrev taker : Group → ℕ → ℕ → Option ℕ → Option ℕ
+taker g x y none = topmost g x y
+taker g x y (some id) = some id
+
+-- the window that a search found for o, which is remembered: that one, or the topmost, whose rectangle has the point; it is in use and has pixels
+pub record Found (s : Session) (areas : List Area) (x y : ℕ) (o : Option ℕ) (id : ℕ) : Type 0 where
+  pub which : (holder (group s) o ≡ some id) ⊎ ((holder (group s) o ≡ none) × (topmost (group s) x y ≡ some id) × In (frameAt areas id) x y)
   pub low : id < 16
   pub used : windowAt s id .used ≡ true
   pub frame : frameAt areas id ≡ rectOf (windowAt s id .at)
-  pub has : In (frameAt areas id) x y
+  pub solid : Solid (frameAt areas id)
 
 module _ (s : Session) (h : Given s) (f : Frames) (is : Framed s 16 f) where
   pub frames-agree : Agrees (group s) (frameAt (f .areas)) (group s .order)
@@ -101,18 +117,58 @@ module _ (s : Session) (h : Given s) (f : Frames) (is : Framed s 16 f) where
   unfolding group
   topmost-is x y = agrees-topmost (group s) (frameAt (f .areas)) x y (group s .order) none frames-agree
 
-  pub none-found : (x y : ℕ) → none ≡ topmostAt (frameAt (f .areas)) x y (ids (s .shared .shown) (s .shared .order)) none → topmost (group s) x y ≡ none
-  none-found x y e = sym (e ∙ topmost-is x y)
+  -- a window that is remembered is shown
+  module _ (x y : ℕ) (o : Option ℕ) (known : (id : ℕ) → o ≡ some id → shown (group s) id ≡ true) where
+    taker-is : takerAt (frameAt (f .areas)) x y (ids (s .shared .shown) (s .shared .order)) o ≡ taker (group s) x y (holder (group s) o)
+    taker-is = go o refl
+      where
+        pick : (id : ℕ) (b : Bool)
+            → cond b (topmostAt (frameAt (f .areas)) x y (ids (s .shared .shown) (s .shared .order)) none) (some id) ≡ taker (group s) x y (cond b none (some id))
+        pick id true = topmost-is x y
+        pick id false = refl
 
-  pub found : (x y id : ℕ) → some id ≡ topmostAt (frameAt (f .areas)) x y (ids (s .shared .shown) (s .shared .order)) none → Found s (f .areas) x y id
-  found x y id e =
-      let top : topmost (group s) x y ≡ some id = sym (e ∙ topmost-is x y) in
-      let tops = topmost-tops (group s) x y id (given-ok s h .distinct) top in
-      let u = shown-used s id h (tops .here) in
-      record {
-        top = top;
-        low = u .0;
-        used = u .1;
-        frame = ap rectOf (is .at id (u .0));
-        has = says-in (frameAt (f .areas) id) x y .fact (ap (λ (r : Rect). contains r x y) (frames-agree id (tops .here)) ∙ tops .has);
-      }
+        go : (p : Option ℕ) → o ≡ p
+            → takerAt (frameAt (f .areas)) x y (ids (s .shared .shown) (s .shared .order)) p ≡ taker (group s) x y (holder (group s) p)
+        go none q = topmost-is x y
+        go (some id) q =
+            pick id (isEmpty (frameAt (f .areas) id)) ∙ ap (λ (r : Rect). taker (group s) x y (cond (isEmpty r) none (some id))) (frames-agree id (known id q))
+
+    pub none-found : none ≡ takerAt (frameAt (f .areas)) x y (ids (s .shared .shown) (s .shared .order)) o
+        → (holder (group s) o ≡ none) × (topmost (group s) x y ≡ none)
+    none-found e = go (holder (group s) o) refl (sym (e ∙ taker-is))
+      where
+        go : (p : Option ℕ) → holder (group s) o ≡ p → taker (group s) x y p ≡ none → (holder (group s) o ≡ none) × (topmost (group s) x y ≡ none)
+        go none q t = (q, t)
+        go (some id) q t = absurd (Option·some-ne-none id t)
+
+    pub found : (id : ℕ) → some id ≡ takerAt (frameAt (f .areas)) x y (ids (s .shared .shown) (s .shared .order)) o → Found s (f .areas) x y o id
+    found id e = go (holder (group s) o) refl (sym (e ∙ taker-is))
+      where
+        top : holder (group s) o ≡ none → topmost (group s) x y ≡ some id → Found s (f .areas) x y o id
+        top q t =
+            let tops = topmost-tops (group s) x y id (given-ok s h .distinct) t in
+            let u = shown-used s id h (tops .here) in
+            let has = says-in (frameAt (f .areas) id) x y .fact (ap (λ (r : Rect). contains r x y) (frames-agree id (tops .here)) ∙ tops .has) in
+            record {
+              which = inr (q, t, has);
+              low = u .0;
+              used = u .1;
+              frame = ap rectOf (is .at id (u .0));
+              solid = record { wide = omega (arith, has .west, has .east); high = omega (arith, has .north, has .south) };
+            }
+
+        held : holder (group s) o ≡ some id → Found s (f .areas) x y o id
+        held q =
+            let k = known id (holder-held (group s) o id q) in
+            let u = shown-used s id h k in
+            record {
+              which = inl q;
+              low = u .0;
+              used = u .1;
+              frame = ap rectOf (is .at id (u .0));
+              solid = solid (frameAt (f .areas) id) (ap isEmpty (frames-agree id k) ∙ holder-solid (group s) o id q);
+            }
+
+        go : (p : Option ℕ) → holder (group s) o ≡ p → taker (group s) x y p ≡ some id → Found s (f .areas) x y o id
+        go none q t = top q t
+        go (some j) q t = held (q ∙ t)

@@ -1,7 +1,5 @@
 -- Each target has its end, which the callee meets for the focus and for a point.
-use mathlib.Core.Path.{refl, sym, subst, _∙_}
-use Rattle.windows.specs.View.{group}
-use Rattle.windows.specs.Events.{ToTop}
+use mathlib.Core.Path.{sym, _∙_}
 use Rattle.windows.proofs.laws.Routing.{nobody}
 use Rattle.windows.proofs.laws.Aimed.{aims-nobody}
 use borrow.Author.Needs.{needs}
@@ -21,7 +19,9 @@ enum-told : tie.Need-enum-told
 enum-told c = search needs
 
 aim-key-requires : tie.Need-aim-key-requires
-aim-key-requires c κs = search needs
+aim-key-requires c κs =
+    let t = c .before .before in
+    (t .before .pre, sym (t .target-of .ensures) ∙ c .enum-told .given .1)
 
 enum-known-target-2 : tie.Need-enum-known-target-2
 enum-known-target-2 c = search needs
@@ -29,16 +29,7 @@ enum-known-target-2 c = search needs
 aim-pointer-requires : tie.Need-aim-pointer-requires
 aim-pointer-requires c κs =
     let t = c .before .before .before in
-    let s = t .before in
-    (s .pre, subst (ToTop (group (s .args .self)) _ _) (sym (sym (t .target-of .ensures) ∙ c .before .target2 .given .1)) (refl, refl))
-
-enum-known-target-3 : tie.Need-enum-known-target-3
-enum-known-target-3 c = search needs
-
-aim-release-requires : tie.Need-aim-release-requires
-aim-release-requires c κs =
-    let t = c .before .before .before in
-    (t .before .pre, sym (t .target-of .ensures) ∙ c .before .target3 .given .1)
+    (t .before .pre, sym (t .target-of .ensures) ∙ c .before .target2 .given .1)
 
 returns : tie.Need-returns
 returns c =
@@ -54,9 +45,6 @@ returns-2 c = search needs
 returns-3 : tie.Need-returns-3
 returns-3 c = search needs
 
-returns-4 : tie.Need-returns-4
-returns-4 c = search needs
-
 pub aim-spec : {M : Type 1} → statement M
 aim-spec =
     tie.close
@@ -68,9 +56,6 @@ aim-spec =
     aim-key-requires
     enum-known-target-2
     aim-pointer-requires
-    enum-known-target-3
-    aim-release-requires
     returns
     returns-2
-    returns-3
-    returns-4)
+    returns-3)
