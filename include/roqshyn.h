@@ -97,7 +97,8 @@ RoqCreated roq_create(RoqSession *s);
 /* Puts a window on top and gives it the focus; does nothing where it is shown. Asks 3. */
 uint32_t roq_show(RoqSession *s, uint16_t id);
 
-/* Takes a window off the screen; a focus goes to the next lower one. Does nothing where it is hidden. Asks 3. */
+/* Takes a window off the screen; a focus goes to the next lower one, and a MouseUp does not come to it any more. Does nothing where it is
+ * hidden. Asks 3. */
 uint32_t roq_hide(RoqSession *s, uint16_t id);
 
 /* Hides a window and frees its id; its pixels stay in the store. Asks 3. */
@@ -131,9 +132,9 @@ RoqAltered roq_blit(RoqSession *s, uint16_t id, RoqRect area, size_t stride, con
 /* Hands an event on: keys and Text to the focus, if it is shown; pointer events to the topmost window at the point, relative to it;
  * Resize to nobody, with answer 0. A MouseUp stays with its MouseDown: it goes to the window that took the last one, at that window's pixel
  * nearest to the point, if no MouseUp was taken since, the window was not hidden since, and it has pixels; else to the topmost window as
- * the others. Differences (dx, dy) are not read. A kind that is none of ROQ_RESIZE to ROQ_MOUSE_UP is answered
- * by 11, and ROQ_KEY_FIRE by 21, before every other question: a throttle repeats its keys itself, and no pop gives one. KeyDown, KeyUp
- * and Text ask 11, 12; a MouseMove 5, 11; other pointer events 5, 11, 12. */
+ * the others. Differences (dx, dy) are not read. A kind that is none of ROQ_RESIZE to ROQ_MOUSE_UP is answered by 11, and ROQ_KEY_FIRE by
+ * 21, before every other question: a throttle repeats its keys itself, and no pop gives one. KeyDown, KeyUp and Text ask 11, 12; a
+ * MouseMove 5, 11; other pointer events 5, 11, 12. */
 uint32_t roq_route(RoqSession *s, RoqEvent e);
 
 /* What a pop gives: on a no the event is all zeros. */

@@ -59,7 +59,7 @@ module _ (Q : Done → Type 0) (s : Session) where
           (a .told q (record { window = r .window; answer = r .answer }) (h .told q))
       by false q = subst Put (sym (h .kept q)) (subst (λ (u : Session). Q (done u (t .what .answer))) (sym (put-back s (t .at) refl refl)) (a .kept q))
 
--- a release of no window and the one that is remembered, as the session has it, are shown
+-- the window that an event at a point is for because it is remembered is shown
 pub held-known : (e : Event) (s : Session) (m x y : ℕ) → Given s → targetOf e (s .shared .held) ≡ Point m x y
     → (id : ℕ) → heldOf m ≡ some id → shown (group s) id ≡ true
 unfolding group
