@@ -45,8 +45,9 @@ const TARGETS: [Target; 24] = [
     target("create, drop", Beside::Original, &["create or drop"], Time(1.0)),
     target("press", Beside::Original, &["press"], Time(0.4)),
     target("pop", Beside::Original, &["pop"], Time(2.0)),
-    target("fill, blit, 16 by 16", Beside::Original, &["fill 16 by 16", "blit 16 by 16"], Time(1.1)),
-    target("fill, blit, 100 by 50", Beside::Original, &["fill 100 by 50", "blit 100 by 50"], Time(1.0)),
+    // 1.3 of what they were before fills and blits counted the pixels altered, which the original does not.
+    target("fill, blit, 16 by 16", Beside::Original, &["fill 16 by 16", "blit 16 by 16"], Time(1.43)),
+    target("fill, blit, 100 by 50", Beside::Original, &["fill 100 by 50", "blit 100 by 50"], Time(1.3)),
     target("redraw of one button", Beside::Original, &["redraw of a button"], Time(1.4)),
     target("full redraw", Beside::Original, FULL, Time(1.0)),
     target("full redraw", Beside::Original, FULL, Rows(0.95)),

@@ -3,7 +3,8 @@ use Prim.Native.Nat.{ℕ, _*_, _/_, _%_, _≤_}
 use mathlib.Core.Path.{_≡_, refl, sym, ap, _∙_}
 use mathlib.Core.Bool.{true, false, _&&_}
 use mathlib.Core.List.{List, _++_}
-use mathlib.Core.Option.{Option, none, some}
+use mathlib.Core.Logic.{⊎-elim}
+use mathlib.Core.Option.{Option, none, some, Option·none-ne-some}
 use native.Mathlib.Omega.{arith}
 use lib.Dec.{leb, eqb}
 use lib.ListN.{length, drop}
@@ -11,6 +12,7 @@ use borrow.Author.Tests.{leb-true, eqb-true}
 use Rattle.geom.proofs.basics.Tests.{fst, snd}
 use Rattle.window.specs.Window.{Win}
 use Rattle.rules.specs.Group.{win}
+use Rattle.rules.specs.Order.{shown}
 use Rattle.rules.specs.Events.{topmost}
 use Rattle.rules.specs.Hits.{hitBy, hitAt, eachPoint, allSmall, fit, hits}
 use Rattle.rules.proofs.demand.Hits.{hit-three, each-long}
@@ -37,16 +39,21 @@ fits-room given lent e =
 
 module _ (s : Session) (h : Given s) where
   module _ (f : Frames) (is : Framed s 16 f) where
+    -- no window is remembered for a point that is asked about
+    nobody : (id : ℕ) → none ≡ some id → shown (group s) id ≡ true
+    nobody id q = absurd (Option·none-ne-some id q)
+
     hit-is : (x y : ℕ) → hitIn (frameAt (f .areas)) (ids (s .shared .shown) (s .shared .order)) x y ≡ hitAt (group s) x y
     hit-is x y = go (topmostAt (frameAt (f .areas)) x y (ids (s .shared .shown) (s .shared .order)) none) refl
       where
         go : (o : Option ℕ) → topmostAt (frameAt (f .areas)) x y (ids (s .shared .shown) (s .shared .order)) none ≡ o
             → hitBy (frameAt (f .areas)) x y o ≡ hitAt (group s) x y
-        go none e = rw (none-found s h f is x y (sym e)) refl
+        go none e = rw (none-found s h f is x y none nobody (sym e) .1) refl
         go (some id) e =
-            let at = found s h f is x y id (sym e) in
+            let at = found s h f is x y none nobody id (sym e) in
+            let top : topmost (group s) x y ≡ some id = ⊎-elim (λ q. absurd (Option·none-ne-some id q)) (λ q. q .1) (at .which) in
             let frame : frameAt (f .areas) id ≡ win (group s) id .at = at .frame ∙ sym (ap (λ (w : Win). w .at) (win-at s id (at .used))) in
-            rw (at .top, frame) refl
+            rw (top, frame) refl
 
     pub hits-yes : (points lent after : List ℕ) → allSmall points ≡ true → fit (length points) (length lent) ≡ true
         → after ≡ eachPoint (hitIn (frameAt (f .areas)) (ids (s .shared .shown) (s .shared .order))) points ++ drop (3 * (length points / 2)) lent
