@@ -5,7 +5,8 @@ use mathlib.Core.Bool.{cond}
 use mathlib.Core.List.{List}
 use lib.Dec.{eqb}
 use lib.ListN.{length}
-use Rattle.winbuf.specs.Pixels.{Part, part}
+use Rattle.scanline.specs.Pixels.{part}
+use Rattle.winbuf.specs.Pixels.{Part}
 use Rattle.station.specs.declared.pixels.RoqPart.{RoqPart}
 
 -- "handed back as a part of the lent pixels, never a copy": r says where in the lent pixels `ps` the part of the rule lies, which

@@ -5,7 +5,7 @@ use mathlib.Core.List.{List, [], _∷_, map}
 use lib.ListN.{replicate}
 use Rattle.winbuf.specs.declared.ScanlineRange.{ScanlineRange}
 use Rattle.winbuf.specs.Pixels as Pixels
-use Rattle.winbuf.specs.Altered as Altered
+use Rattle.scanline.specs.Altered as Altered
 use Rattle.winbuf.specs.Pixels.{Part, Write, scanlineRange, scanline, fillScanline, setScanline, region}
 
 -- what a call gives, and what document 01 says

@@ -6,9 +6,6 @@ pub mod area;
 pub mod place;
 pub mod region;
 pub mod resize;
-pub mod row;
-pub mod shade;
-pub mod shift;
 
 // Question 5: the greatest coordinate or size.
 pub const MOST: u32 = 32767;

@@ -9,8 +9,8 @@ use inner::place::Place;
 use inner::place::line_place;
 use inner::region::region_fits;
 use inner::region::small_area;
-use inner::row::fill_part;
-use inner::row::set_part;
+use scanline::row::fill_part;
+use scanline::row::set_part;
 
 pub mod inner;
 

@@ -10,7 +10,7 @@ use Rattle.geom.specs.declared.Rect.{Rect}
 use Rattle.geom.specs.Geom.{rect}
 use Rattle.geom.specs.Lists.{numbers}
 use Rattle.geom.specs.Inner.{Fits}
-use Rattle.winbuf.proofs.rows.Rows.{sets-on, sets-off}
+use Rattle.scanline.proofs.rows.Rows.{sets-on, sets-off}
 use Rattle.window.specs.Held.{Low}
 use Rattle.rules.specs.Visible.{rectsOf}
 use Rattle.visible.specs.Lent.{rectAt, AllFit, Lent}

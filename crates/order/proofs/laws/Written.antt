@@ -7,7 +7,7 @@ use native.Mathlib.Omega.{arith}
 use lib.ListN.{length, getD, set, take, drop, take-append-drop, length-drop}
 use lib.Seq.{sets, length-sets, set-getD, getD-drop, drop-drop, ext-getD}
 use Rattle.geom.proofs.basics.Tests.{lt-or-le}
-use Rattle.winbuf.proofs.rows.Rows.{sets-on, sets-off}
+use Rattle.scanline.proofs.rows.Rows.{sets-on, sets-off}
 use Rattle.rules.specs.Hits.{eachPoint}
 use Rattle.order.specs.Hits.{three, atPoint, Written}
 

@@ -8,8 +8,8 @@ use lib.ListN.{replicate}
 use Rattle.geom.specs.Geom as Geom
 use Rattle.geom.specs.Geom.{rect}
 use Rattle.geom.specs.Lists as Lists
-use Rattle.winbuf.specs.Altered as Altered
-use Rattle.winbuf.specs.Pixels as Pixels
+use Rattle.scanline.specs.Altered as Altered
+use Rattle.scanline.specs.Pixels as Pixels
 use Rattle.window.specs.declared.Event.the-variants as Event
 use Rattle.window.specs.Window as Window
 use Rattle.rules.specs.Group as Group

@@ -8,7 +8,8 @@ use lib.ListN.{length, getD, set, replicate}
 use borrow.Rule.Slice.PartMut.{putMid}
 use borrow.Author.Needs.{needs}
 use Rattle.winbuf.specs.declared.ScanlineRange.{ScanlineRange}
-use Rattle.winbuf.specs.Pixels.{Part, part, scanlineRange, scanline}
+use Rattle.scanline.specs.Pixels.{part}
+use Rattle.winbuf.specs.Pixels.{Part, scanlineRange, scanline}
 use Rattle.panel.proofs.scanlines.Statement.{statement}
 use Rattle.panel.proofs.scanlines.Tie as tie
 

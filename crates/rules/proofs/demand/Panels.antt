@@ -12,8 +12,8 @@ use Rattle.geom.specs.Questions.{Question, _is_, asked}
 use Rattle.geom.specs.Geom.{width, height, smallRect, isEmpty, meets, common}
 use Rattle.geom.proofs.basics.Tests.{is-false, cond-no}
 use Rattle.geom.proofs.basics.Lists.{All}
-use Rattle.winbuf.specs.Altered.{altered}
-use Rattle.winbuf.proofs.rows.Altered.{altered-same, altered-cond}
+use Rattle.scanline.specs.Altered.{altered}
+use Rattle.scanline.proofs.rows.Altered.{altered-same, altered-cond}
 use Rattle.window.specs.Window.{Win}
 use Rattle.rules.specs.Group as Group
 use Rattle.rules.specs.Store as Store

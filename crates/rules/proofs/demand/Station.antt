@@ -9,8 +9,8 @@ use borrow.Author.Tests.{eqb-true}
 use Rattle.geom.specs.Geom as Geom
 use Rattle.geom.specs.Lists as Lists
 use Rattle.geom.proofs.basics.Tests.{is-true, holds, clash, or-right, or-cases}
-use Rattle.winbuf.specs.Pixels as Pixels
-use Rattle.winbuf.specs.Shade as Shade
+use Rattle.scanline.specs.Pixels as Pixels
+use Rattle.shade.specs.Shade as Shade
 use Rattle.window.specs.Window as Window
 use Rattle.rules.specs.Group as Group
 use Rattle.rules.specs.Group.{start}

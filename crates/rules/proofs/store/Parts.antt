@@ -9,11 +9,11 @@ use native.Mathlib.Omega.{arith}
 use lib.ListN.{length, getD}
 use lib.Seq.{sets}
 use Rattle.geom.proofs.basics.Tests.{lt-or-le}
-use Rattle.winbuf.specs.Altered.{altered}
-use Rattle.winbuf.specs.Pixels.{writeRows}
-use Rattle.winbuf.proofs.rows.Rows.{Off, length-writeRows, part-off}
-use Rattle.winbuf.proofs.rows.Written.{rows-comm}
-use Rattle.winbuf.proofs.rows.Altered.{altered-square}
+use Rattle.scanline.specs.Altered.{altered}
+use Rattle.scanline.specs.Pixels.{writeRows}
+use Rattle.scanline.proofs.rows.Rows.{Off, length-writeRows, part-off}
+use Rattle.scanline.proofs.rows.Written.{rows-comm}
+use Rattle.scanline.proofs.rows.Altered.{altered-square}
 
 -- f writes n rows, the same to every list: row r goes `off` columns into row `first + r` of a picture, `pitch` wide, that begins at `base`;
 -- and the c places from there on hold these rows

@@ -10,9 +10,10 @@ use denote.Ref.{RefT, now}
 use borrow.Author.Tests.{eq-eqb, ne-eqb}
 use Rattle.geom.specs.Questions.{_is_, asked}
 use Rattle.winbuf.specs.declared.ScanlineRange.{ScanlineRange}
-use Rattle.winbuf.specs.Pixels.{Part, part, lineStart, scanlineRange, scanline, region, smallArea, regionFits}
+use Rattle.scanline.specs.Pixels.{part}
+use Rattle.winbuf.specs.Pixels.{Part, lineStart, scanlineRange, scanline, region, smallArea, regionFits}
 use Rattle.winbuf.specs.Bare.{Hands, regionStart}
-use Rattle.winbuf.proofs.rows.Runs.{full-part}
+use Rattle.scanline.proofs.rows.Runs.{full-part}
 use Rattle.winbuf.proofs.bare.Scanlines.{Within, range-within}
 use Rattle.winbuf.proofs.bare.Regions.{regionEnd, fits-end}
 use Rattle.station.specs.declared.pixels.RoqPart.{RoqPart}

@@ -12,10 +12,10 @@ use Rattle.geom.specs.Inner.{Fits, Within}
 use Rattle.geom.specs.Lists.{relative, meetsOf}
 use Rattle.geom.proofs.basics.Tests.{cond-yes, cond-no}
 use Rattle.geom.proofs.geometry.Facts.{says-meet, common-within}
-use Rattle.winbuf.specs.Pixels.{writeRows, part}
-use Rattle.winbuf.specs.Rows.{Inside}
-use Rattle.winbuf.specs.Shade.{tone}
-use Rattle.winbuf.proofs.rows.Written.{rows-same}
+use Rattle.scanline.specs.Pixels.{writeRows, part}
+use Rattle.scanline.specs.Rows.{Inside}
+use Rattle.shade.specs.Shade.{tone}
+use Rattle.scanline.proofs.rows.Written.{rows-same}
 use Rattle.rules.specs.Redraw.{drawRegion}
 use Rattle.rules.specs.Visible.{rectsOf}
 use Rattle.visible.specs.declared.region.View.{View}

@@ -10,7 +10,8 @@ use lib.ListN.{length}
 use denote.Ref.{RefT, now}
 use borrow.Author.Tests.{leb-true, le-leb, lt-leb}
 use Rattle.geom.proofs.basics.Tests.{fst, snd, says-le, same}
-use Rattle.winbuf.specs.Pixels.{part, region, smallArea, regionFits}
+use Rattle.scanline.specs.Pixels.{part}
+use Rattle.winbuf.specs.Pixels.{region, smallArea, regionFits}
 use Rattle.winbuf.specs.Bare.{Hands, regionStart}
 
 -- where the region ends

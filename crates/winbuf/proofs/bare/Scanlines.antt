@@ -16,13 +16,14 @@ use Rattle.winbuf.specs.declared.inner.place.Place.{Place}
 use Rattle.winbuf.specs.declared.inner.place.Place.the-variants.{Large, Beside, Outside, Found}
 use Rattle.winbuf.specs.declared.ScanlineRange.{ScanlineRange}
 use Rattle.winbuf.specs.declared.Altered.{Altered}
-use Rattle.winbuf.specs.Pixels.{Write, part, lineStart, lineLength, smallLine, onLine, inSlice, noPart, scanlineRange, scanline, lineWritten}
-use Rattle.winbuf.specs.Altered.{altered}
+use Rattle.scanline.specs.Pixels.{part}
+use Rattle.winbuf.specs.Pixels.{Write, lineStart, lineLength, smallLine, onLine, inSlice, noPart, scanlineRange, scanline, lineWritten}
+use Rattle.scanline.specs.Altered.{altered}
 use Rattle.winbuf.specs.Bare.{Gives, Hands}
-use Rattle.winbuf.specs.Rows.{Counted}
+use Rattle.scanline.specs.Rows.{Counted}
 use Rattle.winbuf.specs.Places.{linePlace}
-use Rattle.winbuf.proofs.rows.Altered.{altered-same}
-use Rattle.winbuf.proofs.rows.Paint.{length-part}
+use Rattle.scanline.proofs.rows.Altered.{altered-same}
+use Rattle.scanline.proofs.rows.Paint.{length-part}
 
 -- Small numbers ------------------------------------------------------------------------------------------------------
 

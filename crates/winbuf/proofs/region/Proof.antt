@@ -6,7 +6,7 @@ use native.Mathlib.Omega.{arith}
 use lib.ListN.{length}
 use borrow.Author.Needs.{needs}
 use Rattle.winbuf.specs.Pixels.{smallArea, regionFits}
-use Rattle.winbuf.proofs.rows.Runs.{part-is}
+use Rattle.scanline.proofs.rows.Runs.{part-is}
 use Rattle.winbuf.proofs.bare.Regions.{regionEnd, fits-high, fits-end, region-large, region-outside, region-found}
 use Rattle.winbuf.proofs.region.Statement.{statement}
 use Rattle.winbuf.proofs.region.Tie as tie

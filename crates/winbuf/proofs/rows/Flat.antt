@@ -6,8 +6,8 @@ use native.Mathlib.Omega.{arith}
 use native.Mathlib.Nat.{suc-mul}
 use lib.ListN.{length, drop, replicate, length-drop, length-append, length-replicate, replicate-append-replicate, drop-of-length-le}
 use lib.Seq.{sets, drop-drop, drop-at}
-use Rattle.winbuf.specs.Pixels.{writeRows}
-use Rattle.winbuf.proofs.rows.Runs.{sets-behind}
+use Rattle.scanline.specs.Pixels.{writeRows}
+use Rattle.scanline.proofs.rows.Runs.{sets-behind}
 
 unfoldable flat : ℕ → (ℕ → List ℕ) → List ℕ
 flat zero row = []

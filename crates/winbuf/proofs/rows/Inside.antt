@@ -6,11 +6,11 @@ use native.Mathlib.Omega.{arith}
 use native.Mathlib.Nat.{add-zero, not-suc-le-zero}
 use lib.ListN.{length, take, drop, set, replicate, length-set, length-take, length-replicate}
 use lib.Seq.{sets, set-comm, set-set, take-take, drop-drop}
-use Rattle.winbuf.specs.Pixels.{writeRows, part, resizedAt}
+use Rattle.scanline.specs.Pixels.{writeRows, part, resizedAt}
 use Rattle.winbuf.specs.Rows.{resized}
-use Rattle.winbuf.proofs.rows.Runs.{full-part}
-use Rattle.winbuf.proofs.rows.Written.{rows-same}
-use Rattle.winbuf.proofs.rows.Rows.{row-end, length-writeRows, rows-room}
+use Rattle.scanline.proofs.rows.Runs.{full-part}
+use Rattle.scanline.proofs.rows.Written.{rows-same}
+use Rattle.scanline.proofs.rows.Rows.{row-end, length-writeRows, rows-room}
 
 -- a run and a store before it, in either order
 set-sets-before : (s : List ℕ) (b : ℕ) (ws : List ℕ) (a v : ℕ) → a < b → set (sets s b ws) a v ≡ sets (set s a v) b ws

@@ -6,10 +6,10 @@ use native.Mathlib.Omega.{arith}
 use native.Mathlib.Numerals.{add-one}
 use lib.ListN.{length, take, drop, replicate, length-take, length-append, length-replicate}
 use lib.Seq.{sets}
-use Rattle.winbuf.specs.Pixels.{writeRows, part}
-use Rattle.winbuf.proofs.rows.Runs.{full-part, sets-append, sets-self, part-sets-after}
-use Rattle.winbuf.proofs.rows.Written.{rows-none, rows-same, rows-self, rows-comm, drop-rows}
-use Rattle.winbuf.proofs.rows.Rows.{row-end, row-le, rows-room}
+use Rattle.scanline.specs.Pixels.{writeRows, part}
+use Rattle.scanline.proofs.rows.Runs.{full-part, sets-append, sets-self, part-sets-after}
+use Rattle.scanline.proofs.rows.Written.{rows-none, rows-same, rows-self, rows-comm, drop-rows}
+use Rattle.scanline.proofs.rows.Rows.{row-end, row-le, rows-room}
 use Rattle.winbuf.proofs.rows.Flat.{finish}
 use Prim.Native.Nat.{ℕ, zero, suc, _+_, _-_, _*_, _≤_, _<_, min}
 use lib.ListN.{length, take, drop, replicate, length-take, length-append, length-replicate}

@@ -4,7 +4,7 @@ use native.Mathlib.Omega.{arith}
 use lib.ListN.{length}
 use borrow.Author.Needs.{needs}
 use Rattle.winbuf.specs.Pixels.{lineStart}
-use Rattle.winbuf.proofs.rows.Runs.{part-is}
+use Rattle.scanline.proofs.rows.Runs.{part-is}
 use Rattle.winbuf.proofs.bare.Scanlines.{Within, range-within, hands-range}
 use Rattle.winbuf.proofs.scanline_rgn.Statement.{statement}
 use Rattle.winbuf.proofs.scanline_rgn.Tie as tie

@@ -3,13 +3,13 @@ ghost use mathlib.Core.Path.{_≡_};
 ghost use mathlib.Core.List.{_++_};
 ghost use Prim.Native.Nat.{_+_, _-_, _*_, _≤_, min};
 ghost use lib.ListN.{length, replicate};
-ghost use Rattle.winbuf.specs.Pixels.{writeRows, part, resizedAt};
+ghost use Rattle.scanline.specs.Pixels.{writeRows, part, resizedAt};
 ghost use Rattle.winbuf.specs.Rows.{resized};
 use super::least;
-use super::row::fill_all;
-use super::row::fill_part;
-use super::shift::move_down;
-use super::shift::move_up;
+use scanline::row::fill_all;
+use scanline::row::fill_part;
+use scanline::shift::move_down;
+use scanline::shift::move_up;
 
 // n rows of w0 pixels become rows of w1, no more than w0: of each row the first w1.
 pub fn narrow(px: &mut [u32], w0: u16, w1: u16, n: usize)

@@ -14,9 +14,9 @@ use Rattle.geom.specs.Geom.{left, top, width, height, isEmpty, meets, common}
 use Rattle.geom.specs.Inner.{Fits, Within}
 use Rattle.geom.proofs.basics.Tests.{clash, on-cond, lt-or-le}
 use Rattle.geom.proofs.geometry.Facts.{Meet, says-meet, solid, common-within}
-use Rattle.winbuf.specs.Pixels.{writeRows, part}
-use Rattle.winbuf.specs.Rows.{Inside, Counted}
-use Rattle.winbuf.proofs.rows.Altered.{altered-same}
+use Rattle.scanline.specs.Pixels.{writeRows, part}
+use Rattle.scanline.specs.Rows.{Inside, Counted}
+use Rattle.scanline.proofs.rows.Altered.{altered-same}
 use Rattle.window.specs.declared.Window.{Window}
 use Rattle.window.specs.declared.damage.Damage.{Damage}
 use Rattle.window.specs.Window.{Win}

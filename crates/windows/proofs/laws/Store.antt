@@ -14,8 +14,8 @@ use Rattle.geom.specs.declared.Rect.{Rect}
 use Rattle.geom.specs.Questions.{Question, _is_, asked, small}
 use Rattle.geom.specs.Geom.{smallRect}
 use Rattle.geom.proofs.basics.Tests.{clash, fst, snd}
-use Rattle.winbuf.specs.Altered.{altered}
-use Rattle.winbuf.proofs.rows.Altered.{altered-same}
+use Rattle.scanline.specs.Altered.{altered}
+use Rattle.scanline.proofs.rows.Altered.{altered-same}
 use Rattle.window.specs.declared.Window.{Window}
 use Rattle.window.specs.Window.{Win}
 use Rattle.window.specs.Held.{winOf, Small, RepWindow}

@@ -7,7 +7,7 @@ use native.Mathlib.Omega.{arith}
 use Rattle.geom.specs.declared.Rect.{Rect}
 use Rattle.geom.specs.Questions.{_is_}
 use Rattle.geom.specs.Geom.{smallRect, meets}
-use Rattle.winbuf.proofs.rows.Altered.{altered-cond}
+use Rattle.scanline.proofs.rows.Altered.{altered-cond}
 use Rattle.rules.specs.Group.{Group, win}
 use Rattle.rules.specs.Store as Spec
 use Rattle.rules.specs.Store.{bounds, filledAt}

@@ -10,7 +10,7 @@ use borrow.Author.Tests.{le-leb, lt-leb}
 use Rattle.geom.specs.Questions as Questions
 use Rattle.geom.specs.Questions.{_is_}
 use Rattle.geom.specs.Geom.{width, height}
-use Rattle.winbuf.specs.Pixels.{resizedAt}
+use Rattle.scanline.specs.Pixels.{resizedAt}
 use Rattle.rules.specs.Group.{owing}
 use Rattle.rules.specs.Store as Spec
 use Rattle.rules.specs.Store.{resizedWin}

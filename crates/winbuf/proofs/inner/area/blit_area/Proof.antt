@@ -3,8 +3,8 @@ use mathlib.Core.Path.{_∙_}
 use Prim.Native.Nat.{_*_}
 use native.Mathlib.Omega.{arith}
 use lib.ListN.{length, take}
-use Rattle.winbuf.specs.Pixels.{part}
-use Rattle.winbuf.proofs.rows.Places.{area-fits, area-rows}
+use Rattle.scanline.specs.Pixels.{part}
+use Rattle.scanline.proofs.rows.Places.{area-fits, area-rows}
 use borrow.Author.Needs.{needs}
 use Rattle.winbuf.proofs.inner.area.blit_area.Statement.{statement}
 use Rattle.winbuf.proofs.inner.area.blit_area.Tie as tie

@@ -3,11 +3,11 @@ use mathlib.Core.Path.{_≡_, refl, ap, _∙_}
 use Prim.Native.Nat.{_+_, _-_, _*_, _≤_, min}
 use native.Mathlib.Omega.{arith}
 use lib.ListN.{length, take, drop, length-take}
-use Rattle.winbuf.specs.Pixels.{writeRows, part}
+use Rattle.scanline.specs.Pixels.{writeRows, part}
 use lib.Seq.{sets}
-use Rattle.winbuf.proofs.rows.Altered.{Along, along-none, along-run, along-few}
-use Rattle.winbuf.proofs.rows.Turns.{rows-more, rows-all, chunk-is, next-chunk, next-row}
-use Rattle.winbuf.proofs.rows.Written.{rows-none}
+use Rattle.scanline.proofs.rows.Altered.{Along, along-none, along-run, along-few}
+use Rattle.scanline.proofs.rows.Turns.{rows-more, rows-all, chunk-is, next-chunk, next-row}
+use Rattle.scanline.proofs.rows.Written.{rows-none}
 use Rattle.winbuf.proofs.inner.area.blit_rows.Statement.{statement}
 use Rattle.winbuf.proofs.inner.area.blit_rows.Tie as tie
 

@@ -2,7 +2,7 @@
 use mathlib.Core.Path.{_∙_}
 use native.Mathlib.Omega.{arith}
 use lib.ListN.{length, replicate}
-use Rattle.winbuf.proofs.rows.Places.{area-fits, area-rows}
+use Rattle.scanline.proofs.rows.Places.{area-fits, area-rows}
 use borrow.Author.Needs.{needs}
 use Rattle.winbuf.proofs.inner.area.fill_area.Statement.{statement}
 use Rattle.winbuf.proofs.inner.area.fill_area.Tie as tie

@@ -3,10 +3,10 @@ use mathlib.Core.Path.{_≡_, refl, _∙_}
 use Prim.Native.Nat.{_+_, _-_, _*_, _≤_}
 use native.Mathlib.Omega.{arith}
 use lib.ListN.{length, replicate, length-replicate}
-use Rattle.winbuf.specs.Pixels.{writeRows}
-use Rattle.winbuf.proofs.rows.Altered.{Along, along-none, along-run, along-few}
-use Rattle.winbuf.proofs.rows.Turns.{rows-more, rows-all, next-row}
-use Rattle.winbuf.proofs.rows.Written.{rows-none}
+use Rattle.scanline.specs.Pixels.{writeRows}
+use Rattle.scanline.proofs.rows.Altered.{Along, along-none, along-run, along-few}
+use Rattle.scanline.proofs.rows.Turns.{rows-more, rows-all, next-row}
+use Rattle.scanline.proofs.rows.Written.{rows-none}
 use Rattle.winbuf.proofs.inner.area.fill_rows.Statement.{statement}
 use Rattle.winbuf.proofs.inner.area.fill_rows.Tie as tie
 

@@ -5,8 +5,8 @@ use Prim.Native.Nat.{ℕ, _-_, _*_, _≤_, max}
 use native.Mathlib.Omega.{arith}
 use lib.ListN.{length}
 use lib.Seq.{sets}
-use Rattle.winbuf.specs.Pixels.{writeRows, part}
-use Rattle.winbuf.proofs.rows.Rows.{row-end, row-le}
+use Rattle.scanline.specs.Pixels.{writeRows, part}
+use Rattle.scanline.proofs.rows.Rows.{row-end, row-le}
 use Rattle.winbuf.proofs.rows.Widths.{narrow-turn, narrow-one, narrow-all}
 use Rattle.winbuf.proofs.inner.resize.narrow.Statement.{statement}
 use Rattle.winbuf.proofs.inner.resize.narrow.Tie as tie

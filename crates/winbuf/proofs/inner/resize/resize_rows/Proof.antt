@@ -4,8 +4,8 @@ use Prim.Native.Nat.{ℕ, _+_, _-_, _*_, _≤_}
 use native.Mathlib.Omega.{arith}
 use lib.ListN.{length, replicate, length-replicate}
 use borrow.Rule.Slice.PartMut.{putMid}
-use Rattle.winbuf.proofs.rows.Rows.{rows-room}
-use Rattle.winbuf.proofs.rows.Runs.{put-end, full-part}
+use Rattle.scanline.proofs.rows.Rows.{rows-room}
+use Rattle.scanline.proofs.rows.Runs.{put-end, full-part}
 use Rattle.winbuf.proofs.rows.Widths.{resize-end}
 use borrow.Author.Needs.{needs}
 use Rattle.winbuf.proofs.inner.resize.resize_rows.Statement.{statement}

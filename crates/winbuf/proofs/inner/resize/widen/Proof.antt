@@ -3,9 +3,9 @@ use mathlib.Core.Path.{_≡_, refl, ap, _∙_}
 use Prim.Native.Nat.{ℕ, suc, _+_, _-_, _*_, _≤_}
 use native.Mathlib.Omega.{arith}
 use lib.ListN.{length}
-use Rattle.winbuf.specs.Pixels.{writeRows}
-use Rattle.winbuf.proofs.rows.Rows.{row-end, row-le}
-use Rattle.winbuf.proofs.rows.Written.{rows-none}
+use Rattle.scanline.specs.Pixels.{writeRows}
+use Rattle.scanline.proofs.rows.Rows.{row-end, row-le}
+use Rattle.scanline.proofs.rows.Written.{rows-none}
 use Rattle.winbuf.proofs.rows.Widths.{wide, widen-step, widen-one}
 use Rattle.winbuf.proofs.inner.resize.widen.Statement.{statement}
 use Rattle.winbuf.proofs.inner.resize.widen.Tie as tie

@@ -1,0 +1,2 @@
+-- Lemmas on rows of pixels.
+pub mod rows

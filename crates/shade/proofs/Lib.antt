@@ -1,0 +1,2 @@
+-- Lemmas on dimming.
+pub mod laws

@@ -1,0 +1,3 @@
+-- What everybody must believe of dimming; then what our own functions say.
+pub mod Shade
+pub mod Table
