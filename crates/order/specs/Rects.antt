@@ -9,7 +9,7 @@ use Rattle.geom.specs.Geom.{rect}
 use Rattle.geom.specs.Inner.{Fits}
 use Rattle.rules.specs.Visible.{rectsOf}
 use Rattle.rules.specs.Redraw.{none?}
-use Rattle.visible.specs.Lent.{AllFit}
+use Rattle.rules.specs.Lent.{AllFit}
 use Rattle.order.specs.declared.rects.Rects.{Rects}
 
 -- the numbers are those of the list, whose sides are numbers of 32 bits

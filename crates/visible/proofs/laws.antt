@@ -1,5 +1,4 @@
--- The lent numbers, the parts that a loop has left, and the rules part by part. Each file uses the ones before it.
-pub mod Numbers
+-- The parts that a loop has left, and the rules part by part. Each file uses the ones before it.
 pub mod Depth
 pub mod Parts
 pub mod Regions

@@ -1,3 +1,2 @@
 -- What the functions of this crate say beside the rules.
-pub mod Lent
 pub mod Seen

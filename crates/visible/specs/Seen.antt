@@ -4,17 +4,24 @@ use mathlib.Core.Path.{_≡_}
 use mathlib.Core.Bool.{Bool, cond}
 use mathlib.Core.List.{List, [], _∷_, map}
 use lib.Dec.{eqb}
-use lib.ListN.{length, getD}
+use lib.ListN.{length, drop, getD}
 use Rattle.geom.specs.declared.Rect.{Rect}
 use Rattle.geom.specs.Geom.{rect, width, height}
 use Rattle.geom.specs.Lists.{outsideAll, relative, listIntersect}
 use Rattle.window.specs.Held.{Small}
+use Rattle.rules.specs.Visible.{rectsOf}
 use Rattle.rules.specs.Redraw.{drawRegions}
 use Rattle.visible.specs.declared.region.View.{View}
 
 -- the parts `rs` of a window at `at`, outside each of `bs`, relative to the window
 unfoldable pub seen : Rect → List Rect → List Rect → List Rect
 seen at rs bs = map (relative at) (outsideAll rs bs)
+
+-- of n rectangles lent as numbers, those from the i-th on and before the k-th leave r whole
+pub record Missed (r : Rect) (n : ℕ) (l : List ℕ) (i k : ℕ) : Type 0 where
+  pub from : i ≤ k
+  pub few : k ≤ n
+  pub same : outsideAll (r ∷ []) (drop k (rectsOf n l)) ≡ outsideAll (r ∷ []) (drop i (rectsOf n l))
 
 -- how many parts there are, or how many pixels they have
 abbrev pub amount : Bool → List Rect → ℕ

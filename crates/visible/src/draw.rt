@@ -9,7 +9,7 @@ ghost use Rattle.geom.specs.Lists.{outsideAll, relative, meetsOf, listIntersect
 ghost use Rattle.window.specs.Held.{Small};
 ghost use Rattle.rules.specs.Visible.{rectsOf};
 ghost use Rattle.rules.specs.Redraw.{drawRegions};
-ghost use Rattle.visible.specs.Lent.{Lent};
+ghost use Rattle.rules.specs.Lent.{Lent};
 ghost use Rattle.visible.specs.Seen.{Drawable, viewOf, own, drawn, regions};
 use crate::around;
 use crate::rects;

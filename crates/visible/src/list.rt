@@ -11,7 +11,7 @@ ghost use Rattle.geom.specs.Inner.{Fits, Within};
 ghost use Rattle.geom.specs.Lists.{outsideAll, relative, numbers};
 ghost use Rattle.geom.specs.Lists as rule;
 ghost use Rattle.rules.specs.Visible.{rectsOf};
-ghost use Rattle.visible.specs.Lent.{Lent};
+ghost use Rattle.rules.specs.Lent.{Lent};
 ghost use Rattle.visible.specs.Seen.{seen, amount};
 use crate::around;
 use crate::rects;

@@ -6,7 +6,8 @@ ghost use lib.ListN.{length};
 ghost use Rattle.geom.specs.Geom.{left, top, meets};
 ghost use Rattle.geom.specs.Inner.{Fits};
 ghost use Rattle.geom.specs.Lists as rule;
-ghost use Rattle.visible.specs.Lent.{rectAt, Lent, Missed};
+ghost use Rattle.rules.specs.Lent.{rectAt, Lent};
+ghost use Rattle.visible.specs.Seen.{Missed};
 use geom::Rect;
 use geom::inner;
 

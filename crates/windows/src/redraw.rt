@@ -10,7 +10,7 @@ ghost use Rattle.window.specs.Held.{rects, RepDamage, RepWindow};
 ghost use Rattle.rules.specs.Visible.{rectsOf};
 ghost use Rattle.rules.specs.Redraw.{drawAll};
 ghost use Rattle.rules.specs.Calls.{Call};
-ghost use Rattle.visible.specs.Lent.{Lent};
+ghost use Rattle.rules.specs.Lent.{Lent};
 ghost use Rattle.windows.specs.View.{group, Given, MeetsScreen};
 ghost use Rattle.windows.specs.Drawing.{Drawable, painted, Ordered, Settles, Draws};
 ghost use Rattle.order.specs.Ids.{ids};

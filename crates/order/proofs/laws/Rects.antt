@@ -13,8 +13,8 @@ use Rattle.geom.specs.Inner.{Fits}
 use Rattle.scanline.proofs.rows.Rows.{sets-on, sets-off}
 use Rattle.window.specs.Held.{Low}
 use Rattle.rules.specs.Visible.{rectsOf}
-use Rattle.visible.specs.Lent.{rectAt, AllFit, Lent}
-use Rattle.visible.proofs.laws.Turns.{four-set}
+use Rattle.rules.specs.Lent.{rectAt, AllFit, Lent}
+use Rattle.rules.proofs.Lent.{rect-later, four-set}
 use Rattle.order.specs.declared.rects.Rects.{Rects}
 use Rattle.order.specs.Rects.{Holds, listed, Added, fullRect}
 
@@ -27,14 +27,6 @@ rects-same (suc n) l m f =
     ap₂ (λ (r : Rect) (rs : List Rect). r ∷ rs)
     (λ j. rect (f 0 (omega arith) j) (f 1 (omega arith) j) (f 2 (omega arith) j) (f 3 (omega arith) j))
     (rects-same n (drop 4 l) (drop 4 m) (λ i h. getD-drop 4 l i 0 ∙ f (4 + i) (omega arith) ∙ sym (getD-drop 4 m i 0)))
-
-later : (l : List ℕ) (a b : ℕ) → 4 + a ≡ b → getD (drop 4 l) a 0 ≡ getD l b 0
-later l a b e = getD-drop 4 l a 0 ∙ ap (λ (n : ℕ). getD l n 0) e
-
-rect-later : (l : List ℕ) (i : ℕ) → rectAt (drop 4 l) i ≡ rectAt l (suc i)
-rect-later l i = λ j.
-    rect (later l (4 * i) (4 * suc i) (omega arith) j) (later l (4 * i + 1) (4 * suc i + 1) (omega arith) j)
-    (later l (4 * i + 2) (4 * suc i + 2) (omega arith) j) (later l (4 * i + 3) (4 * suc i + 3) (omega arith) j)
 
 rects-snoc : (n : ℕ) (l : List ℕ) → rectsOf (suc n) l ≡ rectsOf n l ++ (rectAt l n ∷ [])
 rects-snoc zero l = refl

@@ -18,10 +18,10 @@ use Rattle.shade.specs.Shade.{tone}
 use Rattle.scanline.proofs.rows.Written.{rows-same}
 use Rattle.rules.specs.Redraw.{drawRegion}
 use Rattle.rules.specs.Visible.{rectsOf}
+use Rattle.rules.specs.Lent.{rectAt}
+use Rattle.rules.proofs.Lent.{length-rects, rects-next}
 use Rattle.visible.specs.declared.region.View.{View}
-use Rattle.visible.specs.Lent.{rectAt}
 use Rattle.visible.specs.Seen.{Drawable, own, drawn, regions}
-use Rattle.visible.proofs.laws.Numbers.{length-rects, rects-next}
 use Rattle.visible.proofs.laws.Parts.{within-trans}
 use Rattle.visible.proofs.laws.Regions.{drawn-append, drawn-none, regions-end}
 

@@ -13,10 +13,10 @@ use Rattle.geom.specs.Inner.{Within}
 use Rattle.geom.specs.Lists.{outsideAll, relative, numbers}
 use Rattle.geom.proofs.geometry.Facts.{says-meet, common-within}
 use Rattle.rules.specs.Visible.{rectsOf}
-use Rattle.visible.specs.Lent.{rectAt, Missed}
+use Rattle.rules.specs.Lent.{rectAt}
+use Rattle.rules.proofs.Lent.{length-rects, rects-next}
 use Rattle.visible.specs.declared.region.View.{View}
-use Rattle.visible.specs.Seen.{seen, amount, regions, drawn}
-use Rattle.visible.proofs.laws.Numbers.{length-rects, rects-next}
+use Rattle.visible.specs.Seen.{Missed, seen, amount, regions, drawn}
 use Rattle.visible.proofs.laws.Depth.{outsideAll-append, outsideAll-end, outsideAll-miss, outsideAll-met, four}
 use Rattle.visible.proofs.laws.Parts.{above-within, left-within, right-within, below-within}
 use Rattle.visible.proofs.laws.Regions.{seen-append, seen-end, length-seen, regions-same, regions-append}

@@ -17,9 +17,9 @@ use Rattle.geom.proofs.basics.Tests.{says-le, passes, same}
 use Rattle.geom.proofs.geometry.Bound.{outsideAll-few}
 use Rattle.geom.proofs.geometry.Areas.{remains-most}
 use Rattle.rules.specs.Visible.{rectsOf}
+use Rattle.rules.proofs.Lent.{length-rects}
 use Rattle.visible.specs.declared.region.View.{View}
 use Rattle.visible.specs.Seen.{amount, drawn}
-use Rattle.visible.proofs.laws.Numbers.{length-rects}
 use Rattle.visible.proofs.laws.Regions.{drawn-append}
 
 -- at most 561 parts are seen under 16 rectangles
@@ -81,15 +81,6 @@ numbers-append (x ∷ xs) ys = rw (numbers-append xs ys) refl
 pub length-numbers : (rs : List Rect) → length (numbers rs) ≡ 4 * length rs
 length-numbers [] = refl
 length-numbers (r ∷ rs) = rw (length-numbers rs) (omega arith)
-
--- the four numbers of one rectangle
-pub four-set : (l : List ℕ) (i : ℕ) (r : Rect)
-    → set (set (set (set l i (r .pos .x)) (i + 1) (r .pos .y)) (i + 2) (r .dims .w)) (i + 3) (r .dims .h) ≡ sets l i (numbers (r ∷ []))
-four-set l i r =
-    let e1 : i + 1 ≡ suc i = omega arith in
-    let e2 : i + 2 ≡ suc (suc i) = omega arith in
-    let e3 : i + 3 ≡ suc (suc (suc i)) = omega arith in
-    rw (e1, e2, e3) refl
 
 -- the numbers of rectangles from the k-th on, and then of more
 written-append : (xs ys : List Rect) (l : List ℕ) (k : ℕ)

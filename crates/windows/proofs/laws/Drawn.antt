@@ -20,11 +20,11 @@ use Rattle.rules.specs.Redraw.{none?, regions, isDrawn, drawWindow, drawAll, pa
 use Rattle.rules.specs.Redraw as Draw
 use Rattle.rules.specs.Store.{whole}
 use Rattle.rules.specs.Calls.{Redraw, does}
+use Rattle.rules.specs.Lent.{Lent}
 use Rattle.rules.proofs.group.Invariant.{WinOk}
+use Rattle.rules.proofs.Lent.{behind, rects-split, rest-lent}
 use Rattle.order.specs.declared.WinId.{WinId}
 use Rattle.windows.specs.declared.Session.{Session}
-use Rattle.visible.specs.Lent.{Lent}
-use Rattle.visible.proofs.laws.Numbers.{behind, rects-split, rest-lent}
 use Rattle.order.specs.declared.rects.Rects.{Rects}
 use Rattle.windows.specs.View.{walkOf, group, windowAt, Rep, Given, Meets, MeetsScreen, done}
 use Rattle.windows.specs.Walk.{noted, sharing}

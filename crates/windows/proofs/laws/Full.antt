@@ -15,8 +15,8 @@ use Rattle.geom.proofs.geometry.Pieces.{left-within}
 use Rattle.window.specs.declared.Window.{Window}
 use Rattle.window.specs.Held.{Small, rectOf, rects}
 use Rattle.rules.specs.Redraw.{none?, drawRegion, drawRegions}
+use Rattle.rules.specs.Lent.{AllFit}
 use Rattle.visible.specs.declared.region.View.{View}
-use Rattle.visible.specs.Lent.{AllFit}
 use Rattle.visible.specs.Seen.{drawn}
 use Rattle.visible.proofs.laws.Regions.{drawn-append}
 use Rattle.windows.specs.Drawing.{painted}

@@ -18,8 +18,8 @@ use Rattle.rules.specs.Redraw.{isDrawn, clean, cleanAll, drawWindow, screenFits
 use Rattle.rules.specs.Walk as Rule
 use Rattle.rules.specs.Store.{whole}
 use Rattle.rules.specs.Calls.{Call, Begin, Portion, does}
+use Rattle.rules.specs.Lent.{Lent}
 use Rattle.rules.proofs.group.Invariant.{WalkOk}
-use Rattle.visible.specs.Lent.{Lent}
 use Rattle.order.specs.declared.WinId.{WinId}
 use Rattle.order.specs.declared.rects.Rects.{Rects}
 use Rattle.order.specs.declared.frames.Frames.{Frames}

@@ -10,10 +10,10 @@ use Rattle.geom.specs.declared.Rect.{Rect}
 use Rattle.geom.specs.Geom.{meets, common}
 use Rattle.geom.specs.Inner.{Fits, Within}
 use Rattle.rules.specs.Visible.{rectsOf}
+use Rattle.rules.specs.Lent.{Lent}
+use Rattle.rules.proofs.Lent.{room-at, fits-at}
 use Rattle.visible.specs.declared.region.View.{View}
-use Rattle.visible.specs.Lent.{Lent}
 use Rattle.visible.specs.Seen.{Drawable, viewOf, regions, drawn}
-use Rattle.visible.proofs.laws.Numbers.{room-at, fits-at}
 use Rattle.visible.proofs.laws.Parts.{within-trans}
 use Rattle.visible.proofs.laws.Regions.{regions-none, drawn-none}
 use Rattle.visible.proofs.laws.Split.{missed-more, regions-leaf, Splits, split-within, above-in, left-in, right-in, below-in, fewer, drawn-four, piece-none, piece-one}

@@ -8,8 +8,8 @@ use Rattle.geom.specs.declared.Rect.{Rect}
 use Rattle.geom.specs.Inner.{Fits}
 use Rattle.geom.specs.Lists.{meetsOf}
 use Rattle.rules.specs.Visible.{rectsOf}
+use Rattle.rules.proofs.Lent.{room-at, fits-at}
 use Rattle.visible.specs.Seen.{drawn}
-use Rattle.visible.proofs.laws.Numbers.{room-at, fits-at}
 use Rattle.visible.proofs.laws.Shown.{drawable-kept, dirty-turn, dirty-all}
 use Rattle.visible.proofs.draw.draw_dirty.Statement.{statement}
 use Rattle.visible.proofs.draw.draw_dirty.Tie as tie

@@ -10,9 +10,9 @@ use Rattle.geom.specs.declared.Rect.{Rect}
 use Rattle.geom.specs.Geom.{meets, common}
 use Rattle.geom.specs.Inner.{Fits, Within}
 use Rattle.rules.specs.Visible.{rectsOf}
-use Rattle.visible.specs.Lent.{Lent}
+use Rattle.rules.specs.Lent.{Lent}
+use Rattle.rules.proofs.Lent.{room-at, fits-at}
 use Rattle.visible.specs.Seen.{seen}
-use Rattle.visible.proofs.laws.Numbers.{room-at, fits-at}
 use Rattle.visible.proofs.laws.Parts.{within-fits, within-trans}
 use Rattle.visible.proofs.laws.Regions.{seen-none}
 use Rattle.visible.proofs.laws.Turns.{Written, room-one, written-none}

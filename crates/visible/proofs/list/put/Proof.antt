@@ -2,7 +2,7 @@
 use Prim.Native.Nat.{_*_}
 use native.Mathlib.Omega.{arith}
 use lib.ListN.{length-set}
-use Rattle.visible.proofs.laws.Turns.{four-set}
+use Rattle.rules.proofs.Lent.{four-set}
 use borrow.Author.Needs.{needs}
 use Rattle.visible.proofs.list.put.Statement.{statement}
 use Rattle.visible.proofs.list.put.Tie as tie

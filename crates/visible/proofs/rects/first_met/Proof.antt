@@ -4,8 +4,8 @@ use mathlib.Core.Path.{sym, ap, subst, _∙_}
 use native.Mathlib.Omega.{arith}
 use Rattle.geom.specs.Geom.{meets}
 use Rattle.geom.specs.Inner.{Fits}
-use Rattle.visible.specs.Lent.{Missed}
-use Rattle.visible.proofs.laws.Numbers.{room-at, fits-at}
+use Rattle.rules.proofs.Lent.{room-at, fits-at}
+use Rattle.visible.specs.Seen.{Missed}
 use Rattle.visible.proofs.laws.Split.{missed-none, missed-next}
 use Rattle.visible.proofs.rects.first_met.Statement.{statement}
 use Rattle.visible.proofs.rects.first_met.Tie as tie
