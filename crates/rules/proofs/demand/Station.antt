@@ -29,7 +29,8 @@ use Rattle.rules.specs.Book.{bookOf}
 use Rattle.rules.specs.Conditions as Conditions
 use Rattle.rules.specs.Conditions.{beforeLast, unmarked}
 use Rattle.rules.specs.Demand.{pixelOf, leftAt, Ended, Two}
-use Rattle.rules.specs.Station.{before, first, between, second, picture, walk, last, back, lastBack, backPicture, meanwhile, lastMeanwhile, meanwhilePicture, switched, lastSwitched, switchedPicture}
+use Rattle.rules.specs.Layers.{Panel}
+use Rattle.rules.specs.Station.{before, first, between, second, picture, walk, last, back, lastBack, backPicture, meanwhile, lastMeanwhile, meanwhilePicture, switched, lastSwitched, switchedPicture, raised, lastRaised, raisedPicture}
 
 -- no third window is shown
 none-else : {A : Type 0} (n : ℕ) → T (isIn (suc (suc n)) (0 ∷ 1 ∷ [])) → A
@@ -170,4 +171,33 @@ station-switched = (
   refl,
   refl,
   refl,
+)
+
+-- A panel of layer 1 -------------------------------------------------------------------------------------------------
+
+marked-raised : (id : ℕ) → T (isIn id (bookOf 4 (before ++ (first ∷ raised)) .order))
+    → unmarked id (start 4 .group) false (beforeLast 4 id ((before ++ (first ∷ raised)) ++ (lastRaised ∷ []))) ≡ false
+unfolding Geom.meets Geom.common Geom.contains Geom.containsRect Geom.pieces Geom.around Geom.ifAny Lists.outside Lists.outsideAll Lists.meetsOf Lists.listIntersect Pixels.writeRows Pixels.resizedAt Window.addDirty Window.anyContains Window.merges Window.mergeOrAppend Window.pushed Group.create Group.move Group.mark Order.show Order.setLayer Order.hide Visible.visible Events.route Store.resize Store.fill Store.filledAt Draw.redraw Calls.does Calls.run Calls.after Book.turn Book.read Book.bookOf Conditions.upToLast Conditions.unmarked
+marked-raised zero h = refl
+marked-raised (suc zero) h = refl
+marked-raised (suc (suc n)) h = none-else n h
+
+-- the conditions, the screen, and that (0,0) is a point of the panel
+pub station-raised : Two 4 3 2 before first raised lastRaised × (does (after 4 (before ++ (first ∷ raised))) lastRaised .screen ≡ raisedPicture)
+    × Panel (bookOf 4 (before ++ (first ∷ raised))) 1 0 0
+unfolding Geom.meets Geom.common Geom.contains Geom.containsRect Geom.pieces Geom.around Geom.ifAny Lists.outside Lists.outsideAll Lists.meetsOf Lists.listIntersect Pixels.writeRows Pixels.resizedAt Window.addDirty Window.anyContains Window.merges Window.mergeOrAppend Window.pushed Group.create Group.move Group.mark Order.show Order.setLayer Order.hide Visible.visible Events.route Store.resize Store.fill Store.filledAt Draw.redraw Calls.does Calls.run Calls.after Book.turn Book.read Book.bookOf Conditions.Quiet Conditions.Sized Conditions.noRedraw Conditions.written
+station-raised = (
+  record {
+    first = tt;
+    second = record {
+      ended = tt;
+      quiet = (tt, tt, (tt, tt, (tt, tt, (refl, tt, (refl, tt, (refl, tt, (tt, tt, (tt, tt, (tt, tt, (tt, tt, (refl, tt, (tt, tt, (tt, tt, (refl, tt, (tt, tt, (tt, tt, (refl, refl, tt)))))))))))))))));
+      sized = (tt, (tt, (tt, (tt, (tt, (tt, (tt, (tt, (tt, (tt, ((refl, refl), (tt, (tt, (tt, (tt, (tt, ((refl, refl), tt)))))))))))))))));
+      marked = marked-raised;
+    };
+    between = tt;
+    unwritten = refl;
+  },
+  refl,
+  record { shown = tt; high = refl; has = tt },
 )

@@ -3,18 +3,18 @@
 use Prim.Native.Nat.{ℕ, suc, _<_}
 use mathlib.Core.Bool.{Bool, true, false, cond, not, _&&_, _||_}
 use mathlib.Core.Path.{_≡_, refl, sym, ap}
-use mathlib.Core.List.{List, [], _∷_, _++_}
+use mathlib.Core.List.{List, [], _∷_}
 use mathlib.Core.Option.{Option, none, some, Option·some-ne-none}
 use mathlib.Core.Logic.{_⊎_, inl, inr, _≢_}
 use native.Mathlib.Omega.{arith}
-use lib.Dec.{eqb}
+use lib.Dec.{leb, eqb}
 use lib.ListN.{length}
 use lib.Seq.{getD-set-other}
 use borrow.Author.Tests.{lt-leb, eq-eqb, ne-eqb}
 use Rattle.geom.specs.declared.Rect.{Rect}
 use Rattle.geom.specs.Geom.{width, height}
 use Rattle.geom.specs.Lists.{anyHas}
-use Rattle.geom.proofs.basics.Tests.{clash, snd, on-cond, cond-yes}
+use Rattle.geom.proofs.basics.Tests.{clash, both, snd, on-cond, cond-yes}
 use Rattle.geom.proofs.basics.Lists.{set-in}
 use Rattle.window.specs.declared.Event.{Event}
 use Rattle.window.specs.Window.{Win, newWin}
@@ -22,14 +22,14 @@ use Rattle.window.proofs.laws.Damage.{addDirty-old}
 use Rattle.rules.specs.Group as Group
 use Rattle.rules.specs.Store as Store
 use Rattle.rules.specs.Events as Events
-use Rattle.rules.specs.Group.{Group, Walk, used, win, withHeld, setWin, isOver, sentBack, theWin}
-use Rattle.rules.specs.Order.{isIn, without, shown}
+use Rattle.rules.specs.Group.{Group, Walk, used, win, withHeld, withLayers, setWin, giveLayer, isOver, sentBack, theWin}
+use Rattle.rules.specs.Order.{isIn, without, inserted, shown}
 use Rattle.rules.specs.Events.{topmost, afterPop}
 use Rattle.rules.specs.Walk.{doneOf}
-use Rattle.rules.specs.Calls.{Call, Create, Show, Hide, Drop, Mark, Pop, Move, Resize, Fill, Blit, Route, Redraw, Begin, Portion, Dim, does, accepted}
+use Rattle.rules.specs.Calls.{Call, Create, Show, Hide, Drop, Mark, Pop, Move, Resize, Fill, Blit, Route, Redraw, Begin, Portion, Dim, SetLayer, does, accepted}
 use Rattle.rules.specs.Conditions.{deed, lentScreen, owesMark}
 use Rattle.rules.proofs.group.Topmost.{topmost-same}
-use Rattle.rules.proofs.group.Steps.{on-create, on-show, on-hide, on-drop, on-move, on-pop, on-key, on-to, on-pointed, on-route, on-dim, on-resize, on-fill, on-blit}
+use Rattle.rules.proofs.group.Steps.{on-create, on-show, on-hide, on-drop, on-move, on-pop, on-key, on-to, on-pointed, on-route, on-dim, on-layer, on-resize, on-fill, on-blit}
 use Rattle.rules.proofs.group.Invariant.{Ok, used-below, free-place}
 
 -- What is kept -------------------------------------------------------------------------------------------------------
@@ -133,6 +133,10 @@ module _ (g : Group) (ok : Ok g) where
   calm-held : (r : Group) (h : Option ℕ) → Calm g r as-was → Calm g (withHeld h r) as-was
   calm-held r h k = record { c = k .c; order = k .order; owed = k .owed; walk = k .walk; dimmed = k .dimmed; each = k .each }
 
+  -- a layer is changed: where the order stays nothing rests on it
+  calm-layers : (ls : List ℕ) (r : Group) (f : ℕ → Bool → Bool) → Calm g r f → Calm g (withLayers ls r) f
+  calm-layers ls r f k = record { c = k .c; order = k .order; owed = k .owed; walk = k .walk; dimmed = k .dimmed; each = k .each }
+
   calm-pop : (i : ℕ) (q : List Event) (d : Bool) → Calm g (setWin i (some (afterPop (win g i) q d)) g) as-was
   calm-pop i [] true = calm-alike i _ refl refl refl
   calm-pop i [] false = calm-alike i _ refl refl refl
@@ -175,8 +179,8 @@ module _ (g : Group) (ok : Ok g) where
   unfolding does Group.create
   stays-create e =
       on-create (Stays g Create) g
-      (λ n f. inr (calm-set g ok n newWin (flag g Create)
-      (λ s. clash (ok .shown-used n s) (free-place g n f .1)) (λ id ne u q. rw (f, ne-eqb n id (λ k. ne (sym k))) at q)))
+      (λ n f. inr (calm-layers (giveLayer n 0 g .layers) (setWin n (some newWin) g) (flag g Create)
+      (calm-set g ok n newWin (flag g Create) (λ s. clash (ok .shown-used n s) (free-place g n f .1)) (λ id ne u q. rw (f, ne-eqb n id (λ k. ne (sym k))) at q))))
       (λ f. clash e (rw f))
 
   stays-mark : (i : ℕ) → accepted g (Mark i) ≡ true → Stays g (Mark i) (does g (Mark i) .group)
@@ -193,7 +197,7 @@ module _ (g : Group) (ok : Ok g) where
   pub stays : (k : Call) → lentScreen k ≡ none → deed k .begins ≡ false → accepted g k ≡ true → Stays g k (does g k .group)
   unfolding does
   stays Create r b e = stays-create e
-  stays (Show i) r b e = on-show (Stays g (Show i)) g i (λ u. inl (snd (used g i) _ u, sent-back (g .order ++ (i ∷ [])) (g .walk))) (λ u. inr as-it-was)
+  stays (Show i) r b e = on-show (Stays g (Show i)) g i (λ u. inl (snd (used g i) _ u, sent-back (inserted (g .layers) i (g .order)) (g .walk))) (λ u. inr as-it-was)
   stays (Hide i) r b e =
       on-hide (Stays g (Hide i)) g i (λ u. on-cond (Stays g (Hide i)) (shown g i) _ _ (λ s. inl (s, sent-back (without i (g .order)) (g .walk))) (λ s. inr as-it-was)) (λ u. inr as-it-was)
   stays (Drop i) r b e =
@@ -213,3 +217,9 @@ module _ (g : Group) (ok : Ok g) where
   stays (Begin told) r b e = clash refl b
   stays (Portion w h s screen) r b e = absurd (Option·some-ne-none screen r)
   stays (Dim on) r b e = on-dim (Stays g (Dim on)) g on (λ q. inl (rw q, sent-back (g .order) (g .walk))) (λ q. inr as-it-was)
+  stays (SetLayer i l) r b e =
+      on-layer (Stays g (SetLayer i l)) g i l
+      (λ u. on-cond (Stays g (SetLayer i l)) (shown g i) _ (giveLayer i l g)
+      (λ s. inl (both s (snd (used g i && leb l 1) _ u), sent-back (inserted (giveLayer i l g .layers) i (without i (g .order))) (g .walk)))
+      (λ s. inr (calm-layers (giveLayer i l g .layers) g as-was as-it-was)))
+      (λ u. inr as-it-was)
