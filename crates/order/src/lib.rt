@@ -14,6 +14,7 @@ use places::with_window;
 pub mod due;
 pub mod frames;
 pub mod hits;
+pub mod layers;
 pub mod places;
 pub mod points;
 pub mod rects;

@@ -121,6 +121,20 @@ pub extern "C" fn roq_move(s: &mut Session, id: WinId, x: u32, y: u32) -> u32
 }
 
 #[no_mangle]
+pub extern "C" fn roq_set_layer(s: &mut Session, id: WinId, layer: u32) -> u32
+    requires { ⌜ Given (now s) ⌝ }
+    ensures { λ r. ⌜ Meets (Call.SetLayer (id .0) layer) (now (s .entry)) (done (now (s .exit)) r) ⌝ }
+{
+    let at = slot(id);
+    let d = one::set_layer((*s).windows[at], (*s).shared, id, layer);
+    let w = d.window;
+    (*s).windows[at] = w;
+    let k = d.shared;
+    (*s).shared = k;
+    d.answer
+}
+
+#[no_mangle]
 pub extern "C" fn roq_resize(s: &mut Session, id: WinId, w: u32, h: u32, store: &mut [u32]) -> u32
     requires { ⌜ Given (now s) ⌝ }
     ensures { λ r. ⌜ MeetsStore (Call.Resize (id .0) w h (now (store .entry))) (now (s .entry)) (done (now (s .exit)) r) (now (store .exit)) ⌝ }

@@ -1,7 +1,8 @@
--- How a session holds a group, what its calls promise, and demand 3 and two panels of the program; then what our own functions say.
+-- How a session holds a group, what its calls promise, and demand 3, two panels and panels that stay on top of the program; then what our own functions say.
 pub mod View
 pub mod Run
 pub mod Panels
+pub mod Layers
 pub mod One
 pub mod Frames
 pub mod Drawing

@@ -55,6 +55,7 @@ group s =
       walk = walkOf (s .shared .due .walk);
       dimmed = s .shared .dimmed;
       held = heldOf (s .shared .held);
+      layers = s .shared .layers;
     }
 
 -- Which sessions there are ----------------------------------------------------------------------------------------------

@@ -3,10 +3,11 @@ use Prim.Native.Nat.{ℕ, suc, _*_, _<_}
 use mathlib.Core.Path.{_≡_}
 use mathlib.Core.Bool.{Bool, true, false, cond, _||_}
 use mathlib.Core.List.{List, map}
+use lib.Dec.{eqb}
 use lib.ListN.{getD, drop}
 use Rattle.window.specs.declared.Window.{Window}
-use Rattle.rules.specs.Group.{win}
-use Rattle.rules.specs.Order.{hidden}
+use Rattle.rules.specs.Group.{win, layer, giveLayer}
+use Rattle.rules.specs.Order.{hidden, toTop}
 use Rattle.rules.specs.Calls.{Call}
 use Rattle.order.specs.declared.WinId.{WinId}
 use Rattle.order.specs.Order.{noId}
@@ -24,19 +25,23 @@ use Rattle.windows.specs.One.{put}
 -- Parts of what is shared set -----------------------------------------------------------------------------------------
 
 abbrev pub ordered : List WinId → ℕ → WinId → Shared → Shared
-ordered o n f k = record { order = o; shown = n; c = k .c; focus = f; dimmed = k .dimmed; held = k .held; due = k .due }
+ordered o n f k = record { order = o; shown = n; c = k .c; focus = f; dimmed = k .dimmed; held = k .held; due = k .due; layers = k .layers }
 
 -- what is still to be drawn
 abbrev pub noted : Due → Shared → Shared
-noted u k = record { order = k .order; shown = k .shown; c = k .c; focus = k .focus; dimmed = k .dimmed; held = k .held; due = u }
+noted u k = record { order = k .order; shown = k .shown; c = k .c; focus = k .focus; dimmed = k .dimmed; held = k .held; due = u; layers = k .layers }
 
 -- whether dimming is on
 abbrev pub dimming : Bool → Shared → Shared
-dimming on k = record { order = k .order; shown = k .shown; c = k .c; focus = k .focus; dimmed = on; held = k .held; due = k .due }
+dimming on k = record { order = k .order; shown = k .shown; c = k .c; focus = k .focus; dimmed = on; held = k .held; due = k .due; layers = k .layers }
 
 -- the number of the window that is remembered
 abbrev pub holding : ℕ → Shared → Shared
-holding h k = record { order = k .order; shown = k .shown; c = k .c; focus = k .focus; dimmed = k .dimmed; held = h; due = k .due }
+holding h k = record { order = k .order; shown = k .shown; c = k .c; focus = k .focus; dimmed = k .dimmed; held = h; due = k .due; layers = k .layers }
+
+-- the layers of the windows by their numbers
+abbrev pub layering : List ℕ → Shared → Shared
+layering ls k = record { order = k .order; shown = k .shown; c = k .c; focus = k .focus; dimmed = k .dimmed; held = k .held; due = k .due; layers = ls }
 
 abbrev pub sharing : Shared → Session → Session
 sharing k s = record { windows = s .windows; shared = k }
@@ -48,6 +53,12 @@ indebted k = noted (owing (k .due) (k .shown)) k
 -- every session that shares k, with r instead, holds the group without the window in its order
 abbrev pub Hides : ℕ → Shared → Shared → Type 0
 Hides id k r = (s : Session) → Given s → s .shared ≡ k → (group (sharing r s) ≡ hidden id (group s)) × Rep (sharing r s)
+
+-- the same with the window on a layer, at its top if shown; "giving the layer it has changes nothing"
+abbrev pub PutsOn : ℕ → ℕ → Shared → Shared → Type 0
+PutsOn id l k r =
+    (s : Session) → Given s → s .shared ≡ k
+    → (group (sharing r s) ≡ cond (eqb l (layer (group s) id)) (group s) (toTop id (giveLayer id l (group s)))) × Rep (sharing r s)
 
 -- the walk is one window further
 abbrev pub onward : Shared → Shared

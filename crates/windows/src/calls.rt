@@ -100,6 +100,15 @@ impl Session {
         self.put(at, d)
     }
 
+    pub fn set_layer(self, id: WinId, layer: u32) -> Done
+        requires { ⌜ Given self ⌝ }
+        ensures { λ r. ⌜ Meets (Call.SetLayer (id .0) layer) self r ⌝ }
+    {
+        let at = slot(id);
+        let d = one::set_layer(self.windows[at], self.shared, id, layer);
+        self.put(at, d)
+    }
+
     pub fn resize(self, id: WinId, size: Dims, store: &mut [u32]) -> Done
         requires { ⌜ Given self ⌝ }
         ensures { λ r. ⌜ MeetsStore (Call.Resize (id .0) (size .w) (size .h) (now (store .entry))) self r (now (store .exit)) ⌝ }

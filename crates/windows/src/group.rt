@@ -38,6 +38,7 @@ impl Session {
             dimmed: false,
             held: NOBODY,
             due,
+            layers: [0; 16],
         };
         Session { windows, shared }
     }

@@ -6,6 +6,7 @@
 //     windows: [Window; 16]      0     1     2     3     4  …  15     by number; a window that is not `used` is free
 //     shared: the order          3     0     1     -     -  …   -     the first `shown` places, lowest first: window 1 is on top
 //             place              0     1     2                        window 2 is hidden: it is used and has no place
+//             the layers         0     1     0     0     0  …   0     by number: window 1 stays above those of layer 0
 //             C, the focus, whether dimming is on, the window that took the last MouseDown, whether a full redraw is owed, and the walk of a
 //             redraw that goes window by window
 //     the lent store             C     C     C     C     C  …   C     window i has the C pixels from i × C on, rows of its own width
@@ -32,7 +33,8 @@ mod small;
 pub mod store;
 
 // What the windows share: the render order, which holds the shown ones in its first `shown` places, lowest first; C; the focus; whether dimming
-// is on; `held`, the number of the window that took the last MouseDown, while it is remembered, else 16; and what is still to be drawn.
+// is on; `held`, the number of the window that took the last MouseDown, while it is remembered, else 16; what is still to be drawn; and the layer
+// of each window by its number, 0 or 1, which is not looked at where the number is not in use.
 #[repr(C)]
 pub struct Shared {
     pub order: [WinId; 16],
@@ -42,6 +44,7 @@ pub struct Shared {
     pub dimmed: bool,
     pub held: u8,
     pub due: Due,
+    pub layers: [u8; 16],
 }
 
 #[repr(C)]

@@ -2,22 +2,24 @@
 // pointer both stand on them. A refused call hands back the window and what is shared as it got them.
 ghost use mathlib.Core.Path.{_≡_};
 ghost use mathlib.Core.Bool.{_&&_};
+ghost use Prim.Native.Nat.{_<_};
 ghost use lib.Dec.{ltb};
 ghost use Rattle.rules.specs.Calls.{Call};
 ghost use Rattle.windows.specs.One.{At, Held, SharedBy, MeetsAt, CreatesAt};
-ghost use Rattle.windows.specs.Walk.{Hides};
+ghost use Rattle.windows.specs.Walk.{Hides, PutsOn};
 use crate::Changed;
 use crate::CreatedOne;
 use crate::NewId;
 use crate::Shared;
 use crate::small::small_point;
-use order::Place;
 use order::RenderIdx;
 use order::WinId;
 use order::close_gap;
 use order::focus_after;
 use order::get_render_idx;
-use order::places::with_window;
+use order::layers::insert;
+use order::layers::to_top;
+use order::layers::with_layer;
 use order::release::forget;
 use window::Window;
 
@@ -42,8 +44,9 @@ pub fn is_used(win: Window, id: WinId) -> bool
     false
 }
 
-// A window that is not shown and has no pixels, if the place of this id is free.
-pub fn create(win: Window, shared: Shared, id: WinId) -> CreatedOne
+// A window of layer 0 that is not shown and has no pixels, if the place of this id is free.
+pub fn create(win: Window, mut shared: Shared, id: WinId) -> CreatedOne
+    requires { ⌜ id .0 < 16 ⌝ }
     ensures { λ r. ⌜ CreatesAt (id .0) win shared r ⌝ }
 {
     if win.used {
@@ -55,6 +58,9 @@ pub fn create(win: Window, shared: Shared, id: WinId) -> CreatedOne
         };
     }
     let window = Window::fresh();
+    let was = shared.layers;
+    let layers = with_layer(was, id, 0);
+    shared.layers = layers;
     CreatedOne {
         window,
         shared,
@@ -102,7 +108,7 @@ pub fn move_window(mut win: Window, mut shared: Shared, id: WinId, x: u32, y: u3
     }
 }
 
-// On top of the order, with the focus; nothing if shown already.
+// On top of its layer, with the focus; nothing if shown already.
 pub fn show(win: Window, mut shared: Shared, id: WinId) -> Changed
     requires { ⌜ Held (id .0) win shared ⌝ }
     ensures { λ r. ⌜ MeetsAt (Call.Show (id .0)) (id .0) win shared r ⌝ }
@@ -112,13 +118,57 @@ pub fn show(win: Window, mut shared: Shared, id: WinId) -> Changed
         answer = 0;
         let n = shared.shown;
         let order = shared.order;
+        let layers = shared.layers;
         let idx = get_render_idx(order, n, id);
         if let RenderIdx::Hidden = idx {
-            let longer = with_window(order, Place(n), id);
+            let longer = insert(layers, order, n, id);
             shared.order = longer;
             shared.shown = n + 1;
             shared.focus = id;
             shared = shared.owing();
+        }
+    }
+    Changed {
+        window: win,
+        shared,
+        answer,
+    }
+}
+
+// What is shared, with this window of another layer, at its top if shown; as it is if the window has this layer.
+fn layered(mut shared: Shared, id: WinId, layer: u8) -> Shared
+    requires { ⌜ SharedBy shared × (id .0 < 16) ⌝ }
+    ensures { λ r. ⌜ PutsOn (id .0) layer shared r ⌝ }
+{
+    let at = id.0 as usize;
+    let was = shared.layers;
+    if was[at] == layer {
+        return shared;
+    }
+    let layers = with_layer(was, id, layer);
+    shared.layers = layers;
+    let n = shared.shown;
+    let order = shared.order;
+    let idx = get_render_idx(order, n, id);
+    if let RenderIdx::At(p) = idx {
+        let moved = to_top(layers, order, n, p, id);
+        shared.order = moved;
+        shared = shared.owing(); // it covers others now, or they cover it
+    }
+    shared
+}
+
+// Puts the window on a layer; the focus stays where it is.
+pub fn set_layer(win: Window, mut shared: Shared, id: WinId, layer: u32) -> Changed
+    requires { ⌜ Held (id .0) win shared ⌝ }
+    ensures { λ r. ⌜ MeetsAt (Call.SetLayer (id .0) layer) (id .0) win shared r ⌝ }
+{
+    let mut answer: u32 = 3;
+    if is_used(win, id) {
+        answer = 17;
+        if layer <= 1 {
+            answer = 0;
+            shared = layered(shared, id, layer as u8);
         }
     }
     Changed {

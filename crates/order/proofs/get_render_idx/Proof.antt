@@ -1,13 +1,15 @@
 -- The places below i hold other windows.
 use Prim.Native.Nat.{_-_}
 use native.Mathlib.Omega.{arith}
-use Rattle.order.proofs.laws.Order.{Placing, place-hit, place-miss, place-end}
+use lib.Dec.{eqb}
+use borrow.Author.Tests.{ne-eqb}
+use Rattle.order.proofs.laws.Order.{Seeking, seek-miss, place-hit, place-end}
 use borrow.Author.Needs.{needs}
 use Rattle.order.proofs.get_render_idx.Statement.{statement}
 use Rattle.order.proofs.get_render_idx.Tie as tie
 
 abbrev Inv-loop : tie.InvT-loop
-Inv-loop shown order k i₀ i = Placing order shown k i
+Inv-loop shown order k i₀ i = Seeking order shown (λ j. eqb j k) i
 
 abbrev μ-loop : tie.MeasureT-loop
 μ-loop shown order k i₀ i = shown - i
@@ -22,7 +24,7 @@ array-copy-out-w : tie.Need-array-copy-out-w Inv-loop μ-loop
 array-copy-out-w c = omega (arith, c .loop-test .taken, c .before .loop .inv .few)
 
 returns : tie.Need-returns Inv-loop μ-loop
-returns c = let i = c .before .before .before in place-hit (i .before .loop .inv) (i .loop-test .taken) (c .if1 .taken)
+returns c = let i = c .before .before .before in place-hit _ (i .before .loop .inv) (i .loop-test .taken) (c .if1 .taken)
 
 add-i : tie.Need-add-i Inv-loop μ-loop
 add-i c = let i = c .before .before .before in omega (arith, i .loop-test .taken, i .before .loop .inv .few)
@@ -31,10 +33,10 @@ loop-less : tie.Need-loop-less Inv-loop μ-loop
 loop-less c = let i = c .before .before .before in omega (arith, i .loop-test .taken)
 
 loop-again : tie.Need-loop-again Inv-loop μ-loop
-loop-again c = let i = c .before .before .before in place-miss (i .before .loop .inv) (i .loop-test .taken) (c .if1 .left)
+loop-again c = let i = c .before .before .before in seek-miss (i .before .loop .inv) (i .loop-test .taken) (ne-eqb _ _ (c .if1 .left))
 
 returns-2 : tie.Need-returns-2 Inv-loop μ-loop
-returns-2 c = place-end (c .before .loop .inv) (c .loop-test .left)
+returns-2 c = place-end _ (c .before .loop .inv) (c .loop-test .left)
 
 pub get-render-idx-spec : {M : Type 1} → statement M
 get-render-idx-spec = tie.close (tie.spec Inv-loop μ-loop loop-holds mul-w array-copy-out-w returns add-i loop-less loop-again returns-2)

@@ -1,22 +1,25 @@
 -- The render order in its array: the search for a window's place, and the gap that a hidden window leaves.
 use Prim.Native.Nat.{ℕ, zero, suc, _+_, _-_, _≤_, _<_}
-use mathlib.Core.Path.{_≡_, refl, ap, _∙_}
+use mathlib.Core.Path.{_≡_, refl, sym, ap, _∙_}
 use mathlib.Core.Bool.{Bool, true, false, cond}
 use mathlib.Core.List.{List, [], _∷_, _++_, map, append-nil, append-assoc, map-append}
 use mathlib.Core.Option.{none, some}
 use mathlib.Core.Logic.{⊎-elim}
 use native.Mathlib.Omega.{arith}
 use native.Mathlib.Numerals.{add-one}
+use native.Mathlib.Nat.{not-suc-le-zero}
 use lib.Dec.{eqb}
 use lib.ListN.{length, getD, set, take, drop, length-map, length-take, length-set, drop-of-length-le, List·getD-map}
 use lib.Seq.{drop-cons, getD-take, length-take-le, take-take, take-suc, take-suc-set, drop-append-le}
-use borrow.Author.Tests.{eq-eqb, ne-eqb}
-use Rattle.geom.proofs.basics.Tests.{clash, lt-or-le}
+use borrow.Author.Tests.{eq-eqb}
+use Rattle.geom.proofs.basics.Tests.{clash, lt-or-le, or-right}
 use Rattle.rules.specs.Order.{isIn, placeOf, without}
+use Rattle.rules.proofs.group.Order.{isIn-here}
 use Rattle.rules.proofs.group.Room.{shown-place, hidden-place}
 use Rattle.order.specs.declared.WinId.{WinId}
 use Rattle.order.specs.Ids.{num, ids}
 use Rattle.order.specs.Order.{noId, renderIdx, Closed}
+use Rattle.order.specs.Layers.{firstOf}
 
 pub ids-length : (n : ℕ) (l : List WinId) → n ≤ length l → length (ids n l) ≡ n
 ids-length n l h = length-map (take n l) num ∙ length-take-le n l h
@@ -30,6 +33,15 @@ ids-at n i l h = List·getD-map num (take n l) i noId ∙ ap num (getD-take n l 
 pub ids-from : (order : List WinId) (n i : ℕ) → n ≤ length order → i < n → drop i (ids n order) ≡ getD order i noId .0 ∷ drop (suc i) (ids n order)
 ids-from order n i k h =
     drop-cons (ids n order) i 0 (omega (arith, ids-length n order k)) ∙ ap (λ (e : ℕ). e ∷ drop (suc i) (ids n order)) (ids-at n i order h)
+
+pub is-in-at : (o : List ℕ) (i : ℕ) → i < length o → isIn (getD o i 0) o ≡ true
+is-in-at [] i h = absurd (not-suc-le-zero h)
+is-in-at (x ∷ o) zero h = isIn-here x o
+is-in-at (x ∷ o) (suc i) h = or-right (eqb x (getD o i 0)) (isIn (getD o i 0) o) (is-in-at o i (omega arith))
+
+-- the id at a place of the order stands in it
+pub in-at : (order : List WinId) (n i : ℕ) → n ≤ length order → i < n → isIn (getD order i noId .0) (ids n order) ≡ true
+in-at order n i k h = ap (λ (j : ℕ). isIn j (ids n order)) (sym (ids-at n i order h)) ∙ is-in-at (ids n order) i (omega (arith, h, ids-length n order k))
 
 -- The search for a place ----------------------------------------------------------------------------------------------
 
@@ -51,33 +63,49 @@ is-nowhere id o = go (isIn id o) refl
 pub place-low : (id : ℕ) (o : List ℕ) → isIn id o ≡ true → placeOf id o < length o
 place-low id o i = ⊎-elim (λ l. l) (λ l. clash i (hidden-place id o l)) (lt-or-le (placeOf id o) (length o))
 
--- the first i are passed
-pub record Placing (order : List WinId) (n id i : ℕ) : Type 0 where
+-- the first i do not pass the test
+pub record Seeking (order : List WinId) (n : ℕ) (t : ℕ → Bool) (i : ℕ) : Type 0 where
   pub size : length order ≡ 16
   pub few : n ≤ 16
   pub within : i ≤ n
-  pub so-far : placeOf id (ids n order) ≡ i + placeOf id (drop i (ids n order))
+  pub so-far : firstOf t (ids n order) ≡ i + firstOf t (drop i (ids n order))
 
-module _ {order : List WinId} {n id i : ℕ} (q : Placing order n id i) where
-  count : length (ids n order) ≡ n
+module _ {order : List WinId} {n : ℕ} {t : ℕ → Bool} {i : ℕ} (q : Seeking order n t i) where
+  pub count : length (ids n order) ≡ n
   count = ids-length n order (omega (arith, q .size, q .few))
 
   next : i < n → drop i (ids n order) ≡ getD order i noId .0 ∷ drop (suc i) (ids n order)
   next h = ids-from order n i (omega (arith, q .size, q .few)) h
 
-  pub place-hit : i < n → getD order i noId .0 ≡ id → some i ≡ renderIdx id (ids n order)
-  place-hit h e =
-      let z : placeOf id (drop i (ids n order)) ≡ 0 = rw (next h, eq-eqb (getD order i noId .0) id e) refl in
-      let p : i ≡ placeOf id (ids n order) = omega (arith, q .so-far) in
-      rw (shown-place id (ids n order) (omega (arith, count))) (ap some p)
+  pub seek-hit : i < n → t (getD order i noId .0) ≡ true → i ≡ firstOf t (ids n order)
+  seek-hit h e =
+      let z : firstOf t (drop i (ids n order)) ≡ 0 = rw (next h, e) refl in
+      omega (arith, q .so-far)
 
-  pub place-miss : i < n → (getD order i noId .0 ≡ id → ⊥) → Placing order n id (i + 1)
-  place-miss h e =
-      let z : placeOf id (drop i (ids n order)) ≡ suc (placeOf id (drop (suc i) (ids n order))) = rw (next h, ne-eqb (getD order i noId .0) id e) refl in
+  pub seek-miss : i < n → t (getD order i noId .0) ≡ false → Seeking order n t (i + 1)
+  seek-miss h e =
+      let z : firstOf t (drop i (ids n order)) ≡ suc (firstOf t (drop (suc i) (ids n order))) = rw (next h, e) refl in
       record { size = q .size; few = q .few; within = omega arith; so-far = rw add-one (omega (arith, q .so-far)) }
 
+  pub seek-end : n ≤ i → n ≡ firstOf t (ids n order)
+  seek-end h =
+      let z : drop i (ids n order) ≡ [] = drop-of-length-le (ids n order) {i = i} (omega (arith, count)) in
+      let y : firstOf t (drop i (ids n order)) ≡ 0 = ap (firstOf t) z in
+      omega (arith, q .so-far, q .within)
+
+-- a window's place is that of the first id that is its own
+place-first : (id : ℕ) (o : List ℕ) → placeOf id o ≡ firstOf (λ j. eqb j id) o
+place-first id [] = refl
+place-first id (x ∷ o) = ap (λ (p : ℕ). cond (eqb x id) 0 (suc p)) (place-first id o)
+
+module _ {order : List WinId} {n i : ℕ} (id : ℕ) (q : Seeking order n (λ j. eqb j id) i) where
+  pub place-hit : i < n → getD order i noId .0 ≡ id → some i ≡ renderIdx id (ids n order)
+  place-hit h e =
+      let p : i ≡ placeOf id (ids n order) = seek-hit q h (eq-eqb (getD order i noId .0) id e) ∙ sym (place-first id (ids n order)) in
+      rw (shown-place id (ids n order) (omega (arith, count q))) (ap some p)
+
   pub place-end : n ≤ i → none ≡ renderIdx id (ids n order)
-  place-end h = rw (hidden-place id (ids n order) (omega (arith, q .so-far, count)))
+  place-end h = rw (hidden-place id (ids n order) (omega (arith, seek-end q h, place-first id (ids n order), count q)))
 
 -- A gap closed ------------------------------------------------------------------------------------------------------
 

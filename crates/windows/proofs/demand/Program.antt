@@ -55,17 +55,22 @@ left-same w px py g (m ∷ ms) more n h =
     ap (λ (k : ℕ). leftAt (does g (m .call) .group) w px py k ms) (wrote-same g (accepted g (m .call)) (deed (m .call) .draws) (m .screen) _ w px py n (h .2))
     ∙ left-same w px py (does g (m .call) .group) ms more _ (h .3)
 
+-- the screen that the second of two redraws left
+pub second-screen : (c : ℕ) (ms₁ : List Made) (m₁ : Made) (ms₂ : List Made) (m₂ : Made) (rest : List Made)
+    → AsRuled (start c .group) (ms₁ ++ (m₁ ∷ (ms₂ ++ (m₂ ∷ rest)))) → {w h : ℕ} → Demand.Two c w h (calls ms₁) (m₁ .call) (calls ms₂) (m₂ .call)
+    → m₂ .screen ≡ does (after c (calls ms₁ ++ (m₁ .call ∷ calls ms₂))) (m₂ .call) .screen
+second-screen c ms₁ m₁ ms₂ m₂ rest all two =
+    let same = calls-append ms₁ (m₁ ∷ ms₂) in
+    screen-is c (ms₁ ++ (m₁ ∷ ms₂)) m₂ rest (rw append-assoc all) (subst (λ (ks : List Call). T (ends (after c ks) (m₂ .call))) (sym same) (two .second .ended))
+    ∙ ap (λ (ks : List Call). does (after c ks) (m₂ .call) .screen) same
+
 run-pixels : (c : ℕ) (ms : List Made) → AsRuled (start c .group) ms → RunPixels c ms
 unfolding RunPixels Demand.Demand3 Demand.Pixels after AsRuled
 run-pixels c ms h w v ms₁ m₁ ms₂ m₂ rest e two px py hx hy =
     let all : AsRuled (start c .group) (ms₁ ++ (m₁ ∷ (ms₂ ++ (m₂ ∷ rest)))) = subst (AsRuled (start c .group)) e h in
-    let split : AsRuled (start c .group) ((ms₁ ++ (m₁ ∷ ms₂)) ++ (m₂ ∷ rest)) = rw append-assoc all in
     let g = does (after c (calls ms₁)) (m₁ .call) .group in
     let b = bookOf c (calls ms₁ ++ (m₁ .call ∷ calls ms₂)) in
-    let same = calls-append ms₁ (m₁ ∷ ms₂) in
-    ap (λ (z : List ℕ). pixelAt z w px py)
-    (screen-is c (ms₁ ++ (m₁ ∷ ms₂)) m₂ rest split (subst (λ (ks : List Call). T (ends (after c ks) (m₂ .call))) (sym same) (two .second .ended))
-    ∙ ap (λ (ks : List Call). does (after c ks) (m₂ .call) .screen) same)
+    ap (λ (z : List ℕ). pixelAt z w px py) (second-screen c ms₁ m₁ ms₂ m₂ rest all two)
     ∙ demand-3 c (calls ms₁ ++ (m₁ .call ∷ (calls ms₂ ++ (m₂ .call ∷ [])))) .0 w v (calls ms₁) (m₁ .call) (calls ms₂) (m₂ .call) [] refl two px py hx hy
     ∙ ap (expected b (topmost b px py) px py)
     (sym (left-same w px py g ms₂ (m₂ ∷ rest) (pixelAt (m₁ .screen) w px py) (ruled-from (start c .group) ms₁ (m₁ ∷ (ms₂ ++ (m₂ ∷ rest))) all .3)

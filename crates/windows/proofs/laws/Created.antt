@@ -5,7 +5,7 @@ use mathlib.Core.Bool.{true}
 use mathlib.Core.List.{_∷_}
 use mathlib.Core.Option.{none, some}
 use native.Mathlib.Omega.{arith}
-use lib.ListN.{length, drop, length-map, drop-of-length-le}
+use lib.ListN.{length, drop, set, length-map, drop-of-length-le}
 use lib.Seq.{drop-cons}
 use Rattle.window.specs.declared.Window.{Window}
 use Rattle.window.specs.Window.{Win, newWin}
@@ -19,8 +19,10 @@ use Rattle.windows.specs.declared.Session.{Session}
 use Rattle.windows.specs.declared.NewId.the-variants.{Id, Absent}
 use Rattle.windows.specs.View.{cell, group, windowAt, Given, MeetsId}
 use Rattle.windows.specs.One.{Free}
+use Rattle.windows.specs.Walk.{layering, sharing}
 use Rattle.windows.specs.Frames.{Framed}
-use Rattle.windows.proofs.laws.Session.{cell-at, is-cell, no-cell, putWindow, refuses, puts}
+use Rattle.windows.proofs.laws.Session.{cell-at, is-cell, no-cell, putWindow, put-group, put-rep, refuses, gives}
+use Rattle.windows.proofs.laws.Shared.{layers-shared}
 
 -- The smallest unused number ----------------------------------------------------------------------------------------
 
@@ -56,11 +58,18 @@ pub full : (s : Session) → Given s → firstFree (group s .windows) 0 ≡ none
 unfolding does Group.create
 full s h e = record { meets = refuses Create s 3 h (rw e); id = sym e }
 
+-- its layer is 0
+abbrev lowest : ℕ → Session → Session
+lowest i s = sharing (layering (set (s .shared .layers) i 0) (s .shared)) s
+
 pub created : (s : Session) (v : Window) (i : ℕ) → Given s → firstFree (group s .windows) 0 ≡ some i → v .used ≡ true → winOf v ≡ newWin → RepWindow v
-    → MeetsId Create s (record { session = putWindow i v s; answer = 0; id = Id (record { 0 = i }) })
-unfolding does Group.create
+    → MeetsId Create s (record { session = putWindow i v (lowest i s); answer = 0; id = Id (record { 0 = i }) })
+unfolding group does Group.create
 created s v i h e u w r =
+    let k = layers-shared (set (s .shared .layers) i 0) in
     record {
-      meets = puts Create s i v h u r (rw e) (ap (λ (x : Win). setWin i (some x) (group s)) w ∙ rw e);
+      meets =
+          gives Create s (putWindow i v (lowest i s)) h (put-rep (lowest i s) i v (k .rep s (h .rep)) r) (rw e)
+          (put-group (lowest i s) i v u ∙ ap (λ (x : Win). setWin i (some x) (group (lowest i s))) w ∙ rw e);
       id = sym e;
     }

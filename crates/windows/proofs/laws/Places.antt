@@ -9,26 +9,22 @@ use native.Mathlib.Nat.{not-suc-le-zero}
 use lib.Dec.{eqb}
 use lib.ListN.{length, getD, drop}
 use borrow.Author.Tests.{eqb-true, eq-eqb}
-use Rattle.geom.proofs.basics.Tests.{clash, is-false, or-right}
+use Rattle.geom.proofs.basics.Tests.{clash, is-false}
 use Rattle.window.specs.Held.{winOf}
 use Rattle.rules.specs.Group.{used, win}
 use Rattle.rules.specs.Order.{isIn, placeOf, above, shown}
-use Rattle.rules.proofs.group.Order.{Distinct, isIn-here}
+use Rattle.rules.proofs.group.Order.{Distinct}
 use Rattle.rules.proofs.group.Invariant.{used-small}
 use Rattle.order.specs.declared.WinId.{WinId}
 use Rattle.windows.specs.declared.Session.{Session}
 use Rattle.windows.specs.View.{group, windowAt, Given}
 use Rattle.order.specs.Ids.{num, ids}
 use Rattle.order.specs.Order.{noId, renderIdx}
+use Rattle.order.specs.Layers.{Low}
 use Rattle.windows.proofs.laws.Session.{used-at, win-at, given-ok}
-use Rattle.order.proofs.laws.Order.{ids-length, ids-at, is-at, is-nowhere, place-low}
+use Rattle.order.proofs.laws.Order.{ids-length, ids-at, is-in-at, is-at, is-nowhere, place-low}
 
 -- Orders of ids ------------------------------------------------------------------------------------------------------
-
-is-in-at : (o : List ℕ) (i : ℕ) → i < length o → isIn (getD o i 0) o ≡ true
-is-in-at [] i h = absurd (not-suc-le-zero h)
-is-in-at (x ∷ o) zero h = isIn-here x o
-is-in-at (x ∷ o) (suc i) h = or-right (eqb x (getD o i 0)) (isIn (getD o i 0) o) (is-in-at o i (omega arith))
 
 -- an id that stands once has the place where it stands
 place-at : (o : List ℕ) (i : ℕ) → Distinct o → i < length o → placeOf (getD o i 0) o ≡ i
@@ -67,6 +63,11 @@ module _ (s : Session) (h : Given s) where
     pub in-order : p < s .shared .shown
     unfolding group
     in-order = omega (arith, has-place, order-length, place-low id (group s .order) is-shown)
+
+  -- every window of the order has a number below 16
+  pub order-low : Low (ids (s .shared .shown) (s .shared .order))
+  unfolding group
+  order-low i e = used-small (group s) i (given-ok s h) (given-ok s h .shown-used i e)
 
   pub isnt-shown : (id : ℕ) → none ≡ renderIdx id (ids (s .shared .shown) (s .shared .order)) → shown (group s) id ≡ false
   unfolding group

@@ -2,10 +2,11 @@
 use Prim.Native.Nat.{ℕ}
 use mathlib.Core.Path.{_≡_, refl, ap, _∙_}
 use mathlib.Core.Bool.{Bool, true, false, cond, not, _&&_, and-true, and-false}
+use mathlib.Core.List.{List}
 use mathlib.Core.Option.{none, some}
 use native.Mathlib.Omega.{arith}
 use lib.Dec.{leb}
-use Rattle.rules.specs.Group.{Group, note, isOver, settle, sentBack, owing}
+use Rattle.rules.specs.Group.{Group, withLayers, note, isOver, settle, sentBack, owing}
 use Rattle.order.specs.declared.due.Walk.{Walk}
 use Rattle.order.specs.Ids.{ids}
 use Rattle.order.specs.Due.{walkAt, noWalk, settled}
@@ -13,7 +14,7 @@ use Rattle.order.proofs.laws.Order.{ids-length}
 use Rattle.windows.specs.declared.Shared.{Shared}
 use Rattle.windows.specs.declared.Session.{Session}
 use Rattle.windows.specs.View.{walkOf, group, Rep}
-use Rattle.windows.specs.Walk.{noted, sharing, indebted}
+use Rattle.windows.specs.Walk.{noted, layering, sharing, indebted}
 
 -- where what the windows share changes by K, the group changes by G
 pub record Shares (K : Shared → Shared) (G : Group → Group) : Type 0 where
@@ -22,6 +23,11 @@ pub record Shares (K : Shared → Shared) (G : Group → Group) : Type 0 where
 
 pub same-shared : Shares (λ k. k) (λ g. g)
 same-shared = record { group = λ s r. refl; rep = λ s r. r }
+
+-- the layers are others
+pub layers-shared : (ls : List ℕ) → Shares (layering ls) (withLayers ls)
+unfolding group
+layers-shared ls = record { group = λ s r. refl; rep = λ s r. record { windows = r .windows; order = r .order; shown = r .shown; each = r .each } }
 
 -- What is due ---------------------------------------------------------------------------------------------------------
 

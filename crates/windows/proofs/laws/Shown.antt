@@ -1,23 +1,21 @@
--- The ends of a show: the window was shown already, or it joins the top of the order and gets the focus.
+-- The ends of a show: the window was shown already, or it joins the order at the top of its layer and gets the focus.
 use Prim.Native.Nat.{ℕ, _+_, _<_}
 use mathlib.Core.Path.{_≡_, ap, _∙_}
 use mathlib.Core.Bool.{true, false}
-use mathlib.Core.List.{List, [], _∷_, _++_, map-append}
+use mathlib.Core.List.{List}
 use mathlib.Core.Option.{none, some}
 use native.Mathlib.Omega.{arith}
-use native.Mathlib.Numerals.{add-one}
-use lib.ListN.{set, take, length-set}
-use lib.Seq.{take-suc-set}
 use Rattle.rules.specs.Group.{used, withOrder, owing}
 use Rattle.rules.specs.Order as Order
-use Rattle.rules.specs.Order.{shown, setOrder}
+use Rattle.rules.specs.Order.{shown, setOrder, inserted}
 use Rattle.rules.specs.Calls.{Show, does}
 use Rattle.rules.proofs.group.Room.{room}
 use Rattle.order.specs.declared.WinId.{WinId}
 use Rattle.windows.specs.declared.Session.{Session}
 use Rattle.windows.specs.View.{group, windowAt, Rep, Given, Meets, done}
-use Rattle.order.specs.Ids.{num, ids}
+use Rattle.order.specs.Ids.{ids}
 use Rattle.order.specs.Order.{renderIdx}
+use Rattle.order.specs.Layers.{Inserted}
 use Rattle.windows.specs.Walk.{ordered, sharing, indebted}
 use Rattle.windows.proofs.laws.Shared.{debt-shared}
 use Rattle.windows.proofs.laws.Session.{used-at, given-ok, refuses, gives}
@@ -38,35 +36,28 @@ module _ (s : Session) (id : ℕ) (h : Given s) (u : windowAt s id .used ≡ tru
     pub has-room : s .shared .shown < 16
     has-room = omega (arith, room (group s) id (given-ok s h) is-used (isnt-shown s h id e), order-length s h)
 
-    module _ (v : WinId) (is : v .0 ≡ id) where
+    module _ (v : WinId) (is : v .0 ≡ id) (order : List WinId) (q : Inserted (s .shared .layers) (s .shared .order) (s .shared .shown) (v .0) order) where
       -- before and after a full redraw is owed
-      abbrev joined : List WinId → Session
-      joined order = sharing (ordered order (s .shared .shown + 1) v (s .shared)) s
+      abbrev joined : Session
+      joined = sharing (ordered order (s .shared .shown + 1) v (s .shared)) s
 
-      abbrev after : List WinId → Session
-      after order = sharing (indebted (joined order .shared)) s
+      abbrev after : Session
+      after = sharing (indebted (joined .shared)) s
 
-      abbrev longer : List WinId
-      longer = set (s .shared .order) (s .shared .shown) v
+      joined-rep : Rep joined
+      joined-rep = record { windows = h .rep .windows; order = q .all; shown = omega (arith, has-room); each = h .rep .each }
 
-      joined-rep : Rep (joined longer)
-      joined-rep =
-          record { windows = h .rep .windows; order = length-set (s .shared .order) (s .shared .shown) v ∙ h .rep .order; shown = omega (arith, has-room); each = h .rep .each }
-
-      after-group : group (after longer) ≡ setOrder (group s .order ++ (id ∷ [])) id (group s)
+      after-group : group after ≡ setOrder (inserted (group s .layers) id (group s .order)) id (group s)
       unfolding group
       after-group =
-          let o : ids (s .shared .shown + 1) longer ≡ ids (s .shared .shown) (s .shared .order) ++ (v .0 ∷ []) =
-          rw (add-one, take-suc-set (s .shared .order) (s .shared .shown) v (omega (arith, h .rep .order, has-room))) (map-append num (take (s .shared .shown) (s .shared .order)) (v ∷ [])) in
-          debt-shared .group (joined longer) joined-rep ∙ (λ i. owing (withOrder (o i) (v .0) (group s)))
-          ∙ ap (λ (k : ℕ). setOrder (group s .order ++ (k ∷ [])) k (group s)) is
+          debt-shared .group joined joined-rep ∙ (λ i. owing (withOrder (q .front i) (v .0) (group s)))
+          ∙ ap (λ (k : ℕ). setOrder (inserted (group s .layers) k (group s .order)) k (group s)) is
 
-      pub is-hidden : (order : List WinId) → order ≡ longer → Meets (Show id) s (done (after order) 0)
+      pub is-hidden : Meets (Show id) s (done after 0)
       unfolding does Order.show
-      is-hidden order l =
+      is-hidden =
           let y : shown (group s) id ≡ false = isnt-shown s h id e in
-          rw l
-          (gives (Show id) s (after longer) h (debt-shared .rep (joined longer) joined-rep) (rw is-used) (after-group ∙ rw (is-used, y)))
+          gives (Show id) s after h (debt-shared .rep joined joined-rep) (rw is-used) (after-group ∙ rw (is-used, y))
 
 pub no-window : (s : Session) (id : ℕ) → Given s → used (group s) id ≡ false → Meets (Show id) s (done s 3)
 unfolding does Order.show

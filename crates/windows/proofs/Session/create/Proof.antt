@@ -1,5 +1,6 @@
 -- The function of one window, at the place of the smallest unused id; then its results are in their place.
 use mathlib.Core.Path.{refl}
+use native.Mathlib.Omega.{arith}
 use borrow.Author.Needs.{needs}
 use Rattle.windows.proofs.Session.create.Statement.{statement}
 use Rattle.windows.proofs.Session.create.Tie as tie
@@ -14,7 +15,7 @@ element-copy-out-create : tie.Need-element-copy-out-create
 element-copy-out-create c = search needs
 
 create-requires : tie.Need-create-requires
-create-requires c κs = search needs
+create-requires c κs = let f = c .before .before .free-slot .ensures in omega (arith, f .inside, f .same)
 
 mul-window : tie.Need-mul-window
 mul-window c = search needs

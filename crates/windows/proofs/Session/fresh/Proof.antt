@@ -16,7 +16,7 @@ use Rattle.windows.proofs.Session.fresh.Tie as tie
 
 abbrev made : ℕ → Window → Session
 made c w =
-    record { windows = replicate 16 w; shared = record { order = replicate 16 (record { 0 = 0 }); shown = 0; c = c; focus = record { 0 = 0 }; dimmed = false; held = 16; due = record { walk = noWalk; owed = true } } }
+    record { windows = replicate 16 w; shared = record { order = replicate 16 (record { 0 = 0 }); shown = 0; c = c; focus = record { 0 = 0 }; dimmed = false; held = 16; due = record { walk = noWalk; owed = true }; layers = replicate 16 0 } }
 
 fresh-group : (c : ℕ) (w : Window) → w .used ≡ false → group (made c w) ≡ Rule.fresh c
 unfolding group cell walkOf
