@@ -15,10 +15,11 @@ pub enum Entry {
     Portion,
     DimmingOn,
     ReleaseOff,
+    LayerOne,
 }
 
 impl Entry {
-    pub const ALL: [Entry; 13] = [
+    pub const ALL: [Entry; 14] = [
         Entry::SomeEntriesMet,
         Entry::PiecesApart,
         Entry::BarePixels,
@@ -32,6 +33,7 @@ impl Entry {
         Entry::Portion,
         Entry::DimmingOn,
         Entry::ReleaseOff,
+        Entry::LayerOne,
     ];
 
     pub fn text(self) -> &'static str {
@@ -49,6 +51,7 @@ impl Entry {
             Entry::Portion => "a portion of a redraw",
             Entry::DimmingOn => "a switch of dimming on",
             Entry::ReleaseOff => "a release off the window of its press",
+            Entry::LayerOne => "a change to layer 1",
         }
     }
 }

@@ -44,7 +44,7 @@ compare portions REPLAY LISTS SEED
 compare busiest REPLAY RUNS SEED
 compare panels REPLAY PAIRS SEED
 compare sides REPLAY all|unasked FILE
-compare record FILE STDIN STDOUT
+compare record FIRST LAST STDIN STDOUT
 compare play all|unasked";
 
 fn main() -> ExitCode {
@@ -70,7 +70,7 @@ fn command(words: &[&str]) -> io::Result<bool> {
         ["sides", replay, word, file] => {
             sides::print(&Replay(replay.into()), &fs::read(file)?, mode(word)?).map(|()| true)
         }
-        ["record", first, stdin, stdout] => record::write(first, stdin, stdout).map(|()| true),
+        ["record", first, last, stdin, stdout] => record::write(first, last, stdin, stdout).map(|()| true),
         ["play", word] => play(mode(word)?).map(|()| true),
         _ => Err(io::Error::other(USAGE)),
     }

@@ -206,6 +206,9 @@ impl Player {
             // To switch off what is off is nothing, and so common ground.
             Call::Dim(on) if on || self.shadow.is_dimmed() => out.instead("no such call"),
             Call::Dim(_) => {}
+            // So is to give a window the layer that it has.
+            Call::Layer(id, layer) if self.shadow.places.changes_layer(id, layer) => out.instead("no such call"),
+            Call::Layer(..) => {}
             // The original has no such calls either: the rule answers.
             Call::Busiest(ref times) => {
                 let second = busiest::second(times);

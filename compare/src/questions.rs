@@ -45,6 +45,7 @@ pub fn answer(call: &Call, group: &Group, lent: &Lent, is_walking: bool) -> u8 {
         Call::Start(c) => first_no(&[(2, (1..=1_048_576).contains(c))]),
         Call::Create => first_no(&[(4, group.count() < 16)]),
         Call::Show(id) | Call::Hide(id) | Call::Drop(id) | Call::Mark(id) | Call::Pop(id) => first_no(&[used(*id)]),
+        Call::Layer(id, layer) => first_no(&[used(*id), (17, *layer <= 1)]),
         Call::Move(id, x, y) => first_no(&[used(*id), small(&[*x, *y])]),
         Call::Resize(id, w, h) => {
             let fits = u64::from(*w) * u64::from(*h) <= u64::from(lent.c);

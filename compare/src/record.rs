@@ -1,4 +1,4 @@
-//! Writes a script and the original's answers to it, for the gate.
+//! Writes a script and the answers to it, for the gate: the original's, and those that stand beside calls that the original has not.
 use crate::lists::{append, Scene};
 use crate::player::Mode;
 use crate::random::Random;
@@ -11,8 +11,8 @@ use std::io;
 /// The script ends with the first list that reaches so many lines.
 const LINES: usize = 4000;
 
-/// Records the lines of the first file, those of a wide window, and then random lists.
-pub fn write(first: &str, stdin: &str, stdout: &str) -> io::Result<()> {
+/// Records the lines of the first file, those of a wide window, random lists, and then the lines of the last file with their answers.
+pub fn write(first: &str, last: &str, stdin: &str, stdout: &str) -> io::Result<()> {
     let mut script = Script::new(Mode::Common);
     let mut tally = Tally::default();
     for line in fs::read_to_string(first)?.lines() {
@@ -35,6 +35,19 @@ pub fn write(first: &str, stdin: &str, stdout: &str) -> io::Result<()> {
         let scene = Scene { actions: 40, ..kind(&mut random) };
         append(&mut random, &mut script, &mut tally, scene);
     }
-    fs::write(stdin, text_of(&script.lines))?;
-    fs::write(stdout, &script.answers.0)
+    let (lines, answers) = beside(last)?;
+    fs::write(stdin, [text_of(&script.lines), text_of(&lines)].concat())?;
+    fs::write(stdout, [script.answers.0, text_of(&answers)].concat())
+}
+
+/// The lines of a script, and the answers that stand below them, each behind `#= `.
+fn beside(file: &str) -> io::Result<(Vec<String>, Vec<String>)> {
+    let (mut lines, mut answers) = (Vec::new(), Vec::new());
+    for line in fs::read_to_string(file)?.lines() {
+        match line.strip_prefix("#= ") {
+            Some(answer) => answers.push(answer.to_string()),
+            None => lines.push(line.to_string()),
+        }
+    }
+    Ok((lines, answers))
 }

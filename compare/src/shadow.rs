@@ -78,6 +78,7 @@ impl Shadow {
             }
             Call::Portion(..) => Some(Entry::Portion),
             Call::Dim(on) => (*on && !self.dimmed).then_some(Entry::DimmingOn),
+            Call::Layer(id, 1) if self.places.changes_layer(*id, 1) => Some(Entry::LayerOne),
             _ => self.list_entry(call),
         }
     }

@@ -90,7 +90,7 @@ impl Tally {
         println!("lines, by word:");
         self.words.iter().for_each(|(word, count)| println!("  {word:14} {count:9}"));
         println!("answers of calls, and `?` and `!` lines:");
-        for answer in (0..=14).chain([20]).map(|answer| answer.to_string()).chain(["?".into(), "!".into()]) {
+        for answer in (0..=14).chain([17, 20]).map(|answer| answer.to_string()).chain(["?".into(), "!".into()]) {
             println!("  {answer:14} {:9}", self.answers.get(&answer).unwrap_or(&0));
         }
         println!("shares in view:");
@@ -106,9 +106,17 @@ impl Tally {
         println!("  {:14} {:9}", "appended", seen.appended);
         println!("releases, by the window that took the last MouseDown:");
         let released = &seen.released;
-        let to = [("none", released.none), ("no pixels", released.no_pixels), ("topmost", released.on), ("off, not made", released.off)];
+        let to = [
+            ("none", released.none),
+            ("no pixels", released.no_pixels),
+            ("topmost", released.on),
+            ("off, not made", released.off),
+        ];
         to.iter().for_each(|(which, count)| println!("  {which:14} {count:9}"));
-        println!("show, hide, drop, move, resize: {}, of these {} left windows that meet", seen.changed, seen.meeting);
+        println!(
+            "show, hide, drop, move, resize, layer: {}, of these {} left windows that meet",
+            seen.changed, seen.meeting
+        );
         self.longest.iter().for_each(|(what, most)| println!("{what}: at most {most}"));
         println!("lists ended by a call outside the common ground:");
         for entry in Entry::ALL {

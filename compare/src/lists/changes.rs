@@ -1,4 +1,4 @@
-//! Windows created, shown, hidden, moved, resized and dropped.
+//! Windows created, shown, hidden, moved, resized, dropped and put on a layer.
 use super::{Maker, Step};
 
 impl Maker<'_> {
@@ -77,6 +77,19 @@ impl Maker<'_> {
             return self.say("create");
         }
         Ok(())
+    }
+
+    /// Mostly the layer that it has; a change to layer 1 leaves the common ground.
+    pub fn layer(&mut self) -> Step {
+        let id = self.id();
+        let layer = match self.random.from_to(0, 19) {
+            0 => self.random.pick(&[2u32, 3, 255, 256, 4_294_967_295]),
+            1..=4 => 1,
+            _ => 0,
+        };
+        self.say(&format!("layer {id} {layer}"))?;
+        self.redraw()?;
+        self.screen()
     }
 
     pub fn move_window(&mut self) -> Step {

@@ -78,6 +78,7 @@ impl<'a> Maker<'a> {
             (3, Maker::portion),
             (2, Maker::walk),
             (3, Maker::dim),
+            (4, Maker::layer),
             (16, Maker::event),
             (4, Maker::press),
             (14, Maker::pop),

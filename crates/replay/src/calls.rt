@@ -39,6 +39,7 @@ fn plain(s: Session, line: Line, ns: &[u32; 4200]) -> Done
         kind::MOVE => s.move_window(id, numbers::pos(ns, 1)),
         kind::BEGIN => s.begin(ns[0] == 1),
         kind::DIM => s.dim(ns[0] == 1),
+        kind::LAYER => s.set_layer(id, ns[1]),
         _ => s.route(events::event(line, ns)),
     }
 }

@@ -142,6 +142,9 @@ hits = 45
 abbrev pub dim : ℕ
 dim = 46
 
+abbrev pub layer : ℕ
+layer = 47
+
 -- the last of them
 abbrev pub last : ℕ
-last = dim
+last = layer

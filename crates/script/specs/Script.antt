@@ -139,6 +139,7 @@ table =
     ∷ row "share" Kind.share 1
     ∷ rowMore "hits" Kind.hits 0
     ∷ row "dim" Kind.dim 1
+    ∷ row "layer" Kind.layer 2
     ∷ []
 
 abbrev pub sameWord : List ℕ → List ℕ → Bool

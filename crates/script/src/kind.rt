@@ -100,8 +100,10 @@ pub const HITS: u8 = 45;
 
 pub const DIM: u8 = 46;
 
+pub const LAYER: u8 = 47;
+
 // The last of them.
-pub const LAST: u8 = DIM;
+pub const LAST: u8 = LAYER;
 
 const WORDS: usize = LAST as usize - 1;
 
@@ -156,6 +158,7 @@ pub const ROWS: [u8; WORDS * ROW] = *b"\
     \x05\x01 share           \
     \x04\x00+hits            \
     \x03\x01 dim             \
+    \x05\x02 layer           \
     ";
 
 pub fn wide(b: u8) -> usize

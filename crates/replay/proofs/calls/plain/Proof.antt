@@ -43,6 +43,12 @@ element-copy-out-dim c = search needs
 dim-requires : tie.Need-dim-requires
 dim-requires c κs = search needs
 
+element-copy-out-set-layer : tie.Need-element-copy-out-set-layer
+element-copy-out-set-layer c = search needs
+
+set-layer-requires : tie.Need-set-layer-requires
+set-layer-requires c κs = search needs
+
 event-requires : tie.Need-event-requires
 event-requires c κs = (c .before .before .pre .1, routes-left _ _ (c .match .rest) (c .before .before .pre .2))
 
@@ -79,7 +85,10 @@ returns-7 : tie.Need-returns-7
 returns-7 c = plain-at (c .before .before .match .keys7) _ refl (c .dim .ensures)
 
 returns-8 : tie.Need-returns-8
-returns-8 c = record { call = Call.Route (c .before .event .result); is = c .before .event .ensures; so = c .route .ensures }
+returns-8 c = by-id (c .before .before .match .keys8) _ (λ id. Call.SetLayer id (num (c .before .before .before .before .args .ns .now) 1)) refl (c .before .before .before .id .ensures) (c .set-layer .ensures)
+
+returns-9 : tie.Need-returns-9
+returns-9 c = record { call = Call.Route (c .before .event .result); is = c .before .event .ensures; so = c .route .ensures }
 
 pub plain-spec : {M : Type 1} → statement M
 plain-spec =
@@ -96,6 +105,8 @@ plain-spec =
     begin-requires
     element-copy-out-dim
     dim-requires
+    element-copy-out-set-layer
+    set-layer-requires
     event-requires
     route-requires
     returns
@@ -105,4 +116,5 @@ plain-spec =
     returns-5
     returns-6
     returns-7
-    returns-8)
+    returns-8
+    returns-9)
