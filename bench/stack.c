@@ -28,6 +28,7 @@ static const RoqEvent press = {25, 25, 0, 0, 0, ROQ_MOUSE_DOWN, 1, 0};
     CALL(roq_drop, (s, 3))                                                             \
     CALL(roq_mark, (s, 3))                                                             \
     CALL(roq_move, (s, 3, 5, 5))                                                       \
+    CALL(roq_set_layer, (s, 3, 1))                                                     \
     CALL(roq_resize, (s, 0, 300, 300, store, 16 * C))                                  \
     CALL(roq_fill, (s, 0, area, 7, store, 16 * C))                                     \
     CALL(roq_blit, (s, 0, area, 8, data, 64, store, 16 * C))                           \

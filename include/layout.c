@@ -9,7 +9,7 @@ SIZE(RoqPos, 8);
 SIZE(RoqDims, 8);
 SIZE(RoqRect, 16);
 SIZE(RoqEvent, 20);
-SIZE(RoqSession, 5640);
+SIZE(RoqSession, 5656);
 SIZE(RoqCreated, 8);
 SIZE(RoqPopped, 24);
 SIZE(RoqAltered, 16);
@@ -77,6 +77,18 @@ static void dims(void) {
     EXPECT(screen[0] == 0x80ff8001 && roq_resize(s, 7, 0, 0, store, 16 * C) == 0);
 }
 
+/* The layers, a byte for each id in the last two words; a change owes a full redraw, the focus stays, and what is set stays set. */
+static void layers(void) {
+    EXPECT(roq_set_layer(s, 7, 0) == 0 && (s->words[704] & 0xff) == 0 && s->words[705] == 0 && s->words[706] == 0);
+    EXPECT(roq_set_layer(s, 7, 1) == 0 && (s->words[704] & 0xff) == 1 && s->words[705] >> 56 == 1 && roq_focus(s) == LAST);
+    EXPECT(roq_set_layer(s, 7, 2) == 17 && roq_set_layer(s, 16, 2) == 3 && s->words[705] >> 56 == 1 && s->words[706] == 0);
+    EXPECT(roq_hide(s, 7) == 0 && roq_set_layer(s, 7, 0) == 0 && roq_show(s, 7) == 0 && roq_set_layer(s, LAST, 1) == 0);
+    EXPECT(s->words[705] == 0 && s->words[706] >> 56 == 1 && roq_focus(s) == 7 && roq_drop(s, LAST) == 0);
+    EXPECT(roq_create(s).id == LAST && s->words[706] == 0);
+    EXPECT(roq_resize(s, LAST, 200, 150, store, 16 * C) == 0 && roq_move(s, LAST, 3000, 4000) == 0 && roq_show(s, LAST) == 0);
+    EXPECT(roq_redraw(s, false, 8, 8, store, 16 * C, screen, 64) == 0);
+}
+
 static RoqEvent mouse(uint8_t kind, uint32_t x, uint32_t y, uint8_t button, uint8_t count) {
     RoqEvent e = {x, y, 0, 0, 0, kind, button, count};
     return e;
@@ -115,7 +127,7 @@ static void fingers(void) {
 }
 
 /* A session as large as the library's: its last words hold C, the focus, dimming and the window of the last MouseDown, the walk's next place,
- * whether it is on and full, and the debt; nothing is written beyond. */
+ * whether it is on and full, the debt, and the layers; nothing is written beyond. */
 static void session(void) {
     EXPECT(roq_start(s, C) == 0 && (uint32_t)s->words[701] == C);
     for (int id = 0; id < 16; id++) {
@@ -131,6 +143,7 @@ static void session(void) {
     EXPECT((s->words[704] & 0xff) == 0);
     walk();
     dims();
+    layers();
     RoqAltered filled = roq_fill(s, LAST, rect(9, 5, 7, 3), 6, store, 16 * C);
     EXPECT(filled.answer == 0 && filled.altered == 21);
     filled = roq_fill(s, LAST, rect(9, 5, 7, 3), 6, store, 16 * C - 1);

@@ -10,6 +10,7 @@
  *    5  coordinates and sizes are at most 32,767      12  its queue has a free place
  *    6  w x h is at most C                            13  the part lies in the pixels
  *    7  the stride is at least 1                      14  x + w and y + h are at most 4,294,967,295
+ *                                                     17  the layer is at most 1
  *                                                     20  a walk was begun, and is neither over nor dropped
  *                                                     21  the event is no KeyFire, asked before every other
  *                                                     24  the window is shown and has pixels
@@ -73,9 +74,9 @@ typedef struct RoqEvent {
 
 /* ---- A session ---- */
 
-/* 5,640 bytes. */
+/* 5,656 bytes. */
 typedef struct RoqSession {
-    uint64_t words[705];
+    uint64_t words[707];
 } RoqSession;
 
 /* Begins a session without windows, whose windows will have room for c pixels each. Asks 2; on a no it begins one all the same, with
@@ -91,14 +92,14 @@ typedef struct RoqCreated {
     uint16_t id;
 } RoqCreated;
 
-/* A window with the smallest unused id, at (0,0), of size (0,0), hidden. Asks 4. */
+/* A window with the smallest unused id, at (0,0), of size (0,0), hidden, on layer 0. Asks 4. */
 RoqCreated roq_create(RoqSession *s);
 
-/* Puts a window on top and gives it the focus; does nothing where it is shown. Asks 3. */
+/* Puts a window on top of its layer and gives it the focus; does nothing where it is shown. Asks 3. */
 uint32_t roq_show(RoqSession *s, uint16_t id);
 
-/* Takes a window off the screen; a focus goes to the next lower one, and a MouseUp does not come to it any more. Does nothing where it is
- * hidden. Asks 3. */
+/* Takes a window off the screen; a focus goes to the next lower one, from the lowest to the one that is lowest then, and a MouseUp does not
+ * come to it any more. Does nothing where it is hidden. Asks 3. */
 uint32_t roq_hide(RoqSession *s, uint16_t id);
 
 /* Hides a window and frees its id; its pixels stay in the store. Asks 3. */
@@ -109,6 +110,11 @@ uint32_t roq_mark(RoqSession *s, uint16_t id);
 
 /* Places a window's top left corner. Asks 3, 5. */
 uint32_t roq_move(RoqSession *s, uint16_t id, uint32_t x, uint32_t y);
+
+/* Puts a window on layer 0 or 1. The shown windows of layer 1 stand above all of layer 0, so that none of layer 0 covers them or takes a press
+ * on them. A shown window goes to the top of its new layer; the focus stays where it is. To give the layer that it has changes nothing. Asks
+ * 3, 17. */
+uint32_t roq_set_layer(RoqSession *s, uint16_t id, uint32_t layer);
 
 /* Gives a window another size: the pixels of both sizes stay, all others of its C become 0. Queues a Resize for it, if there is room.
  * Writes the store. Asks 1, 3, 5, 6. */
@@ -146,18 +152,19 @@ typedef struct RoqPopped {
 /* The oldest event of a window's queue, or else its unread MouseMove. Asks 3, 10. */
 RoqPopped roq_pop(RoqSession *s, uint16_t id);
 
-/* Draws the shown windows on the screen, lowest first: everything where `told` or where a show, hide, move, resize or switch of dimming came
- * before, else the marked windows. Reads the store, writes the screen. Asks 1, 8. */
+/* Draws the shown windows on the screen, lowest first: everything where `told` or where a show, hide, move, resize, change of layer or switch
+ * of dimming came before, else the marked windows. Reads the store, writes the screen. Asks 1, 8. */
 uint32_t roq_redraw(RoqSession *s, bool told, uint32_t width, uint32_t height, const uint32_t *store, size_t store_len,
                     uint32_t *screen, size_t screen_len);
 
-/* Begins a walk, which is a redraw window by window: everything where `told` or where a show, hide, move, resize or switch of dimming came
- * before, else the marked windows. Drops the walk that is on; so does roq_redraw. With no window shown the walk is over at once. Asks nothing. */
+/* Begins a walk, which is a redraw window by window: everything where `told` or where a show, hide, move, resize, change of layer or switch of
+ * dimming came before, else the marked windows. Drops the walk that is on; so does roq_redraw. With no window shown the walk is over at once.
+ * Asks nothing. */
 uint32_t roq_begin(RoqSession *s, bool told);
 
 /* Draws the walk's next window, lowest first; after the last one the walk is over. Any calls may come between two portions: a show, hide,
- * move, resize or switch of dimming sends the walk back to the lowest window, to draw everything; what is written to a window after its
- * portion is damage for the next redraw. Reads the store, writes the screen. Asks 1, 8, 20. */
+ * move, resize, change of layer or switch of dimming sends the walk back to the lowest window, to draw everything; what is written to a window
+ * after its portion is damage for the next redraw. Reads the store, writes the screen. Asks 1, 8, 20. */
 uint32_t roq_portion(RoqSession *s, uint32_t width, uint32_t height, const uint32_t *store, size_t store_len, uint32_t *screen,
                      size_t screen_len);
 

@@ -13,6 +13,7 @@ pub enum Call {
     Drop(u16),
     Mark(u16),
     Move(u16, u32, u32),
+    Layer(u16, u32),
     Resize(u16, u32, u32),
     Fill(u16, Area, u32),
     /// The data have the area's width as their stride.
@@ -43,6 +44,7 @@ impl Call {
             Call::Drop(_) => "roq_drop",
             Call::Mark(_) => "roq_mark",
             Call::Move(..) => "roq_move",
+            Call::Layer(..) => "roq_set_layer",
             Call::Resize(..) => "roq_resize",
             Call::Fill(..) => "roq_fill",
             Call::Blit(..) => "roq_blit",

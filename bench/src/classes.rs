@@ -16,6 +16,7 @@ use crate::shares;
 
 const LISTS: &str =
     "the original makes its visible lists here, we make them when a redraw or a visible list needs them";
+const LAYERS: &str = "the original has no layers: it hides the window and shows it again, and makes its visible lists";
 const KEPT: &str = "the original kept it at the last show, hide, move or resize";
 const CLEARED: &str = "document 01 has us clear the rest of the window's C pixels; the limit is `memset` of C";
 const OTHER: &str = "the original draws something else (docs/DIFFERENCES.md)";
@@ -23,6 +24,8 @@ const OTHER: &str = "the original draws something else (docs/DIFFERENCES.md)";
 /// What a station does, on one display and on eight.
 pub const MIX: &str = "a second of the station's mix";
 pub const MIX_OF_EIGHT: &str = "a second of the mix on eight displays";
+
+pub const LAYER: &str = "change of layer, 16 windows";
 
 /// Of a walk on eight displays: how the names of its classes begin, and how they go on.
 pub const ALL: &str = "all portions";
@@ -72,9 +75,12 @@ fn small() -> Vec<Class> {
 fn order() -> Vec<Class> {
     let made = vec![Call::Create, Call::Drop(15)];
     let shown = vec![Call::Hide(15), Call::Show(15)];
+    // The lowest goes to the top of layer 1, and then of layer 0, where no window of layer 1 is left.
+    let raised = (0..16).flat_map(|id| [Call::Layer(id, 1), Call::Layer(id, 0)]).collect();
     let mut all = vec![
         Class::new("create or drop, 15 windows", cascade(15), made),
         Class::new("hide or show, 16 windows", cascade(16), shown).note(LISTS),
+        Class::new(LAYER, cascade(16), raised).note(LAYERS),
     ];
     for (above, id) in [(0, 15), (3, 12), (15, 0)] {
         let name = format!("move, {above} windows above and {id} below");

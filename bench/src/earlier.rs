@@ -1,5 +1,5 @@
-//! Archives of earlier commits, which have no walks, no dimming, no busiest second, no share or no answer for many points: there these functions
-//! answer 20, 20, 26, 24 and 25. Where an archive has its own, those are linked.
+//! Archives of earlier commits, which have no walks, no dimming, no layers, no busiest second, no share or no answer for many points: there these
+//! functions answer 20, 20, 17, 26, 24 and 25. Where an archive has its own, those are linked.
 use crate::call::Call;
 use crate::class::{Beside, Class};
 use crate::station::{busiest, Station};
@@ -7,6 +7,7 @@ use crate::station::{busiest, Station};
 std::arch::global_asm!(".weak roq_begin", "roq_begin:", ".weak roq_portion", "roq_portion:", "mov eax, 20", "ret");
 std::arch::global_asm!(".weak roq_hits", "roq_hits:", "mov eax, 25", "ret");
 std::arch::global_asm!(".weak roq_dim", "roq_dim:", "mov eax, 20", "ret");
+std::arch::global_asm!(".weak roq_set_layer", "roq_set_layer:", "mov eax, 17", "ret");
 // The struct goes back in two registers.
 std::arch::global_asm!(".weak roq_share", "roq_share:", "mov eax, 24", "xor edx, edx", "ret");
 // The caller hands over where the struct goes.
@@ -24,6 +25,9 @@ std::arch::global_asm!(
 pub fn has(class: &Class) -> bool {
     if let [Call::Share(_)] = class.timed[..] {
         return Station::start(1).1.share(0).answer == 3;
+    }
+    if let [Call::Layer(..), ..] = class.timed[..] {
+        return Station::start(1).1.set_layer(0, 0) == 3;
     }
     if let [Call::Hits(_)] = class.timed[..] {
         return Station::start(1).1.hits(&[], &mut []) == 0;

@@ -157,6 +157,7 @@ impl Side for Ours {
             Call::Drop(id) => s.drop(id),
             Call::Mark(id) => s.mark(id),
             Call::Move(id, x, y) => s.move_window(id, x, y),
+            Call::Layer(id, layer) => s.set_layer(id, layer),
             Call::Resize(id, w, h) => s.resize(id, w, h, &mut self.store),
             Call::Fill(id, area, colour) => s.fill(id, numbers(area), colour, &mut self.store).answer,
             Call::Blit(id, area, ref data) => s.blit(id, numbers(area), data, area.2 as usize, &mut self.store).answer,

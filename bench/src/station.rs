@@ -40,9 +40,9 @@ pub const MOUSE_MOVE: u8 = 6;
 pub const MOUSE_DOWN: u8 = 7;
 pub const MOUSE_UP: u8 = 9;
 
-/// 5,640 bytes.
+/// 5,656 bytes.
 #[repr(C)]
-struct Session([u64; 705]);
+struct Session([u64; 707]);
 
 #[repr(C)]
 struct Created {
@@ -101,6 +101,7 @@ extern "C" {
     fn roq_drop(s: *mut Session, id: u16) -> u32;
     fn roq_move(s: *mut Session, id: u16, x: u32, y: u32) -> u32;
     fn roq_mark(s: *mut Session, id: u16) -> u32;
+    fn roq_set_layer(s: *mut Session, id: u16, layer: u32) -> u32;
     fn roq_resize(s: *mut Session, id: u16, w: u32, h: u32, store: *mut u32, store_len: usize) -> u32;
     fn roq_fill(s: *mut Session, id: u16, area: Rect, colour: u32, store: *mut u32, store_len: usize) -> Altered;
     fn roq_blit(
@@ -164,7 +165,7 @@ impl Station {
     /// The answer, and a session.
     pub fn start(c: u32) -> (u32, Station) {
         // `roq_start` asks for zeros or a session.
-        let mut station = Station(Session([0; 705]));
+        let mut station = Station(Session([0; 707]));
         let answer = unsafe { roq_start(&mut station.0, c) };
         (answer, station)
     }
@@ -187,6 +188,9 @@ impl Station {
     }
     pub fn move_window(&mut self, id: u16, x: u32, y: u32) -> u32 {
         unsafe { roq_move(&mut self.0, id, x, y) }
+    }
+    pub fn set_layer(&mut self, id: u16, layer: u32) -> u32 {
+        unsafe { roq_set_layer(&mut self.0, id, layer) }
     }
     pub fn resize(&mut self, id: u16, w: u32, h: u32, store: &mut [u32]) -> u32 {
         unsafe { roq_resize(&mut self.0, id, w, h, store.as_mut_ptr(), store.len()) }

@@ -72,6 +72,11 @@ impl Side for Theirs {
             Call::Drop(id) => g.drop(u32::from(id)),
             Call::Mark(id) => g.mark(u32::from(id)),
             Call::Move(id, x, y) => g.move_window(u32::from(id), x, y),
+            // It has no layers: hidden and shown, the window is on top too.
+            Call::Layer(id, _) => {
+                g.hide(u32::from(id));
+                g.show(u32::from(id));
+            }
             Call::Resize(id, w, h) => g.resize(u32::from(id), w, h),
             Call::Fill(id, a, colour) => g.fill(u32::from(id), rect(a), colour),
             Call::Blit(id, a, ref data) => g.blit(u32::from(id), rect(a), data, a.2 as usize),
@@ -87,7 +92,7 @@ impl Side for Theirs {
         match call {
             Call::Redraw(_) => self.owed = false,
             // A drop is none of these: the lists drop hidden windows only.
-            Call::Show(_) | Call::Hide(_) | Call::Move(..) | Call::Resize(..) => self.owed = true,
+            Call::Show(_) | Call::Hide(_) | Call::Move(..) | Call::Layer(..) | Call::Resize(..) => self.owed = true,
             _ => {}
         }
         Reply::Answer(0)

@@ -127,12 +127,22 @@ static void press_panels(void) {
         pop(0);
 }
 
+/* The panel stays above the plan, which is hidden and shown again. */
+static void keep_on_top(void) {
+    say(roq_set_layer(&s, 1, 2));
+    say(roq_set_layer(&s, 1, 1));
+    say(roq_hide(&s, 0));
+    say(roq_show(&s, 0));
+    redraw();
+}
+
 int main(void) {
     draw_panels();
     press_panels();
     fill(1, 1, 1, 2, 1, 5);
     say(roq_mark(&s, 1));
     redraw();
+    keep_on_top();
     say(roq_drop(&s, 1));
     redraw();
     pop(1);

@@ -113,6 +113,15 @@ impl Panels {
         (0..4).for_each(|_| self.pop(1));
         (0..3).for_each(|_| self.pop(0));
     }
+
+    /// The panel stays above the plan, which is hidden and shown again.
+    fn keep_on_top(&mut self) {
+        say(self.station.set_layer(1, 2));
+        say(self.station.set_layer(1, 1));
+        say(self.station.hide(0));
+        say(self.station.show(0));
+        self.redraw();
+    }
 }
 
 fn main() {
@@ -126,6 +135,7 @@ fn main() {
     panels.fill(1, [1, 1, 2, 1], 5);
     say(panels.station.mark(1));
     panels.redraw();
+    panels.keep_on_top();
     say(panels.station.drop(1));
     panels.redraw();
     panels.pop(1);
