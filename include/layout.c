@@ -79,7 +79,8 @@ static void dims(void) {
 
 /* The layers, a byte for each id in the last two words; a change owes a full redraw, the focus stays, and what is set stays set. */
 static void layers(void) {
-    EXPECT(roq_set_layer(s, 7, 0) == 0 && (s->words[704] & 0xff) == 0 && s->words[705] == 0 && s->words[706] == 0);
+    EXPECT(roq_redraw(s, false, 8, 8, store, 16 * C, screen, 64) == 0 && roq_set_layer(s, 7, 0) == 0);
+    EXPECT((s->words[704] & 0xff) == 0 && s->words[705] == 0 && s->words[706] == 0);
     EXPECT(roq_set_layer(s, 7, 1) == 0 && (s->words[704] & 0xff) == 1 && s->words[705] >> 56 == 1 && roq_focus(s) == LAST);
     EXPECT(roq_set_layer(s, 7, 2) == 17 && roq_set_layer(s, 16, 2) == 3 && s->words[705] >> 56 == 1 && s->words[706] == 0);
     EXPECT(roq_hide(s, 7) == 0 && roq_set_layer(s, 7, 0) == 0 && roq_show(s, 7) == 0 && roq_set_layer(s, LAST, 1) == 0);
