@@ -201,6 +201,15 @@ static void values(void) {
     EXPECT(roq_set_scanline(screen, 64, 8, 8, 2, 0, 8, list, 4).answer == 0 && screen[18] == 200 && screen[16] == 0);
 }
 
+/* What the header says of a session that nobody started. */
+static void unstarted(void) {
+    RoqSession zeros = {{0}};
+    RoqCreated made = roq_create(&zeros);
+    EXPECT(made.answer == 0 && made.id == 0 && roq_show(&zeros, 0) == 0);
+    EXPECT(roq_resize(&zeros, 0, 1, 1, store, 16) == 1 && roq_fill(&zeros, 0, rect(0, 0, 1, 1), 6, store, 16).answer == 1);
+    EXPECT(roq_redraw(&zeros, true, 8, 8, store, 16, screen, 64) == 1 && roq_resize(&zeros, 0, 1, 1, store, 0) == 6);
+}
+
 /* The busiest second, the longest run, and both refusals. */
 static void seconds(void) {
     uint32_t times[5] = {7, 1007, 2006, 2006, 2007};
@@ -218,6 +227,7 @@ int main(void) {
     events();
     values();
     seconds();
+    unstarted();
     EXPECT(kept.before == GUARD && kept.after == GUARD);
     if (!failed)
         printf("roqshyn.h agrees with the library\n");

@@ -25,7 +25,34 @@
  * of it is kept. It is aligned and not null, also where its length is 0. No two arrays of a call overlap, nor do they overlap the
  * session, unless both are only read (const). A bool is 0 or 1.
  *
- * The store has 16 x C pixels. Window i has the C from i x C on, in rows of its own width. The screen has width x height pixels. */
+ * The store has 16 x C pixels. Window i has the C from i x C on, in rows of its own width. The screen has width x height pixels.
+ *
+ * When the screen is right. After a redraw each pixel under a shown window is that of its topmost window, if three things are kept. A window
+ * is marked after its last write (roq_fill, roq_blit): what is written and not marked may stay undrawn. Every redraw and portion is lent the
+ * same screen, at one size, since it writes only what it has to; told `true` it writes all that is seen. Nobody else writes store or screen: a
+ * copy of the session that makes calls of its own is somebody else. A pixel under no shown window keeps its old value, also in a full redraw, so
+ * keep a window of the screen's size lowest, such as the plan.
+ *
+ * Order of events. Each window has a queue of 16 events, and beside it one MouseMove that is not read yet, which a later one replaces. A pop
+ * gives what is queued, oldest first, and only then the move, whichever came first: where that order matters, pop after each route. Each new
+ * size queues a Resize, which is therefore the first event of a new window. Hide and show keep a queue; drop does not.
+ *
+ * Moves. The point of a MouseMove is relative to its window, and dx and dy are the difference of two such points: this one and the one popped
+ * before it, or (0,0) the first time. They are no measure for a drag once the window moves. To drag a window, remember the point at which it
+ * was grabbed, and move it to its position plus the new point minus the grabbed point. A move goes to the topmost window at its point, so a
+ * window that is dragged does not hear of a finger that has left it; hand it the move's point, relative to it, whoever popped it.
+ *
+ * Releases. A MouseUp goes to the window that took the last MouseDown, wherever the finger is by then, at that window's pixel nearest to it
+ * (request N1), unless the window was hidden or dropped meanwhile. A second MouseDown, of another finger or button, takes the first one's
+ * place. Where no window is remembered, or the one remembered has no pixels, a MouseUp goes to the topmost window at its point, as every one
+ * did before N1: so a panel acts on a release only if it took the press. A release beside its window comes at the window's edge, so leave at
+ * least one pixel between a button and the edge; else it counts as let go on the button. There is no call to raise a window: hide and show it,
+ * before its press is routed, since a hide forgets the press; roq_hits says which window that will be.
+ *
+ * Limits. Ids are 16 bits wide. A larger number is cut on its way into the call and may then be an id in use, as 65,536 is 0: check it before;
+ * the Rust bindings do. A pixel has red in bits 16 to 23, green in 8 to 15, blue in 0 to 7; the top byte is kept as it is. No call takes as much
+ * as 16 KiB of stack: measured by include/test, not proved. roq_start comes first. Without it a session of zeros answers as one with C = 0,
+ * measured and not promised: windows are created and shown, but a call that is lent a store with any pixel answers 1, and nothing is drawn. */
 #ifndef ROQSHYN_H
 #define ROQSHYN_H
 
