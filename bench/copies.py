@@ -20,7 +20,10 @@ KEPT_BY_CALLS = {"bx", "bp", "sp", "r12", "r13", "r14", "r15"}
 def functions(archive):
     """The instructions of each function: address, operation, operands, and what the linker is to put there."""
     objdump = ["objdump", "--disassemble", "--reloc", "--no-show-raw-insn", archive]
-    text = subprocess.run(objdump, capture_output=True, text=True, check=True).stdout
+    run = subprocess.run(objdump, capture_output=True, text=True)
+    if run.returncode:
+        sys.exit(f"objdump cannot read {archive}")
+    text = run.stdout
     found = {}
     for line in text.splitlines():
         if head := re.match(r"[0-9a-f]+ <(.+)>:$", line):

@@ -68,7 +68,8 @@ fn command(words: &[&str]) -> io::Result<bool> {
         ["busiest", replay, runs, seed] => runs::run(&Replay(replay.into()), number(runs)?, number(seed)?),
         ["panels", replay, pairs, seed] => panels::run(&Replay(replay.into()), number(pairs)?, number(seed)?),
         ["sides", replay, word, file] => {
-            sides::print(&Replay(replay.into()), &fs::read(file)?, mode(word)?).map(|()| true)
+            let script = fs::read(file).map_err(|e| io::Error::other(format!("{file}: {e}")))?;
+            sides::print(&Replay(replay.into()), &script, mode(word)?).map(|()| true)
         }
         ["record", first, last, stdin, stdout] => record::write(first, last, stdin, stdout).map(|()| true),
         ["play", word] => play(mode(word)?).map(|()| true),
@@ -85,7 +86,8 @@ fn mode(word: &str) -> io::Result<Mode> {
 }
 
 fn number(word: &str) -> io::Result<u64> {
-    word.parse().map_err(|_| io::Error::other(format!("not a number: {word}")))
+    let number = word.parse().ok().filter(|&n| n > 0);
+    number.ok_or_else(|| io::Error::other(format!("a whole number from 1 on, and not {word}")))
 }
 
 /// Plays the standard input on the original.
