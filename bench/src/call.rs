@@ -1,5 +1,5 @@
 //! What both sides are told, and what they say.
-use crate::station::{Second, Share};
+use roqshyn::{Error, Pos, Second, Share};
 
 /// A rectangle: x, y, w, h.
 #[derive(Clone, Copy, Debug, PartialEq)]
@@ -29,8 +29,7 @@ pub enum Call {
     Dim(bool),
     Visible(u16),
     Share(u16),
-    /// x and y in turn.
-    Hits(Vec<u32>),
+    Hits(Vec<Pos>),
     Busiest(Vec<u32>),
 }
 
@@ -80,8 +79,8 @@ pub enum Reply {
     Event(Option<Popped>),
     /// How many rectangles a visible list has.
     Count(usize),
-    Share(Share),
-    Second(Second),
+    Share(Result<Share, Error>),
+    Second(Result<Second, Error>),
 }
 
 /// All that a side shows of itself.

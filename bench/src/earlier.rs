@@ -2,7 +2,7 @@
 //! functions answer 20, 20, 17, 26, 24 and 25. Where an archive has its own, those are linked.
 use crate::call::Call;
 use crate::class::{Beside, Class};
-use crate::station::{busiest, Station};
+use roqshyn::{busiest, Error, Id, Session};
 
 std::arch::global_asm!(".weak roq_begin", "roq_begin:", ".weak roq_portion", "roq_portion:", "mov eax, 20", "ret");
 std::arch::global_asm!(".weak roq_hits", "roq_hits:", "mov eax, 25", "ret");
@@ -23,19 +23,20 @@ std::arch::global_asm!(
 
 /// Whether the archive has the calls of a class.
 pub fn has(class: &Class) -> bool {
+    let mut session = Session::start(1).expect("C is 1");
     if let [Call::Share(_)] = class.timed[..] {
-        return Station::start(1).1.share(0).answer == 3;
+        return session.share(Id::from(0_u16)) == Err(Error::UnknownId);
     }
     if let [Call::Layer(..), ..] = class.timed[..] {
-        return Station::start(1).1.set_layer(0, 0) == 3;
+        return session.set_layer(Id::from(0_u16), 0) == Err(Error::UnknownId);
     }
     if let [Call::Hits(_)] = class.timed[..] {
-        return Station::start(1).1.hits(&[], &mut []) == 0;
+        return session.hits(&[], &mut []).is_ok();
     }
     match class.beside {
-        Beside::Undivided => Station::start(1).1.begin(false) == 0,
-        Beside::Table | Beside::Bright => Station::start(1).1.dim(false) == 0,
-        Beside::OnePass | Beside::Square => busiest(&[]).answer == 0,
+        Beside::Undivided => session.begin(false).is_ok(),
+        Beside::Table | Beside::Bright => session.dim(false).is_ok(),
+        Beside::OnePass | Beside::Square => busiest(&[]).is_ok(),
         _ => true,
     }
 }

@@ -59,10 +59,10 @@ impl Side for Loops {
             Call::Resize(..) => {}
             Call::Fill(_, area, colour) => {
                 black_box(fill(&mut self.pixels, self.width, area, colour));
-            },
+            }
             Call::Blit(_, area, ref data) => {
                 black_box(blit(&mut self.pixels, self.width, area, data));
-            },
+            }
             _ => unreachable!("{call:?}"),
         }
         Reply::Answer(0)

@@ -23,7 +23,6 @@ mod rows;
 mod scene;
 mod seconds;
 mod shares;
-mod station;
 mod summary;
 mod targets;
 mod theirs;

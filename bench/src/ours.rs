@@ -4,17 +4,17 @@ use crate::class::Class;
 use crate::dims;
 use crate::plain::{Piece, Plain};
 use crate::shares;
-use crate::station::{busiest, Event, Share, Station, MOUSE_DOWN, MOUSE_MOVE, MOUSE_UP, RESIZE};
+use roqshyn::{busiest, Error, Event, Hit, Id, Pos, Rect, Session, Share, MOST_POINTS, MOST_RECTS};
 use std::arch::x86_64::{_mm_clflush, _mm_mfence};
 
 pub struct Ours {
-    station: Station,
+    session: Session,
     c: usize,
     store: Vec<u32>,
     screen: Vec<u32>,
-    list: Vec<u32>,
+    list: Vec<Rect>,
     /// The answers to the last points, of which there were so many.
-    answers: [u32; 96],
+    answers: [Hit; MOST_POINTS],
     points: usize,
     width: u32,
     height: u32,
@@ -22,15 +22,13 @@ pub struct Ours {
 
 impl Ours {
     pub fn new(c: u32, width: u32, height: u32) -> Ours {
-        let (answer, station) = Station::start(c);
-        assert_eq!(answer, 0, "start");
         Ours {
-            station,
+            session: Session::start(c).expect("start"),
             c: c as usize,
             store: vec![0; 16 * c as usize],
             screen: vec![0; (width * height) as usize],
-            list: vec![0; 4 * 496],
-            answers: [0; 96],
+            list: vec![Rect::default(); MOST_RECTS],
+            answers: [Hit::default(); MOST_POINTS],
             points: 0,
             width,
             height,
@@ -39,9 +37,9 @@ impl Ours {
 
     fn pixels(&self, id: u16) -> Vec<u32> {
         let start = usize::from(id) * self.c;
-        match self.station.rect_of(id) {
-            Some([_, _, w, h]) => self.store[start..start + (w * h) as usize].to_vec(),
-            None => Vec::new(),
+        match self.session.rect_of(Id::from(id)) {
+            Ok(Rect { dims, .. }) => self.store[start..start + (dims.w * dims.h) as usize].to_vec(),
+            Err(_) => Vec::new(),
         }
     }
 
@@ -86,88 +84,79 @@ impl Ours {
 
     /// The visible rectangles of a window, as far as they lie on the screen.
     fn pieces(&mut self, id: u16) -> Vec<Piece> {
-        let [x, y, w, _] = self.station.rect_of(id).unwrap_or_default();
+        let Rect { pos: Pos { x, y }, dims } = self.session.rect_of(Id::from(id)).unwrap_or_default();
         let from = usize::from(id) * self.c;
         let visible = self.visible(id);
         let piece = |Area(left, top, width, height)| {
             let (x, y) = (x + left, y + top);
             let to = Area(x, y, width.min(self.width.saturating_sub(x)), height.min(self.height.saturating_sub(y)));
-            Piece { from: from + (top * w + left) as usize, pitch: w as usize, to }
+            Piece { from: from + (top * dims.w + left) as usize, pitch: dims.w as usize, to }
         };
         visible.into_iter().map(piece).collect()
     }
 
     fn visible(&mut self, id: u16) -> Vec<Area> {
-        let (_, count) = self.station.visible(id, &mut self.list);
-        self.list[..4 * count].chunks(4).map(|r| Area(r[0], r[1], r[2], r[3])).collect()
+        let seen = self.session.visible(Id::from(id), &mut self.list).unwrap_or_default();
+        seen.iter().map(|r| Area(r.pos.x, r.pos.y, r.dims.w, r.dims.h)).collect()
     }
 
     /// The share of a window by the areas of its visible list.
-    pub fn listed_share(&mut self, id: u16) -> Share {
-        let [_, _, w, h] = self.station.rect_of(id).unwrap_or_default();
-        let (_, count) = self.station.visible(id, &mut self.list);
-        shares::share(self.list[..4 * count].chunks(4).map(|r| r[2] * r[3]).sum(), w * h)
+    pub fn listed_share(&mut self, id: u16) -> Result<Share, Error> {
+        let dims = self.session.rect_of(Id::from(id)).unwrap_or_default().dims;
+        let seen = self.session.visible(Id::from(id), &mut self.list).unwrap_or_default();
+        shares::share(seen.iter().map(|r| r.dims.w * r.dims.h).sum(), dims.w * dims.h)
     }
 }
 
-fn mouse(kind: u8, x: u32, y: u32) -> Event {
-    let button = u8::from(kind != MOUSE_MOVE);
-    Event { x, y, kind, button, ..Event::default() }
-}
-
-fn popped(answer: u32, e: Event) -> Option<Popped> {
-    if answer != 0 {
-        return None;
-    }
-    Some(match e.kind {
-        RESIZE => Popped::Resize,
-        MOUSE_DOWN => Popped::Press(e.x, e.y),
-        MOUSE_UP => Popped::Release(e.x, e.y),
-        MOUSE_MOVE => Popped::Point(e.x, e.y, e.dx, e.dy),
+fn popped(event: Event) -> Popped {
+    match event {
+        Event::Resize => Popped::Resize,
+        Event::MouseDown { at, .. } => Popped::Press(at.x, at.y),
+        Event::MouseUp { at, .. } => Popped::Release(at.x, at.y),
+        Event::MouseMove { at, dx, dy } => Popped::Point(at.x, at.y, dx, dy),
         _ => Popped::Other,
-    })
+    }
 }
 
-fn numbers(a: Area) -> [u32; 4] {
-    [a.0, a.1, a.2, a.3]
+fn rect(a: Area) -> Rect {
+    Rect::new(a.0, a.1, a.2, a.3)
+}
+
+fn answer<T>(done: Result<T, Error>) -> u32 {
+    done.map_or_else(Error::number, |_| 0)
 }
 
 impl Side for Ours {
     fn call(&mut self, call: &Call) -> Reply {
-        let s = &mut self.station;
+        let s = &mut self.session;
         Reply::Answer(match *call {
-            Call::Create => {
-                let (answer, id) = s.create();
-                assert_eq!(answer, 0, "create");
-                return Reply::Id(u32::from(id));
-            }
-            Call::Pop(id) => {
-                let (answer, event) = s.pop(id);
-                return Reply::Event(popped(answer, event));
-            }
-            Call::Visible(id) => return Reply::Count(s.visible(id, &mut self.list).1),
-            Call::Share(id) => return Reply::Share(s.share(id)),
+            Call::Create => return Reply::Id(s.create().expect("create").into()),
+            Call::Pop(id) => return Reply::Event(s.pop(Id::from(id)).ok().map(popped)),
+            Call::Visible(id) => return Reply::Count(s.visible(Id::from(id), &mut self.list).map_or(0, <[_]>::len)),
+            Call::Share(id) => return Reply::Share(s.share(Id::from(id))),
             Call::Hits(ref points) => {
-                self.points = points.len() / 2;
-                s.hits(points, &mut self.answers)
+                self.points = points.len();
+                answer(s.hits(points, &mut self.answers))
             }
             Call::Busiest(ref times) => return Reply::Second(busiest(times)),
-            Call::Show(id) => s.show(id),
-            Call::Hide(id) => s.hide(id),
-            Call::Drop(id) => s.drop(id),
-            Call::Mark(id) => s.mark(id),
-            Call::Move(id, x, y) => s.move_window(id, x, y),
-            Call::Layer(id, layer) => s.set_layer(id, layer),
-            Call::Resize(id, w, h) => s.resize(id, w, h, &mut self.store),
-            Call::Fill(id, area, colour) => s.fill(id, numbers(area), colour, &mut self.store).answer,
-            Call::Blit(id, area, ref data) => s.blit(id, numbers(area), data, area.2 as usize, &mut self.store).answer,
-            Call::Press(x, y) => s.route(mouse(MOUSE_DOWN, x, y)),
-            Call::Release(x, y) => s.route(mouse(MOUSE_UP, x, y)),
-            Call::Point(x, y) => s.route(mouse(MOUSE_MOVE, x, y)),
-            Call::Redraw(told) => s.redraw(told, &self.store, &mut self.screen, self.width, self.height),
-            Call::Begin(told) => s.begin(told),
-            Call::Portion => s.portion(&self.store, &mut self.screen, self.width, self.height),
-            Call::Dim(on) => s.dim(on),
+            Call::Show(id) => answer(s.show(Id::from(id))),
+            Call::Hide(id) => answer(s.hide(Id::from(id))),
+            Call::Drop(id) => answer(s.drop(Id::from(id))),
+            Call::Mark(id) => answer(s.mark(Id::from(id))),
+            Call::Move(id, x, y) => answer(s.move_window(Id::from(id), x, y)),
+            Call::Layer(id, layer) => answer(s.set_layer(Id::from(id), layer)),
+            Call::Resize(id, w, h) => answer(s.resize(Id::from(id), w, h, &mut self.store)),
+            Call::Fill(id, area, colour) => answer(s.fill(Id::from(id), rect(area), colour, &mut self.store)),
+            Call::Blit(id, area, ref data) => {
+                answer(s.blit(Id::from(id), rect(area), area.2 as usize, data, &mut self.store))
+            }
+            Call::Press(x, y) => answer(s.route(Event::MouseDown { at: Pos::new(x, y), button: 1 })),
+            Call::Release(x, y) => answer(s.route(Event::MouseUp { at: Pos::new(x, y), button: 1 })),
+            Call::Point(x, y) => answer(s.route(Event::mouse_move(Pos::new(x, y)))),
+            Call::Redraw(told) => answer(s.redraw(told, self.width, self.height, &self.store, &mut self.screen)),
+            Call::Begin(told) => answer(s.begin(told)),
+            Call::Portion => answer(s.portion(self.width, self.height, &self.store, &mut self.screen)),
+            Call::Dim(on) => answer(s.dim(on)),
         })
     }
 
@@ -177,11 +166,11 @@ impl Side for Ours {
 
     fn state(&mut self) -> State {
         State {
-            focus: self.station.focus(),
+            focus: u32::from(self.session.focus()) as u16,
             visible: (0..16).map(|id| self.visible(id)).collect(),
             pixels: (0..16).map(|id| self.pixels(id)).collect(),
             screen: self.screen.clone(),
-            points: self.answers[..3 * self.points].chunks(3).map(|a| (a[0] < 16).then_some((a[1], a[2]))).collect(),
+            points: self.answers[..self.points].iter().map(|hit| hit.id().map(|_| (hit.at.x, hit.at.y))).collect(),
         }
     }
 }

@@ -2,7 +2,7 @@
 //! redraws, visible lists and shares.
 use crate::call::{Area, Call, Popped, Reply, Side, State};
 use crate::shares;
-use crate::station::Share;
+use roqshyn::{Error, Share};
 use std::ffi::c_void;
 use std::ptr::null_mut;
 
@@ -180,7 +180,7 @@ impl Pixman {
         }
     }
 
-    fn share(&self, id: usize) -> Share {
+    fn share(&self, id: usize) -> Result<Share, Error> {
         let Area(_, _, w, h) = self.windows[id].at;
         let area = |b: &Box32| ((b.x2 - b.x1) * (b.y2 - b.y1)) as u32;
         shares::share(self.seen(id).rectangles().iter().map(area).sum(), w * h)

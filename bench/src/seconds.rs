@@ -3,7 +3,7 @@
 use crate::call::{Call, Reply, Side, State};
 use crate::class::{Beside, Class};
 use crate::scene;
-use crate::station::Second;
+use roqshyn::{Error, Second};
 
 /// How the names of the classes begin, and those of the square form end.
 pub const BUSIEST: &str = "busiest second";
@@ -50,7 +50,7 @@ fn run(seed: u32, gap: fn(u32) -> u32) -> Vec<u32> {
     (0..EVENTS).map(next).collect()
 }
 
-pub struct InRust(fn(&[u32]) -> Second);
+pub struct InRust(fn(&[u32]) -> Result<Second, Error>);
 
 impl InRust {
     pub fn one_pass() -> InRust {
@@ -61,20 +61,16 @@ impl InRust {
     }
 }
 
-fn refused(answer: u32) -> Second {
-    Second { answer, count: 0, place: 0 }
-}
-
-fn one_pass(times: &[u32]) -> Second {
+fn one_pass(times: &[u32]) -> Result<Second, Error> {
     if times.len() > EVENTS as usize {
-        return refused(26);
+        return Err(Error::RunLength);
     }
     let (mut first, mut next, mut before) = (0, 0, 0);
     let (mut count, mut place) = (0, 0);
     while next < times.len() {
         let time = times[next];
         if time < before {
-            return refused(27);
+            return Err(Error::TimesDescend);
         }
         if time - times[first] < 1000 {
             before = time;
@@ -87,15 +83,15 @@ fn one_pass(times: &[u32]) -> Second {
             first += 1;
         }
     }
-    Second { answer: 0, count, place }
+    Ok(Second { count, place })
 }
 
-fn square(times: &[u32]) -> Second {
+fn square(times: &[u32]) -> Result<Second, Error> {
     if times.len() > EVENTS as usize {
-        return refused(26);
+        return Err(Error::RunLength);
     }
     if !times.is_sorted() {
-        return refused(27);
+        return Err(Error::TimesDescend);
     }
     let (mut count, mut place) = (0, 0);
     for (at, &time) in times.iter().enumerate() {
@@ -104,7 +100,7 @@ fn square(times: &[u32]) -> Second {
             (count, place) = (events, at);
         }
     }
-    Second { answer: 0, count, place }
+    Ok(Second { count, place })
 }
 
 impl Side for InRust {

@@ -5,7 +5,7 @@ use crate::class::{Beside, Class};
 use crate::ours::Ours;
 use crate::pixman;
 use crate::scene::free_crossing;
-use crate::station::Share;
+use roqshyn::{Error, Share};
 
 /// How the names of the classes begin.
 pub const SHARE: &str = "share in view";
@@ -25,12 +25,12 @@ fn lowest(beside: Beside, way: &str) -> Class {
 }
 
 /// The share of a window of `size` pixels.
-pub fn share(unobscured: u32, size: u32) -> Share {
+pub fn share(unobscured: u32, size: u32) -> Result<Share, Error> {
     if size == 0 {
-        return Share { answer: 24, percent: 0, remainder: 0 };
+        return Err(Error::NotInView);
     }
     let hundred = 100 * unobscured;
-    Share { answer: 0, percent: hundred / size, remainder: hundred % size }
+    Ok(Share { percent: hundred / size, remainder: hundred % size })
 }
 
 /// Our library without shares.

@@ -7,7 +7,6 @@ use crate::measure::Measured;
 use crate::report::{nanoseconds, whole};
 use crate::scene::{HEIGHT, WIDTH};
 use crate::seconds::{BUSIEST, EVENTS, KINDS, SQUARE};
-use crate::station::Station;
 use std::collections::{BTreeMap, BTreeSet};
 
 /// A number for each exported function, from lines `function number`.
@@ -67,7 +66,7 @@ pub fn station(classes: &[Class], results: &[Measured], stack: &Numbers) -> Stri
         ("share of a core at 200 events and 30 full redraws a second", shares("")),
         ("the same, no pixel in a cache at a redraw", shares(COLD)),
         ("longest call", (call(WIDTH), call(8 * WIDTH))),
-        ("session", both(format!("{} bytes", whole(size_of::<Station>() as f64)))),
+        ("session", both(format!("{} bytes", whole(size_of::<roqshyn::Session>() as f64)))),
         ("store of 16 windows, C = 384,000 (800 by 480)", both(format!("{} bytes", whole(f64::from(16 * c * 4))))),
         ("screen", (screen(1), screen(8))),
         ("stack, deepest call", both(deepest)),

@@ -83,7 +83,7 @@ impl Side for Theirs {
             Call::Redraw(told) => g.redraw(told || self.owed),
             Call::Hits(ref points) => {
                 self.points.clear();
-                self.points.extend(points.chunks_exact(2).map(|point| g.at(point[0], point[1])));
+                self.points.extend(points.iter().map(|point| g.at(point.x, point.y)));
             }
             Call::Begin(_) | Call::Portion | Call::Dim(_) | Call::Share(_) | Call::Busiest(_) => {
                 unreachable!("the original has no such call")

@@ -1,107 +1,111 @@
 //! The calls of panels.calls, made from Rust. Writes what the program `replay` writes for that script.
-#[allow(dead_code)]
-#[path = "../../bench/src/station.rs"]
-mod station;
-
-use station::{Altered, Event, Station, MOUSE_DOWN, MOUSE_MOVE, RESIZE};
+use roqshyn::{Error, Event, Pos, Rect, Session, MOST_RECTS, WINDOWS};
 
 const C: u32 = 72;
 const WIDTH: u32 = 12;
 const HEIGHT: u32 = 6;
+const PLAN: u8 = 0;
+const PANEL: u8 = 1;
 
 struct Panels {
-    station: Station,
+    session: Session,
     store: Vec<u32>,
     screen: Vec<u32>,
 }
 
-/// The answer of a call that hands nothing else back.
-fn say(answer: u32) {
-    println!("{answer}");
+/// The line of a call: 0 and what it hands back, or the number of the question.
+fn say(answer: Result<String, Error>) {
+    match answer {
+        Ok(handed) => println!("0{handed}"),
+        Err(question) => println!("{}", question.number()),
+    }
 }
 
-/// The answer of a call that writes pixels, and how many it altered.
-fn say_altered(written: Altered) {
-    match written.answer {
-        0 => println!("0 {}", written.altered),
-        answer => say(answer),
-    }
+/// Of a call that hands nothing back.
+fn done(answer: Result<(), Error>) {
+    say(answer.map(|()| String::new()));
 }
 
 fn numbers(of: &[u32]) -> String {
     of.iter().map(|n| format!(" {n}")).collect()
 }
 
+fn rect(r: &Rect) -> String {
+    numbers(&[r.pos.x, r.pos.y, r.dims.w, r.dims.h])
+}
+
+fn named(event: Event) -> String {
+    match event {
+        Event::Resize => " Resize".to_string(),
+        Event::MouseDown { at, button } => format!(" MouseDown {} {} {button}", at.x, at.y),
+        Event::MouseMove { at, dx, dy } => format!(" MouseMove {} {} {dx} {dy}", at.x, at.y),
+        other => format!(" {other:?}"),
+    }
+}
+
 impl Panels {
     fn create(&mut self) {
-        match self.station.create() {
-            (0, id) => println!("0 {id}"),
-            (answer, _) => say(answer),
-        }
+        say(self.session.create().map(|id| numbers(&[id.into()])));
     }
-    fn resize(&mut self, id: u16, w: u32, h: u32) {
-        say(self.station.resize(id, w, h, &mut self.store));
+    fn resize(&mut self, id: u8, w: u32, h: u32) {
+        done(self.session.resize(id.into(), w, h, &mut self.store));
     }
-    fn fill(&mut self, id: u16, area: [u32; 4], colour: u32) {
-        say_altered(self.station.fill(id, area, colour, &mut self.store));
+    fn fill(&mut self, id: u8, area: Rect, colour: u32) {
+        say(self.session.fill(id.into(), area, colour, &mut self.store).map(|altered| format!(" {altered}")));
     }
-    fn visible(&mut self, id: u16) {
-        let mut list = [0; 1984];
-        match self.station.visible(id, &mut list) {
-            (0, count) => println!("0 {count}{}", numbers(&list[..4 * count])),
-            (answer, _) => say(answer),
-        }
+    fn blit(&mut self, id: u8, area: Rect, data: &[u32]) {
+        let stride = area.dims.w as usize;
+        say(self.session.blit(id.into(), area, stride, data, &mut self.store).map(|altered| format!(" {altered}")));
+    }
+    fn visible(&mut self, id: u8) {
+        let mut list = [Rect::default(); MOST_RECTS];
+        let seen = self.session.visible(id.into(), &mut list);
+        say(seen.map(|seen| format!(" {}{}", seen.len(), seen.iter().map(rect).collect::<String>())));
     }
     fn press(&mut self, x: u32, y: u32) {
-        say(self.station.route(Event { kind: MOUSE_DOWN, x, y, button: 1, ..Event::default() }));
+        done(self.session.route(Event::MouseDown { at: Pos::new(x, y), button: 1 }));
     }
     fn finger(&mut self, x: u32, y: u32) {
-        say(self.station.route(Event { kind: MOUSE_MOVE, x, y, ..Event::default() }));
+        done(self.session.route(Event::mouse_move(Pos::new(x, y))));
     }
-    fn pop(&mut self, id: u16) {
-        let (answer, e) = self.station.pop(id);
-        match e.kind {
-            RESIZE => println!("{answer} Resize"),
-            MOUSE_DOWN => println!("{answer} MouseDown {} {} {}", e.x, e.y, e.button),
-            MOUSE_MOVE => println!("{answer} MouseMove {} {} {} {}", e.x, e.y, e.dx, e.dy),
-            _ => say(answer),
-        }
+    fn pop(&mut self, id: u8) {
+        say(self.session.pop(id.into()).map(named));
     }
     /// Draws, and shows the screen.
     fn redraw(&mut self) {
-        say(self.station.redraw(false, &self.store, &mut self.screen, WIDTH, HEIGHT));
+        done(self.session.redraw(false, WIDTH, HEIGHT, &self.store, &mut self.screen));
         println!("0{}", numbers(&self.screen));
     }
 
     /// A walk of one portion, one more, and the screen.
     fn walk(&mut self) {
-        say(self.station.begin(false));
+        done(self.session.begin(false));
         for _ in 0..2 {
-            say(self.station.portion(&self.store, &mut self.screen, WIDTH, HEIGHT));
+            done(self.session.portion(WIDTH, HEIGHT, &self.store, &mut self.screen));
         }
         println!("0{}", numbers(&self.screen));
     }
 
     /// Dimming on, and the screen.
     fn dim(&mut self) {
-        say(self.station.dim(true));
+        done(self.session.dim(true));
         self.redraw();
     }
 
     fn draw_panels(&mut self) {
         self.create();
         self.create();
-        self.resize(0, 12, 6);
-        self.resize(1, 6, 3);
-        self.fill(0, [0, 0, 12, 6], 1);
-        say_altered(self.station.blit(0, [0, 3, 12, 1], &[2; 12], 12, &mut self.store));
-        self.fill(1, [0, 0, 6, 3], 3);
-        self.fill(1, [1, 1, 2, 1], 4);
-        say(self.station.move_window(1, 4, 2));
-        say(self.station.show(0));
-        say(self.station.show(1));
+        self.resize(PLAN, 12, 6);
+        self.resize(PANEL, 6, 3);
+        self.fill(PLAN, Rect::new(0, 0, 12, 6), 1);
+        self.blit(PLAN, Rect::new(0, 3, 12, 1), &[2; 12]);
+        self.fill(PANEL, Rect::new(0, 0, 6, 3), 3);
+        self.fill(PANEL, Rect::new(1, 1, 2, 1), 4);
+        done(self.session.move_window(PANEL.into(), 4, 2));
+        done(self.session.show(PLAN.into()));
+        done(self.session.show(PANEL.into()));
         self.redraw();
-        self.visible(0);
+        self.visible(PLAN);
     }
 
     fn press_panels(&mut self) {
@@ -109,39 +113,40 @@ impl Panels {
         self.press(1, 3);
         self.press(12, 0);
         self.finger(7, 4);
-        println!("0 {}", self.station.focus());
-        (0..4).for_each(|_| self.pop(1));
-        (0..3).for_each(|_| self.pop(0));
+        println!("0 {}", u32::from(self.session.focus()));
+        (0..4).for_each(|_| self.pop(PANEL));
+        (0..3).for_each(|_| self.pop(PLAN));
     }
 
     /// The panel stays above the plan, which is hidden and shown again.
     fn keep_on_top(&mut self) {
-        say(self.station.set_layer(1, 2));
-        say(self.station.set_layer(1, 1));
-        say(self.station.hide(0));
-        say(self.station.show(0));
+        done(self.session.set_layer(PANEL.into(), 2));
+        done(self.session.set_layer(PANEL.into(), 1));
+        done(self.session.hide(PLAN.into()));
+        done(self.session.show(PLAN.into()));
         self.redraw();
     }
 }
 
-fn main() {
-    let (answer, station) = Station::start(C);
-    say(answer);
-    let store = vec![0; 16 * C as usize];
+fn main() -> Result<(), Error> {
+    let session = Session::start(C)?;
+    println!("0");
+    let store = vec![0; WINDOWS * C as usize];
     let screen = vec![0; (WIDTH * HEIGHT) as usize];
-    let mut panels = Panels { station, store, screen };
+    let mut panels = Panels { session, store, screen };
     panels.draw_panels();
     panels.press_panels();
-    panels.fill(1, [1, 1, 2, 1], 5);
-    say(panels.station.mark(1));
+    panels.fill(PANEL, Rect::new(1, 1, 2, 1), 5);
+    done(panels.session.mark(PANEL.into()));
     panels.redraw();
     panels.keep_on_top();
-    say(panels.station.drop(1));
+    done(panels.session.drop(PANEL.into()));
     panels.redraw();
-    panels.pop(1);
-    panels.fill(0, [0, 3, 12, 1], 6);
-    say(panels.station.mark(0));
+    panels.pop(PANEL);
+    panels.fill(PLAN, Rect::new(0, 3, 12, 1), 6);
+    done(panels.session.mark(PLAN.into()));
     panels.walk();
-    panels.fill(0, [0, 3, 12, 1], 0x00ff_8040);
+    panels.fill(PLAN, Rect::new(0, 3, 12, 1), 0x00ff_8040);
     (0..2).for_each(|_| panels.dim());
+    Ok(())
 }

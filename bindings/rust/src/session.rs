@@ -1,0 +1,203 @@
+//! A session and its calls, in the order of roqshyn.h, which says of each what it does and what it asks.
+use crate::raw;
+use crate::{Error, Event, Id, Pos, Rect};
+use core::cell::Cell;
+use core::marker::PhantomData;
+
+/// So many windows there may be; the store has as many times C pixels.
+pub const WINDOWS: usize = 16;
+/// A list of so many rectangles always suffices for [`Session::visible`].
+pub const MOST_RECTS: usize = 496;
+/// So many points [`Session::hits`] takes at most.
+pub const MOST_POINTS: usize = 32;
+
+/// A session. It is begun by `start`, and only its own calls change it, which is all that the library asks of a caller.
+///
+/// SAFETY of every call below: the pointer is that of a session which `roq_start` and later calls left; a pointer and a length are those of one
+/// slice, which is lent for the call, and no two slices overlap; every other argument may be any number.
+// One thread at a time uses it: the mark keeps it from being shared.
+pub struct Session(raw::Session, PhantomData<Cell<()>>);
+
+/// How much of a window is in view: 100 times its unobscured pixels, divided by all its pixels.
+#[derive(Clone, Copy, Debug, PartialEq, Eq)]
+pub struct Share {
+    pub percent: u32,
+    pub remainder: u32,
+}
+
+/// What lies under a point: a window, by its number, and the point in it; or 16, at (0,0).
+#[repr(C)]
+#[derive(Clone, Copy, Debug, Default, PartialEq, Eq)]
+pub struct Hit {
+    pub window: u32,
+    pub at: Pos,
+}
+
+impl Hit {
+    /// The window, if there is one.
+    pub fn id(self) -> Option<Id> {
+        Id::try_from(self.window).ok().filter(|_| self.window < WINDOWS as u32)
+    }
+}
+
+#[inline]
+fn altered(altered: raw::Altered) -> Result<usize, Error> {
+    Error::checked(altered.answer).map(|()| altered.altered)
+}
+
+impl Session {
+    /// A session without windows, whose windows will have room for c pixels each.
+    pub fn start(c: u32) -> Result<Session, Error> {
+        // `roq_start` asks for zeros or a session.
+        let mut session = Session(raw::Session::ZEROS, PhantomData);
+        Error::checked(unsafe { raw::roq_start(&mut session.0, c) })?;
+        Ok(session)
+    }
+
+    /// A window with the smallest unused id, at (0,0), of size (0,0), hidden.
+    #[inline]
+    pub fn create(&mut self) -> Result<Id, Error> {
+        let made = unsafe { raw::roq_create(&mut self.0) };
+        Error::checked(made.answer).map(|()| Id(made.id))
+    }
+
+    /// Puts a window on top of its layer and gives it the focus; nothing where it is shown.
+    #[inline]
+    pub fn show(&mut self, id: Id) -> Result<(), Error> {
+        Error::checked(unsafe { raw::roq_show(&mut self.0, id.0) })
+    }
+
+    /// Takes a window off the screen; nothing where it is hidden.
+    #[inline]
+    pub fn hide(&mut self, id: Id) -> Result<(), Error> {
+        Error::checked(unsafe { raw::roq_hide(&mut self.0, id.0) })
+    }
+
+    /// Hides a window and frees its id.
+    #[inline]
+    pub fn drop(&mut self, id: Id) -> Result<(), Error> {
+        Error::checked(unsafe { raw::roq_drop(&mut self.0, id.0) })
+    }
+
+    /// Has the next redraw draw a window's damage, or all that is seen of it where it has none.
+    #[inline]
+    pub fn mark(&mut self, id: Id) -> Result<(), Error> {
+        Error::checked(unsafe { raw::roq_mark(&mut self.0, id.0) })
+    }
+
+    /// Places a window's top left corner.
+    #[inline]
+    pub fn move_window(&mut self, id: Id, x: u32, y: u32) -> Result<(), Error> {
+        Error::checked(unsafe { raw::roq_move(&mut self.0, id.0, x, y) })
+    }
+
+    /// Puts a window on layer 0 or 1, at its top if it is shown: none of layer 0 covers those of layer 1, or takes a press on them.
+    #[inline]
+    pub fn set_layer(&mut self, id: Id, layer: u32) -> Result<(), Error> {
+        Error::checked(unsafe { raw::roq_set_layer(&mut self.0, id.0, layer) })
+    }
+
+    /// Gives a window another size; the pixels of both sizes stay.
+    #[inline]
+    pub fn resize(&mut self, id: Id, w: u32, h: u32, store: &mut [u32]) -> Result<(), Error> {
+        Error::checked(unsafe { raw::roq_resize(&mut self.0, id.0, w, h, store.as_mut_ptr(), store.len()) })
+    }
+
+    /// Fills the part of the area that lies in the window, and counts the pixels that have another value then.
+    #[inline]
+    pub fn fill(&mut self, id: Id, area: Rect, colour: u32, store: &mut [u32]) -> Result<usize, Error> {
+        altered(unsafe { raw::roq_fill(&mut self.0, id.0, area, colour, store.as_mut_ptr(), store.len()) })
+    }
+
+    /// Rows of the area take successive chunks of `stride` data; it counts likewise.
+    #[inline]
+    pub fn blit(&mut self, id: Id, area: Rect, stride: usize, data: &[u32], store: &mut [u32]) -> Result<usize, Error> {
+        let (px, len) = (store.as_mut_ptr(), store.len());
+        altered(unsafe { raw::roq_blit(&mut self.0, id.0, area, stride, data.as_ptr(), data.len(), px, len) })
+    }
+
+    /// Hands an event on: keys to the focus, pointer events to the topmost window at the point, a MouseUp to the window of its MouseDown.
+    #[inline]
+    pub fn route(&mut self, event: Event) -> Result<(), Error> {
+        Error::checked(unsafe { raw::roq_route(&mut self.0, event.numbers()) })
+    }
+
+    /// The oldest event of a window's queue, or else its unread MouseMove.
+    #[inline]
+    pub fn pop(&mut self, id: Id) -> Result<Event, Error> {
+        let popped = unsafe { raw::roq_pop(&mut self.0, id.0) };
+        Error::checked(popped.answer).map(|()| Event::of(popped.event))
+    }
+
+    /// Draws the shown windows on the screen: everything where `told` or owed, else the marked ones.
+    #[inline]
+    pub fn redraw(
+        &mut self,
+        told: bool,
+        width: u32,
+        height: u32,
+        store: &[u32],
+        screen: &mut [u32],
+    ) -> Result<(), Error> {
+        let (px, len) = (screen.as_mut_ptr(), screen.len());
+        let s = &mut self.0;
+        Error::checked(unsafe { raw::roq_redraw(s, told, width, height, store.as_ptr(), store.len(), px, len) })
+    }
+
+    /// Begins a walk, which is a redraw window by window.
+    #[inline]
+    pub fn begin(&mut self, told: bool) -> Result<(), Error> {
+        Error::checked(unsafe { raw::roq_begin(&mut self.0, told) })
+    }
+
+    /// Draws the walk's next window, lowest first; [`Error::NoWalk`] where it is over.
+    #[inline]
+    pub fn portion(&mut self, width: u32, height: u32, store: &[u32], screen: &mut [u32]) -> Result<(), Error> {
+        let (px, len) = (screen.as_mut_ptr(), screen.len());
+        let s = &mut self.0;
+        Error::checked(unsafe { raw::roq_portion(s, width, height, store.as_ptr(), store.len(), px, len) })
+    }
+
+    /// Switches dimming.
+    #[inline]
+    pub fn dim(&mut self, on: bool) -> Result<(), Error> {
+        Error::checked(unsafe { raw::roq_dim(&mut self.0, on) })
+    }
+
+    /// The visible rectangles of a window, relative to it, at the front of the list.
+    #[inline]
+    pub fn visible<'a>(&self, id: Id, list: &'a mut [Rect]) -> Result<&'a [Rect], Error> {
+        // A rectangle is four numbers.
+        let listing = unsafe { raw::roq_visible(&self.0, id.0, list.as_mut_ptr().cast(), 4 * list.len()) };
+        Error::checked(listing.answer).map(|()| &list[..listing.count])
+    }
+
+    /// How much of a window is in view.
+    #[inline]
+    pub fn share(&self, id: Id) -> Result<Share, Error> {
+        let share = unsafe { raw::roq_share(&self.0, id.0) };
+        Error::checked(share.answer).map(|()| Share { percent: share.percent, remainder: share.remainder })
+    }
+
+    /// What lies under up to 32 points, in their order, at the front of the answers.
+    #[inline]
+    pub fn hits<'a>(&self, points: &[Pos], answers: &'a mut [Hit]) -> Result<&'a [Hit], Error> {
+        // A point is two numbers, an answer three.
+        let (from, to) = (points.as_ptr().cast(), answers.as_mut_ptr().cast());
+        Error::checked(unsafe { raw::roq_hits(&self.0, from, 2 * points.len(), to, 3 * answers.len()) })?;
+        Ok(&answers[..points.len()])
+    }
+
+    /// The window that has the focus; 0 where none is shown.
+    #[inline]
+    pub fn focus(&self) -> Id {
+        Id(unsafe { raw::roq_focus(&self.0) })
+    }
+
+    /// A window's position and size.
+    #[inline]
+    pub fn rect_of(&self, id: Id) -> Result<Rect, Error> {
+        let placed = unsafe { raw::roq_rect_of(&self.0, id.0) };
+        Error::checked(placed.answer).map(|()| placed.rect)
+    }
+}

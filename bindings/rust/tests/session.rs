@@ -1,0 +1,176 @@
+//! Every call through the bindings, with what it hands back and a refusal.
+use roqshyn::*;
+
+const C: u32 = 64;
+
+/// Two windows shown, the plan of 8 by 8 and a panel of 4 by 3 at (2,3).
+struct Station {
+    session: Session,
+    store: Vec<u32>,
+    screen: Vec<u32>,
+    plan: Id,
+    panel: Id,
+}
+
+fn station() -> Station {
+    let mut store = vec![0; WINDOWS * C as usize];
+    let mut session = Session::start(C).unwrap();
+    let (plan, panel) = (session.create().unwrap(), session.create().unwrap());
+    session.resize(plan, 8, 8, &mut store).unwrap();
+    session.resize(panel, 4, 3, &mut store).unwrap();
+    session.move_window(panel, 2, 3).unwrap();
+    session.show(plan).unwrap();
+    session.show(panel).unwrap();
+    Station { session, store, screen: vec![0; 64], plan, panel }
+}
+
+fn press(x: u32, y: u32) -> Event {
+    Event::MouseDown { at: Pos::new(x, y), button: 1 }
+}
+
+#[test]
+fn a_start_is_refused() {
+    assert_eq!(Session::start(0).err(), Some(Error::Capacity));
+    assert_eq!(Session::start(1_048_577).err(), Some(Error::Capacity));
+}
+
+#[test]
+fn ids() {
+    let mut session = Session::start(1).unwrap();
+    for number in 0..16_u8 {
+        assert_eq!(session.create(), Ok(Id::from(number)));
+    }
+    assert_eq!(session.create(), Err(Error::NoFreeId));
+    // 65,536 cut to 16 bits would be window 0.
+    assert_eq!(Id::try_from(65_536).and_then(|id| session.show(id)), Err(Error::UnknownId));
+    assert_eq!(Id::try_from(-1), Err(Error::UnknownId));
+    assert_eq!(session.show(Id::from(16_u8)), Err(Error::UnknownId));
+    assert_eq!(session.drop(Id::from(3_u8)), Ok(()));
+    assert_eq!(session.create(), Ok(Id::from(3_u8)));
+}
+
+#[test]
+fn pixels_of_windows() {
+    let Station { mut session, mut store, mut screen, plan, panel } = station();
+    assert_eq!(session.fill(plan, Rect::new(0, 0, 8, 8), 7, &mut store), Ok(64));
+    assert_eq!(session.fill(plan, Rect::new(0, 0, 8, 8), 7, &mut store), Ok(0));
+    assert_eq!(session.blit(panel, Rect::new(0, 0, 2, 2), 3, &[1, 2, 9, 3, 4, 9], &mut store), Ok(4));
+    assert_eq!(session.fill(plan, Rect::new(0, 0, 1, 1), 7, &mut store[1..]), Err(Error::StoreLength));
+    assert_eq!(session.blit(panel, Rect::new(0, 0, 1, 1), 0, &[1], &mut store), Err(Error::Stride));
+    assert_eq!(session.resize(panel, 9, 8, &mut store), Err(Error::WindowSize));
+    assert_eq!(session.redraw(false, 8, 7, &store, &mut screen), Err(Error::ScreenSize));
+    assert_eq!(session.redraw(false, 8, 8, &store, &mut screen), Ok(()));
+    assert_eq!(screen[3 * 8..3 * 8 + 8], [7, 7, 1, 2, 0, 0, 7, 7]);
+    assert_eq!(session.move_window(panel, 32_768, 0), Err(Error::TooLarge));
+    assert_eq!(session.fill(panel, Rect::new(0, 0, 1, 1), 5, &mut store), Ok(1));
+    assert_eq!((session.redraw(false, 8, 8, &store, &mut screen), screen[3 * 8 + 2]), (Ok(()), 1));
+    assert_eq!(session.mark(panel), Ok(()));
+    assert_eq!((session.redraw(false, 8, 8, &store, &mut screen), screen[3 * 8 + 2]), (Ok(()), 5));
+}
+
+#[test]
+fn portions_and_dimming() {
+    let Station { mut session, mut store, mut screen, plan, .. } = station();
+    assert_eq!(session.portion(8, 8, &store, &mut screen), Err(Error::NoWalk));
+    assert_eq!(session.fill(plan, Rect::new(0, 0, 8, 8), 0x80, &mut store), Ok(64));
+    assert_eq!((session.dim(true), session.begin(false)), (Ok(()), Ok(())));
+    assert_eq!((session.portion(8, 8, &store, &mut screen), screen[0]), (Ok(()), 0x40));
+    assert_eq!(session.portion(8, 8, &store, &mut screen), Ok(()));
+    assert_eq!(session.portion(8, 8, &store, &mut screen), Err(Error::NoWalk));
+}
+
+#[test]
+fn a_panel_stays_on_top() {
+    let Station { mut session, mut store, mut screen, plan, panel } = station();
+    assert_eq!(session.fill(plan, Rect::new(0, 0, 8, 8), 7, &mut store), Ok(64));
+    assert_eq!(session.set_layer(panel, 2), Err(Error::Layer));
+    assert_eq!((session.set_layer(panel, 1), session.hide(plan), session.show(plan)), (Ok(()), Ok(()), Ok(())));
+    assert_eq!(session.focus(), plan);
+    assert_eq!((session.route(press(3, 4)), session.pop(panel)), (Ok(()), Ok(Event::Resize)));
+    assert_eq!(session.pop(panel), Ok(press(1, 1)));
+    assert_eq!((session.redraw(false, 8, 8, &store, &mut screen), screen[3 * 8 + 2]), (Ok(()), 0));
+}
+
+#[test]
+fn events_there_and_back() {
+    let Station { mut session, plan, panel, .. } = station();
+    let at = Pos::new(3, 4);
+    let (click, up) = (Event::MouseClick { at, button: 5, count: 6 }, Event::MouseUp { at: Pos::new(0, 7), button: 1 });
+    for event in [Event::KeyDown(7), Event::KeyUp(8), Event::Text(9), press(3, 4), click, Event::mouse_move(at), up] {
+        assert_eq!(session.route(event), Ok(()), "{event:?}");
+    }
+    assert_eq!(session.route(Event::KeyFire(1)), Err(Error::KeyFire));
+    assert_eq!(session.route(press(8, 0)), Err(Error::NoWindow));
+    assert_eq!(session.route(Event::Resize), Ok(()));
+    let at = Pos::new(1, 1);
+    // The release is off the panel: it comes at its nearest pixel, and before the move.
+    let (click, up) = (Event::MouseClick { at, button: 5, count: 6 }, Event::MouseUp { at: Pos::new(0, 2), button: 1 });
+    let moved = Event::MouseMove { at, dx: 1, dy: 1 };
+    for event in [Event::Resize, Event::KeyDown(7), Event::KeyUp(8), Event::Text(9), press(1, 1), click, up, moved] {
+        assert_eq!(session.pop(panel), Ok(event));
+    }
+    assert_eq!(session.pop(panel), Err(Error::NoEvent));
+    for _ in 1..16 {
+        assert_eq!(session.route(press(0, 0)), Ok(()));
+    }
+    assert_eq!(session.route(press(0, 0)), Err(Error::QueueFull));
+    assert_eq!(session.pop(plan), Ok(Event::Resize));
+}
+
+#[test]
+fn views() {
+    let Station { mut session, plan, panel, .. } = station();
+    let mut list = [Rect::default(); MOST_RECTS];
+    let seen = [Rect::new(0, 0, 8, 3), Rect::new(0, 3, 2, 3), Rect::new(6, 3, 2, 3), Rect::new(0, 6, 8, 2)];
+    assert_eq!(session.visible(plan, &mut list), Ok(&seen[..]));
+    assert_eq!(session.visible(plan, &mut list[..3]), Err(Error::ListLength));
+    assert_eq!(session.share(plan), Ok(Share { percent: 81, remainder: 16 }));
+    let points = [Pos::new(2, 3), Pos::new(7, 7), Pos::new(8, 8)];
+    let mut answers = [Hit::default(); MOST_POINTS];
+    let hits = session.hits(&points, &mut answers).unwrap();
+    assert_eq!(hits.iter().map(|h| h.id()).collect::<Vec<_>>(), [Some(panel), Some(plan), None]);
+    assert_eq!((hits[0].at, hits[1].at), (Pos::new(0, 0), Pos::new(7, 7)));
+    assert_eq!(session.hits(&points, &mut answers[..2]), Err(Error::Points));
+    assert_eq!((session.focus(), session.rect_of(panel)), (panel, Ok(Rect::new(2, 3, 4, 3))));
+    assert_eq!((session.hide(panel), session.focus(), session.share(panel)), (Ok(()), plan, Err(Error::NotInView)));
+}
+
+#[test]
+fn rectangles_alone() {
+    let (a, b) = (Rect::new(0, 0, 10, 10), Rect::new(4, 3, 9, 2));
+    assert_eq!((a.contains(Pos::new(9, 9)), a.contains(Pos::new(10, 9))), (Ok(true), Ok(false)));
+    assert_eq!((a.contains_rect(Rect::new(1, 1, 9, 9)), a.within(10, 9)), (Ok(true), Ok(false)));
+    assert_eq!((a.intersect(b), a.union(b)), (Ok(Some(Rect::new(4, 3, 6, 2))), Ok(Rect::new(0, 0, 13, 10))));
+    assert_eq!(a.intersect(Rect::new(10, 0, 1, 1)), Ok(None));
+    assert_eq!(
+        a.not_intersect(b).unwrap()[..],
+        [Rect::new(0, 0, 10, 3), Rect::new(0, 3, 4, 2), Rect::new(0, 5, 10, 5)]
+    );
+    assert_eq!(Rect::new(u32::MAX, 0, 1, 1).union(a), Err(Error::EdgeTooLarge));
+}
+
+#[test]
+fn pixels_alone() {
+    let mut pixels: Vec<u32> = (0..64).collect();
+    assert_eq!(scanline(&pixels, 8, 8, 3, 2, 100), Ok(&[26, 27, 28, 29, 30, 31][..]));
+    assert_eq!(scanline(&pixels, 8, 8, 8, 0, 1), Err(Error::OutsidePixels));
+    assert_eq!(region(&pixels, 8, 1, 2, 3, 2).map(|r| (r[0], r.len())), Ok((17, 11)));
+    scanline_mut(&mut pixels, 8, 8, 0, 0, 2).unwrap().fill(99);
+    region_mut(&mut pixels, 8, 2, 0, 1, 1).unwrap()[0] = 98;
+    assert_eq!(pixels[..4], [99, 99, 98, 3]);
+    assert_eq!(fill_scanline(&mut pixels, 8, 8, 0, 1, 9, 99), Ok(6));
+    assert_eq!(set_scanline(&mut pixels, 8, 8, 0, 0, 8, &[99, 5]), Ok(1));
+}
+
+#[test]
+fn times_alone() {
+    assert_eq!(busiest(&[7, 1007, 2006, 2006, 2007]), Ok(Second { count: 3, place: 1 }));
+    assert_eq!(busiest(&[2, 1]), Err(Error::TimesDescend));
+    assert_eq!(busiest(&[0; 4097]), Err(Error::RunLength));
+}
+
+#[test]
+fn an_error_says_its_question() {
+    let said = Error::NoEvent.to_string();
+    assert_eq!(said, "question 10 was answered with a no: there is an event to pop");
+}
