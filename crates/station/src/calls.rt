@@ -4,10 +4,13 @@
 // Before `roq_start` the memory holds zeros or a session; before any other call, a session that `roq_start` and later calls left.
 ghost use mathlib.Core.Path.{_≡_};
 ghost use Rattle.rules.specs.Calls.{Call};
-ghost use Rattle.windows.specs.View.{group, done, written, Given, Meets, MeetsStore, MeetsAltered, MeetsScreen, Starts, Lists, Shares, Hits, placed};
+ghost use Rattle.windows.specs.View.{group, done, written, Given, Meets, MeetsStore, MeetsAltered, MeetsScreen, Starts, Lists, Shares, Hits, Looks, placed};
 ghost use Rattle.station.specs.Answers.{Creates, Pops};
 ghost use Rattle.station.specs.Events.{eventOf, Routes};
+ghost use Rattle.station.specs.Looks.{lookOf};
 use crate::events::RoqEvent;
+use crate::looks;
+use crate::looks::RoqLook;
 use crate::values;
 use crate::values::RoqCreated;
 use crate::values::RoqPopped;
@@ -310,6 +313,22 @@ pub extern "C" fn roq_hits(s: &Session, points: &[u32], answers: &mut [u32]) -> 
     ensures { λ r. ⌜ Hits (group (now (s .entry))) (now (points .entry)) (now (answers .entry)) r (now (answers .exit)) ⌝ }
 {
     (*s).hits(points, answers)
+}
+
+#[no_mangle]
+pub extern "C" fn roq_look(
+    s: &Session,
+    id: WinId,
+    look: RoqLook,
+    tw: u32,
+    th: u32,
+    store: &[u32],
+    target: &mut [u32],
+) -> u32
+    requires { ⌜ Given (now s) ⌝ }
+    ensures { λ r. ⌜ Looks (group (now (s .entry))) (id .0) (lookOf look) (now (store .entry)) (now (target .entry)) tw th r (now (target .exit)) ⌝ }
+{
+    looks::look(*s, id, look, tw, th, store, target)
 }
 
 #[no_mangle]

@@ -4,6 +4,7 @@
 // call hands back beside its answer is a number or a struct of numbers.
 mod calls;
 mod events;
+mod looks;
 mod pixels;
 mod rects;
 mod times;

@@ -15,6 +15,7 @@ pub mod Pixels
 pub mod Listed
 pub mod InView
 pub mod Hits
+pub mod Looked
 pub mod Full
 pub mod Cleaned
 pub mod Drawn

@@ -8,6 +8,7 @@ use lib.ListN.{length, getD}
 use Rattle.geom.specs.Questions.{_is_, asked}
 use Rattle.geom.specs.Geom.{rect}
 use Rattle.winbuf.specs.declared.Altered.{Altered}
+use Rattle.look.specs.declared.Look.{Look}
 use Rattle.window.specs.declared.Window.{Window}
 use Rattle.window.specs.declared.Event.{Event}
 use Rattle.window.specs.Window.{Win}
@@ -16,6 +17,7 @@ use Rattle.rules.specs.Group.{Group, start, used, win}
 use Rattle.rules.specs.Group as Rule
 use Rattle.rules.specs.Share.{share}
 use Rattle.rules.specs.Hits.{hits}
+use Rattle.rules.specs.Look.{look}
 use Rattle.rules.specs.Visible.{visibleList}
 use Rattle.rules.specs.Calls.{Call, does, after}
 use Rattle.order.specs.declared.due.Walk.{Walk}
@@ -161,6 +163,11 @@ pub record Shares (g : Group) (id : ℕ) (r : InView) : Type 0 where
 pub record Hits (g : Group) (points before : List ℕ) (a : ℕ) (after : List ℕ) : Type 0 where
   pub answer : a ≡ hits g points before .answer
   pub list : after ≡ hits g points before .list
+
+-- a closer look: the answer and the lent target are the rule's
+pub record Looks (g : Group) (id : ℕ) (l : Look) (store before : List ℕ) (tw th : ℕ) (a : ℕ) (after : List ℕ) : Type 0 where
+  pub answer : a ≡ look g id l store before tw th .answer
+  pub target : after ≡ look g id l store before tw th .target
 
 -- position and size of a window: question 3, "any other number handed back 0"
 abbrev pub placed : Group → ℕ → Placed

@@ -31,6 +31,7 @@ pub mod redraw;
 mod share;
 mod small;
 pub mod store;
+mod zoom;
 
 // What the windows share: the render order, which holds the shown ones in its first `shown` places, lowest first; C; the focus; whether dimming
 // is on; `held`, the number of the window that took the last MouseDown, while it is remembered, else 16; what is still to be drawn; and the layer

@@ -51,6 +51,8 @@ use Rattle.windows.proofs.events.Aim as Aim
 use Rattle.windows.proofs.events.Aim.Laws as Aim′
 use Rattle.station.proofs.events.RoqEvent as RoqEvent
 use Rattle.station.proofs.events.RoqEvent.Laws as RoqEvent′
+use Rattle.station.proofs.looks.RoqLook as RoqLook
+use Rattle.station.proofs.looks.RoqLook.Laws as RoqLook′
 use Rattle.station.proofs.values.RoqCreated as RoqCreated
 use Rattle.station.proofs.values.RoqCreated.Laws as RoqCreated′
 use Rattle.station.proofs.values.RoqPopped as RoqPopped
@@ -108,6 +110,9 @@ next = ofStruct Next.the-type Next′.the-laws Next′.the-plain Next′.mir ref
 
 abbrev pub event : Plain
 event = ofStruct RoqEvent.the-type RoqEvent′.the-laws RoqEvent′.the-plain RoqEvent′.mir refl
+
+abbrev pub look : Plain
+look = ofStruct RoqLook.the-type RoqLook′.the-laws RoqLook′.the-plain RoqLook′.mir refl
 
 abbrev pub message : Plain
 message = ofStruct Message.the-type Message′.the-laws Message′.the-plain Message′.mir refl
