@@ -1,4 +1,5 @@
 //! A line of a call script, read as CALL-SCRIPT.md says.
+use crate::look::{Look, Zoom};
 use original::input::Event;
 use original::Rect;
 
@@ -40,9 +41,11 @@ pub enum Call {
     Focus,
     Share(u32),
     Hits(Vec<u32>),
+    Look(Look),
     Lend(u32),
     LendScreen(u32),
     LendList(u32),
+    LendTarget(u32),
     Screen(u32, u32),
     Pixels(u32),
     Picture(u32, u32, String),
@@ -124,9 +127,21 @@ fn session(word: &str, numbers: &[u32]) -> Option<Call> {
         ("visible", &[id]) => Call::Visible(id),
         ("focus", &[]) => Call::Focus,
         ("share", &[id]) => Call::Share(id),
+        ("look", &[id, xh, xl, yh, yl, fh, fl, width, height]) => {
+            let zoom = Zoom::Factor(float(fh, fl));
+            Call::Look(Look { id, x: float(xh, xl), y: float(yh, yl), zoom, width, height })
+        }
+        ("look-fit", &[id, xh, xl, yh, yl, width, height]) => {
+            Call::Look(Look { id, x: float(xh, xl), y: float(yh, yl), zoom: Zoom::Fit, width, height })
+        }
         ("hits", points) if points.len() <= MOST => Call::Hits(points.to_vec()),
         _ => return None,
     })
+}
+
+/// "x, y and factor as the upper and lower 32 bits of an f64"
+fn float(high: u32, low: u32) -> f64 {
+    f64::from_bits(u64::from(high) << 32 | u64::from(low))
 }
 
 fn event(word: &str, numbers: &[u32]) -> Option<Event> {
@@ -150,6 +165,7 @@ fn program(word: &str, numbers: &[u32]) -> Option<Call> {
         ("lend", &[pixels]) => Call::Lend(pixels),
         ("lend-screen", &[pixels]) => Call::LendScreen(pixels),
         ("lend-list", &[numbers]) => Call::LendList(numbers),
+        ("lend-target", &[pixels]) => Call::LendTarget(pixels),
         ("screen", &[w, h]) => Call::Screen(w, h),
         ("pixels", &[id]) => Call::Pixels(id),
         _ => return None,

@@ -9,6 +9,8 @@ mod entry;
 mod events;
 mod hits;
 mod lists;
+mod look;
+mod looks;
 mod pairs;
 mod panels;
 mod panics;
@@ -43,6 +45,7 @@ const USAGE: &str = "compare random REPLAY CALLS SEED
 compare portions REPLAY LISTS SEED
 compare busiest REPLAY RUNS SEED
 compare panels REPLAY PAIRS SEED
+compare look REPLAY LOOKS SEED
 compare sides REPLAY all|unasked FILE
 compare record FIRST LAST STDIN STDOUT
 compare play all|unasked";
@@ -67,6 +70,7 @@ fn command(words: &[&str]) -> io::Result<bool> {
         ["portions", replay, lists, seed] => portions::run(&Replay(replay.into()), number(lists)?, number(seed)?),
         ["busiest", replay, runs, seed] => runs::run(&Replay(replay.into()), number(runs)?, number(seed)?),
         ["panels", replay, pairs, seed] => panels::run(&Replay(replay.into()), number(pairs)?, number(seed)?),
+        ["look", replay, looks, seed] => looks::run(&Replay(replay.into()), number(looks)?, number(seed)?),
         ["sides", replay, word, file] => {
             let script = fs::read(file).map_err(|e| io::Error::other(format!("{file}: {e}")))?;
             sides::print(&Replay(replay.into()), &script, mode(word)?).map(|()| true)

@@ -5,6 +5,7 @@ use crate::call::{read, Call, Line};
 use crate::entry::Entry;
 use crate::events;
 use crate::hits;
+use crate::look;
 use crate::panics;
 use crate::picture;
 use crate::questions::{answer, cannot, Lent, SCREEN};
@@ -56,7 +57,7 @@ impl Player {
             group: Group::new(),
             screen: Arc::new(Mutex::new(vec![0; SCREEN as usize])),
             lines: 0,
-            lent: Lent { c: 1, store: 16, screen: None, list: None },
+            lent: Lent { c: 1, store: 16, screen: None, list: None, target: None },
             shadow: Shadow::fresh(Seen::default()),
         }
     }
@@ -114,6 +115,7 @@ impl Player {
         match call {
             Call::Redraw(..) | Call::Portion(..) => self.lent.screen = None,
             Call::Visible(_) | Call::Hits(_) => self.lent.list = None,
+            Call::Look(_) => self.lent.target = None,
             _ => {}
         }
     }
@@ -183,6 +185,7 @@ impl Player {
             Call::Lend(pixels) => self.lent.store = pixels,
             Call::LendScreen(pixels) => self.lent.screen = Some(pixels),
             Call::LendList(numbers) => self.lent.list = Some(numbers),
+            Call::LendTarget(pixels) => self.lent.target = Some(pixels),
             _ => {}
         }
     }
@@ -215,6 +218,7 @@ impl Player {
                 out.numbers(&[second.count, second.place]);
             }
             Call::Share(id) => out.numbers(&share::percent_and_remainder(&self.group, id)),
+            Call::Look(ref look) => out.numbers(&look::target(&self.group, look)),
             Call::Hits(ref points) => out.numbers(&hits::answers(&self.group, points)),
             _ => bare::make(call, out),
         }

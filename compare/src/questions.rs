@@ -2,6 +2,7 @@
 use crate::busiest;
 use crate::call::{Call, Scan};
 use crate::hits;
+use crate::look;
 use crate::share;
 use original::input::Event;
 use original::windows::group::Group;
@@ -11,25 +12,30 @@ use original::Rect;
 pub struct Lent {
     pub c: u32,
     pub store: u32,
-    /// The lengths for the next `redraw` or `portion` and the next `visible` or `hits`.
+    /// The lengths for the next `redraw` or `portion`, the next `visible` or `hits`, and the next `look` or `look-fit`.
     pub screen: Option<u32>,
     pub list: Option<u32>,
+    pub target: Option<u32>,
 }
 
 pub const STORE: u32 = 1_048_576;
 pub const SCREEN: u32 = 384_000;
 pub const LIST: u32 = 1_984;
+pub const TARGET: u32 = 65_536;
 /// What a `hits` is lent where no `lend-list` is pending.
 const POINTS: u32 = 96;
 
 /// Must the program answer `!`?
 pub fn cannot(call: &Call, lent: &Lent) -> bool {
-    let large = |w: u32, h: u32| u64::from(w) * u64::from(h) > u64::from(SCREEN);
+    let size = |w: u32, h: u32| u64::from(w) * u64::from(h);
+    let large = |w: u32, h: u32| size(w, h) > u64::from(SCREEN);
     match *call {
         Call::Start(c) => (STORE / 16 + 1..=1_048_576).contains(&c),
         Call::Lend(pixels) => pixels > STORE,
         Call::LendScreen(pixels) => pixels > SCREEN,
         Call::LendList(numbers) => numbers > LIST,
+        Call::LendTarget(pixels) => pixels > TARGET,
+        Call::Look(look) => lent.target.is_none() && size(look.width, look.height) > u64::from(TARGET),
         Call::Redraw(_, w, h) | Call::Portion(w, h) => lent.screen.is_none() && large(w, h),
         Call::Screen(w, h) | Call::Picture(w, h, _) => large(w, h),
         _ => false,
@@ -62,6 +68,10 @@ pub fn answer(call: &Call, group: &Group, lent: &Lent, is_walking: bool) -> u8 {
             first_no(&[used(*id), (9, needed(*id) <= room)])
         }
         Call::Share(id) => first_no(&[used(*id), (24, share::is_given(group, *id))]),
+        Call::Look(look) => {
+            let length = lent.target.unwrap_or(look.width.wrapping_mul(look.height));
+            first_no(&[store(), used(look.id), (22, look::is_allowed(look)), (23, look::is_target(look, length))])
+        }
         Call::Hits(points) => first_no(&[small(points), (25, hits::fit(points, lent.list.unwrap_or(POINTS)))]),
         _ => bare(call),
     }

@@ -22,8 +22,20 @@ pub struct Tally {
 const WRITES: [&str; 4] = ["fill", "blit", "fill-scanline", "set-scanline"];
 
 /// Lines that make no call of the original.
-const NO_CALL: [&str; 9] =
-    ["lend", "lend-screen", "lend-list", "screen", "pixels", "picture", "busiest", "share", "hits"];
+const NO_CALL: [&str; 12] = [
+    "lend",
+    "lend-screen",
+    "lend-list",
+    "lend-target",
+    "screen",
+    "pixels",
+    "picture",
+    "busiest",
+    "share",
+    "hits",
+    "look",
+    "look-fit",
+];
 
 impl Tally {
     /// Counts a line and its answer.

@@ -74,6 +74,10 @@ screenCall k ns store screen =
     cond (eqb k Kind.portion) (Call.Portion (num ns 0) (num ns 1) store screen)
     (Call.Redraw (eqb (num ns 0) 1) (num ns 1) (num ns 2) store screen)
 
+-- "`look ID XHI XLO YHI YLO FHI FLO TW TH`"; "`look-fit ID XHI XLO YHI YLO TW TH`": where TW stands
+abbrev pub sizeAt : ℕ → ℕ
+sizeAt k = cond (eqb k Kind.look-fit) 5 7
+
 -- Which function plays a line -----------------------------------------------------------------------------------------
 
 abbrev pub kinds : List (ℕ × Call) → List ℕ
@@ -99,8 +103,12 @@ isPlain k = isOne k (kinds (windowCalls [])) || routes k
 abbrev pub OnScreen : ℕ → Type 0
 OnScreen k = (k ≡ Kind.redraw) ⊎ (k ≡ Kind.portion)
 
+-- a target is lent
+abbrev pub OnTarget : ℕ → Type 0
+OnTarget k = (k ≡ Kind.look) ⊎ (k ≡ Kind.look-fit)
+
 -- pixels or a list are lent
 abbrev pub isLent : ℕ → Bool
 isLent k =
     within Kind.resize Kind.blit k
-    || (eqb k Kind.redraw || (eqb k Kind.portion || (eqb k Kind.visible || (eqb k Kind.hits || within Kind.screen Kind.region k))))
+    || (eqb k Kind.redraw || (eqb k Kind.portion || (eqb k Kind.visible || (eqb k Kind.hits || (eqb k Kind.look || (eqb k Kind.look-fit || within Kind.screen Kind.region k))))))

@@ -2,4 +2,5 @@
 pub mod Numbers
 pub mod Called
 pub mod Ready
+pub mod Looks
 pub mod Played

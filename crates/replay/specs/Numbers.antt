@@ -1,7 +1,8 @@
 -- The numbers of a line as the library's calls take them.
-use Prim.Native.Nat.{ℕ, _+_, min}
+use Prim.Native.Nat.{ℕ, _+_, _*_, min}
 use mathlib.Core.List.{List}
 use lib.ListN.{getD}
+use lib.Ieee.{Float, binary64, ofBits}
 use Rattle.geom.specs.declared.Rect.{Rect}
 use Rattle.geom.specs.Geom.{rect}
 use Rattle.script.specs.declared.shape.Line.{Line}
@@ -21,3 +22,7 @@ idOf ns = min (num ns 0) 16
 -- the rectangle of the four numbers from place i on
 abbrev pub rectAt : List ℕ → ℕ → Rect
 rectAt ns i = rect (num ns i) (num ns (i + 1)) (num ns (i + 2)) (num ns (i + 3))
+
+-- "x, y and factor as the upper and lower 32 bits of an f64"
+abbrev pub floatOf : ℕ → ℕ → Float
+floatOf high low = ofBits binary64 (high * 4294967296 + low)

@@ -20,8 +20,9 @@ use Rattle.windows.specs.declared.Listing.{Listing}
 use Rattle.windows.specs.View.{group, Meets}
 use Rattle.replay.specs.declared.player.Player.{Player}
 use Rattle.replay.specs.Numbers.{num, idOf}
-use Rattle.replay.specs.Called.{Picked, plainCall, storeCall, OnScreen, screenCall}
-use Rattle.replay.specs.Ready.{Next, lendStore, lendScreen, unset, lendList, unlisted, counted}
+use Rattle.replay.specs.Called.{Picked, plainCall, storeCall, OnScreen, screenCall, OnTarget}
+use Rattle.replay.specs.Ready.{Next, lendStore, lendScreen, unset, lendList, unlisted, lendTarget, untargeted, counted}
+use Rattle.replay.specs.Looks.{targetLen}
 
 -- "The program owns one store, one screen"
 pub record Pixels : Type 0 where
@@ -85,13 +86,15 @@ pub record Draws (k : ℕ) (ns : List ℕ) (len : ℕ) (p : Player) (store scree
 
 -- "A `start` whose C document 01 accepts but whose store the program cannot lend (C from 65,537 on), a `lend`, `lend-screen` or
 -- `lend-list` above those limits, and a `redraw` or `portion` (with no `lend-screen` pending) … of more than 384,000 pixels are answered by
--- `!`, and nothing is called."
+-- `!`, and nothing is called." The same holds of a `look` of more than 65,536 pixels and of a `lend-target` above that
 pub data Beyond (k : ℕ) (ns : List ℕ) (p : Player) : Type 0 where
   no-start : k ≡ Kind.start → 65536 < num ns 0 → num ns 0 ≤ 1048576 → Beyond k ns p
   no-redraw : OnScreen k → 384000 < screenLen p k ns → Beyond k ns p
   no-store : k ≡ Kind.lend → 1048576 < num ns 0 → Beyond k ns p
   no-screen : k ≡ Kind.lend-screen → 384000 < num ns 0 → Beyond k ns p
   no-list : k ≡ Kind.lend-list → 1984 < num ns 0 → Beyond k ns p
+  no-look : OnTarget k → 65536 < targetLen p k ns → Beyond k ns p
+  no-target : k ≡ Kind.lend-target → 65536 < num ns 0 → Beyond k ns p
 
 -- the player p with the pixels a is r with the pixels b after the line l with the numbers ns
 pub data Plays (l : Line) (ns : List ℕ) (p : Player) (a : Pixels) (r : Player) (b : Pixels) : Type 0 where
@@ -119,6 +122,9 @@ pub data Plays (l : Line) (ns : List ℕ) (p : Player) (a : Pixels) (r : Player)
   asks-busiest : l .kind ≡ Kind.busiest → Next p (p .session) r → b ≡ a → Plays l ns p a r b
   -- "the share of the window that no higher window covers"
   asks-share : l .kind ≡ Kind.share → Next p (p .session) r → b ≡ a → Plays l ns p a r b
+  -- "the target has TW × TH pixels", or as many as `lend-target` said, which it uses up
+  asks-look : OnTarget (l .kind) → targetLen p (l .kind) ns ≤ 65536 → Next (untargeted p) (p .session) r → b ≡ a → Plays l ns p a r b
+  lends-target : l .kind ≡ Kind.lend-target → num ns 0 ≤ 65536 → Next (lendTarget (num ns 0) p) (p .session) r → b ≡ a → Plays l ns p a r b
   -- "no call"; bare geometry and bare pixels
   shows : Kind.screen ≤ l .kind → l .kind ≤ Kind.region → Next p (p .session) r → b ≡ a → Plays l ns p a r b
 

@@ -62,6 +62,7 @@ pub fn call(p: Player, line: Line, ns: &[u32; 4200], out: &mut [u8; 65536]) -> P
         kind::LEND_LIST => lend::lend_list(p, ns, out),
         kind::BUSIEST => times::busiest(p, line, ns, out),
         kind::SHARE => share::share(p, ns, out),
+        kind::LEND_TARGET => lend::lend_target(p, ns, out),
         _ => {
             let s = p.session;
             let done = plain(s, line, ns);

@@ -258,3 +258,16 @@ pub fn lend_list(mut p: Player, ns: &[u32; 4200], out: &mut [u8; 65536]) -> Play
     }
     p.refused(out)
 }
+
+pub fn lend_target(mut p: Player, ns: &[u32; 4200], out: &mut [u8; 65536]) -> Player
+    requires { ⌜ Ready p ⌝ }
+    ensures { λ r. ⌜ PlaysAt Kind.lend-target (now (ns .entry)) p r ⌝ }
+{
+    let n = numbers::wide(ns[0]);
+    if n <= 65536 {
+        p.has_target = true;
+        p.target = n;
+        return p.accepted(out);
+    }
+    p.refused(out)
+}

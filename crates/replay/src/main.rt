@@ -7,6 +7,7 @@ mod geometry;
 mod hits;
 mod input;
 mod lend;
+mod looks;
 mod numbers;
 mod picture;
 mod pixels;

@@ -1,7 +1,7 @@
 // The numbers of a line as the library takes them.
 ghost use mathlib.Core.Path.{_≡_};
 ghost use Prim.Native.Nat.{_+_, _*_, _≤_};
-ghost use Rattle.replay.specs.Numbers.{num, idOf, rectAt};
+ghost use Rattle.replay.specs.Numbers.{num, idOf, rectAt, floatOf};
 use geom::Dims;
 use geom::Pos;
 use geom::Rect;
@@ -50,4 +50,15 @@ pub fn wide(n: u32) -> usize
     ensures { λ r. ⌜ r ≡ n ⌝ }
 {
     n as usize
+}
+
+// The f64 of its upper and its lower 32 bits. The language reads no NaN from bits, so one is made: by the model of f64 there is one.
+pub fn float(high: u32, low: u32) -> f64
+    ensures { λ r. ⌜ r ≡ floatOf high low ⌝ }
+{
+    let bits = high as u64 * 4294967296 + low as u64;
+    if bits % 9223372036854775808 > 9218868437227405312 {
+        return 0.0 / 0.0;
+    }
+    f64::from_bits(bits)
 }

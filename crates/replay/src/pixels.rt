@@ -24,7 +24,7 @@ pub fn asked(line: Line, ns: &mut [u32; 4200], out: &mut [u8; 65536], at: usize)
 }
 
 // A line of the answer and, where it is 0, the numbers of a part.
-fn put(answer: u32, part: &[u32], out: &mut [u8; 65536], at: usize) -> usize
+pub fn put(answer: u32, part: &[u32], out: &mut [u8; 65536], at: usize) -> usize
     requires { ⌜ at ≤ 65536 ⌝ }
     ensures { λ r. ⌜ r ≤ 65536 ⌝ }
 {

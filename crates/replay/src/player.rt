@@ -10,6 +10,7 @@ use crate::calls;
 use crate::geometry;
 use crate::hits;
 use crate::lend;
+use crate::looks;
 use crate::pixels;
 use crate::show;
 use crate::text;
@@ -19,8 +20,9 @@ use windows::Done;
 use windows::Session;
 use windows::Written;
 
-// `lent` pixels of the store are lent. The next redraw or portion is lent `screen` pixels where `is_set`, and the next visible list or hits
-// `list` numbers where `has_list`. `at` bytes of the output wait to be written; `lines` lines have been read.
+// `lent` pixels of the store are lent. The next redraw or portion is lent `screen` pixels where `is_set`, the next visible list or hits `list`
+// numbers where `has_list`, and the next look `target` pixels where `has_target`. `at` bytes of the output wait to be written; `lines` lines have
+// been read.
 pub struct Player {
     pub session: Session,
     pub lent: usize,
@@ -28,6 +30,8 @@ pub struct Player {
     pub screen: usize,
     pub has_list: bool,
     pub list: usize,
+    pub has_target: bool,
+    pub target: usize,
     pub at: usize,
     pub lines: u64,
 }
@@ -46,6 +50,8 @@ impl Player {
             screen: 0,
             has_list: false,
             list: 0,
+            has_target: false,
+            target: 0,
             at: 0,
             lines: 0,
         }
@@ -173,6 +179,7 @@ impl Player {
             kind::REDRAW | kind::PORTION => lend::redraw(self, line, ns, store, screen, out),
             kind::VISIBLE => lend::visible(self, ns, list, out),
             kind::HITS => hits::hits(self, line, ns, list, out),
+            kind::LOOK | kind::LOOK_FIT => looks::look(self, line, ns, store, out),
             kind::SCREEN..=kind::REGION => self.shown(line, ns, name, store, screen, out),
             _ => calls::call(self, line, ns, out),
         }

@@ -145,6 +145,15 @@ dim = 46
 abbrev pub layer : ℕ
 layer = 47
 
+abbrev pub look : ℕ
+look = 48
+
+abbrev pub look-fit : ℕ
+look-fit = 49
+
+abbrev pub lend-target : ℕ
+lend-target = 50
+
 -- the last of them
 abbrev pub last : ℕ
-last = layer
+last = lend-target

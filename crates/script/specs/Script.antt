@@ -140,6 +140,9 @@ table =
     ∷ rowMore "hits" Kind.hits 0
     ∷ row "dim" Kind.dim 1
     ∷ row "layer" Kind.layer 2
+    ∷ row "look" Kind.look 9
+    ∷ row "look-fit" Kind.look-fit 7
+    ∷ row "lend-target" Kind.lend-target 1
     ∷ []
 
 abbrev pub sameWord : List ℕ → List ℕ → Bool

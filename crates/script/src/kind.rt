@@ -102,8 +102,14 @@ pub const DIM: u8 = 46;
 
 pub const LAYER: u8 = 47;
 
+pub const LOOK: u8 = 48;
+
+pub const LOOK_FIT: u8 = 49;
+
+pub const LEND_TARGET: u8 = 50;
+
 // The last of them.
-pub const LAST: u8 = LAYER;
+pub const LAST: u8 = LEND_TARGET;
 
 const WORDS: usize = LAST as usize - 1;
 
@@ -159,6 +165,9 @@ pub const ROWS: [u8; WORDS * ROW] = *b"\
     \x04\x00+hits            \
     \x03\x01 dim             \
     \x05\x02 layer           \
+    \x04\x09 look            \
+    \x08\x07 look-fit        \
+    \x0b\x01 lend-target     \
     ";
 
 pub fn wide(b: u8) -> usize

@@ -62,6 +62,10 @@ impl Group {
         let rows = 0..size.h as usize;
         rows.flat_map(|row| buffer.scanline_rgn(row, 0, size.w as usize).to_vec()).collect()
     }
+    pub fn size(&self, id: u32) -> (u32, u32) {
+        let size = self.window(id).dims();
+        (size.w, size.h)
+    }
 
     /// As in the original's `create_window`.
     pub fn create(&mut self) -> usize {

@@ -3,13 +3,13 @@ use Prim.Native.Nat.{ℕ, zero, suc, _+_, _-_, _≤_, _<_}
 use mathlib.Core.Path.{_≡_, refl}
 use mathlib.Core.Bool.{Bool, true, false, _&&_, _||_}
 use mathlib.Core.List.{List, [], _∷_}
-use mathlib.Core.Logic.{inl, inr}
+use mathlib.Core.Logic.{_⊎_, inl, inr}
 use native.Mathlib.Omega.{arith}
 use lib.Dec.{leb, eqb}
 use borrow.Author.Tests.{eqb-true, eqb-false, ne-eqb, leb-true, lt-leb}
 use Rattle.geom.proofs.basics.Tests.{fst, snd, clash}
 use Rattle.script.specs.Kind as Kind
-use Rattle.replay.specs.Called.{windowCalls, kinds, isOne, within, routes, isPlain, OnScreen, isLent}
+use Rattle.replay.specs.Called.{windowCalls, kinds, isOne, within, routes, isPlain, OnScreen, OnTarget, isLent}
 
 -- B, and k is none of the numbers: what a match's last arm knows
 abbrev pub NoneOf : ℕ → Type 0 → List ℕ → Type 0
@@ -59,15 +59,31 @@ outside low high k h = go (leb low k) refl
     go true e = lt-leb k high (h (leb-true low k e))
     go false e = refl
 
-pub not-lent : (k : ℕ) → (OnScreen k → ⊥) → (k ≡ Kind.visible → ⊥) → (k ≡ Kind.hits → ⊥) → (Kind.resize ≤ k → Kind.blit < k) → (Kind.screen ≤ k → Kind.region < k)
+-- the kinds that are lent a target lie side by side
+pub on-target : (k : ℕ) → Kind.look ≤ k → k < suc Kind.look-fit → OnTarget k
+on-target k l h = go (eqb k Kind.look) refl
+  where
+    go : (t : Bool) → eqb k Kind.look ≡ t → OnTarget k
+    go true e = inl (eqb-true k Kind.look e)
+    go false e = let n = eqb-false k Kind.look e in inr (omega (arith, n))
+
+pub no-target : (k : ℕ) → (k < Kind.look) ⊎ (Kind.look-fit < k) → OnTarget k → ⊥
+no-target k (inl h) (inl e) = omega arith
+no-target k (inl h) (inr e) = omega arith
+no-target k (inr h) (inl e) = omega arith
+no-target k (inr h) (inr e) = omega arith
+
+pub not-lent : (k : ℕ) → (OnScreen k → ⊥) → (k ≡ Kind.visible → ⊥) → (k ≡ Kind.hits → ⊥) → (OnTarget k → ⊥) → (Kind.resize ≤ k → Kind.blit < k) → (Kind.screen ≤ k → Kind.region < k)
     → isLent k ≡ false
-not-lent k o v q w s =
+not-lent k o v q t w s =
     rw (
       outside Kind.resize Kind.blit k w,
       ne-eqb k Kind.redraw (λ e. o (inl e)),
       ne-eqb k Kind.portion (λ e. o (inr e)),
       ne-eqb k Kind.visible v,
       ne-eqb k Kind.hits q,
+      ne-eqb k Kind.look (λ e. t (inl e)),
+      ne-eqb k Kind.look-fit (λ e. t (inr e)),
       outside Kind.screen Kind.region k s,
     )
 
@@ -76,7 +92,7 @@ not-lent k o v q w s =
 -- the kinds that a function of their own plays, lent no pixels and no list
 abbrev pub own : List ℕ
 own =
-    Kind.passed ∷ Kind.malformed ∷ Kind.start ∷ Kind.create ∷ Kind.pop ∷ Kind.focus ∷ Kind.lend ∷ Kind.lend-screen ∷ Kind.lend-list ∷ Kind.busiest ∷ Kind.share ∷ []
+    Kind.passed ∷ Kind.malformed ∷ Kind.start ∷ Kind.create ∷ Kind.pop ∷ Kind.focus ∷ Kind.lend ∷ Kind.lend-screen ∷ Kind.lend-list ∷ Kind.busiest ∷ Kind.share ∷ Kind.lend-target ∷ []
 
 -- the test passes below n
 abbrev below : (ℕ → Bool) → ℕ → Bool

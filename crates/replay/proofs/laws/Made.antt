@@ -1,29 +1,33 @@
 -- What a call's own contract says of the session is what the line promises of the player.
-use Prim.Native.Nat.{ℕ, _*_, _≤_}
+use Prim.Native.Nat.{ℕ, _+_, _*_, _≤_}
 use mathlib.Core.Path.{_≡_, refl, sym, ap, subst, _∙_}
 use mathlib.Core.List.{List, _++_}
 use mathlib.Core.Option.{Option}
 use native.Mathlib.Omega.{arith}
 use lib.ListN.{length, take, drop}
 use lib.Seq.{length-take-le}
+use Rattle.look.specs.declared.Look.{Look}
 use Rattle.script.specs.declared.shape.Line.{Line}
 use Rattle.rules.specs.Group.{Group, sessionC}
+use Rattle.rules.specs.Look.{look}
 use Rattle.rules.specs.Calls.{Call}
 use Rattle.windows.specs.declared.Session.{Session}
 use Rattle.windows.specs.declared.Done.{Done}
 use Rattle.windows.specs.declared.Listing.{Listing}
-use Rattle.windows.specs.View.{group, Meets, MeetsStore, MeetsScreen, Starts, Lists, Hits}
+use Rattle.windows.specs.View.{group, Meets, MeetsStore, MeetsScreen, Starts, Lists, Hits, Looks}
 use Rattle.replay.specs.declared.player.Player.{Player}
 use Rattle.replay.specs.Ready.{Ready, Next, lendStore}
 use Rattle.replay.specs.Played.{Pixels, Makes, Begins, MeetsPart, DrawsPart, ListsPart, HitsPart, Plays}
-use Rattle.replay.specs.Called.{Picked}
+use Rattle.replay.specs.Called.{Picked, sizeAt}
+use Rattle.replay.specs.Numbers.{num, idOf}
+use Rattle.replay.specs.Looks.{lookOf, LooksPart}
 use Rattle.replay.proofs.laws.Sizes.{counted, hits-room}
 use Rattle.replay.proofs.laws.Picked.{picked-so}
-use Rattle.replay.specs.Played.{unread, beyond, starts, creates, plain, stores, pops, redraws, lists, asks-hits, asks-focus, lends, lends-screen, lends-list, asks-busiest, asks-share, shows}
+use Rattle.replay.specs.Played.{unread, beyond, starts, creates, plain, stores, pops, redraws, lists, asks-hits, asks-focus, lends, lends-screen, lends-list, asks-busiest, asks-share, asks-look, lends-target, shows}
 
 -- the session that r has is the next
 own : {p : Player} {s : Session} {r : Player} → Next p s r → Next p (r .session) r
-own n = record { ready = n .ready; session = refl; lent = n .lent; set = n .set; screen = n .screen; has-list = n .has-list; list = n .list; lines = n .lines }
+own n = record { ready = n .ready; session = refl; lent = n .lent; set = n .set; screen = n .screen; has-list = n .has-list; list = n .list; has-target = n .has-target; target = n .target; lines = n .lines }
 
 pub makes : (k : Call) (p r : Player) (d : Done) → Meets k (p .session) d → Next p (d .session) r → Makes k p r
 makes k p r d m n =
@@ -36,7 +40,7 @@ c-of c d h = ap (λ (g : Group). g .c) (h .after)
 pub begins : (c : ℕ) (p r : Player) (d : Done) → Starts c d → Next (lendStore (16 * d .session .shared .c) p) (d .session) r → Begins c p r
 begins c p r d h n =
     record {
-      next = record { ready = n .ready; session = refl; lent = n .lent ∙ ap (λ (k : ℕ). 16 * k) (c-of c d h); set = n .set; screen = n .screen; has-list = n .has-list; list = n .list; lines = n .lines };
+      next = record { ready = n .ready; session = refl; lent = n .lent ∙ ap (λ (k : ℕ). 16 * k) (c-of c d h); set = n .set; screen = n .screen; has-list = n .has-list; list = n .list; has-target = n .has-target; target = n .target; lines = n .lines };
       after = ap group (n .session) ∙ h .after;
     }
 
@@ -78,6 +82,18 @@ hits-part g points n m list last a e l h =
       room = λ z. omega (arith, hits-room g points (take n list) (sym (q .answer) ∙ z), length-take-le n list l);
     }) h
 
+pub look-part : (g : Group) (k : ℕ) (ns store : List ℕ) (lent lent′ id j tw th n m : ℕ) (l : Look) (target last : List ℕ) (a : ℕ)
+    → lent ≡ lent′ → id ≡ idOf ns → l ≡ lookOf k ns → j ≡ sizeAt k → tw ≡ num ns j → th ≡ num ns (j + 1) → n ≡ m
+    → Looks g id l (take lent′ (drop 0 store)) (take m (drop 0 target)) tw th a last
+    → LooksPart g k ns (take lent store) n target a (take 0 target ++ (last ++ drop m (drop 0 target)))
+look-part g k ns store lent lent′ id j tw th n m l target last a e i f z w t d h =
+    let here = w ∙ ap (num ns) z in
+    let next = t ∙ ap (λ (p : ℕ). num ns (p + 1)) z in
+    record {
+      answer = h .answer ∙ (λ x. look g (i x) (f x) (take (sym e x) store) (take (sym d x) target) (here x) (next x) .answer);
+      shown = (λ x. h .target x ++ drop (sym d x) target) ∙ (λ x. look g (i x) (f x) (take (sym e x) store) (take (sym d x) target) (here x) (next x) .target ++ drop n target);
+    }
+
 -- A line --------------------------------------------------------------------------------------------------------------
 
 -- whatever line was played, the player is ready for the next
@@ -98,4 +114,6 @@ ready-of (lends-screen k j n e) = n .ready
 ready-of (lends-list k j n e) = n .ready
 ready-of (asks-busiest k n e) = n .ready
 ready-of (asks-share k n e) = n .ready
+ready-of (asks-look k j n e) = n .ready
+ready-of (lends-target k j n e) = n .ready
 ready-of (shows k j n e) = n .ready

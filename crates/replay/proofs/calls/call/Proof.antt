@@ -39,6 +39,9 @@ busiest-requires c κs = search needs
 share-requires : tie.Need-share-requires
 share-requires c κs = search needs
 
+lend-target-requires : tie.Need-lend-target-requires
+lend-target-requires c κs = search needs
+
 plain-requires : tie.Need-plain-requires
 plain-requires c κs =
     let p = c .before .before .pre in
@@ -50,7 +53,7 @@ answered-requires c κs = search needs
 returns : tie.Need-returns
 returns c = λ a.
     unread (omega (arith, c .match .keys1))
-    (record { ready = c .before .pre .0; session = refl; lent = refl; set = refl; screen = refl; has-list = refl; list = refl; lines = refl }) refl
+    (record { ready = c .before .pre .0; session = refl; lent = refl; set = refl; screen = refl; has-list = refl; list = refl; has-target = refl; target = refl; lines = refl }) refl
 
 returns-2 : tie.Need-returns-2
 returns-2 c = λ a. unread (omega (arith, c .before .before .match .keys2)) (c .malformed .ensures) refl
@@ -83,7 +86,10 @@ returns-11 : tie.Need-returns-11
 returns-11 c = λ a. asks-share (c .before .before .match .keys11) (c .share .ensures) refl
 
 returns-12 : tie.Need-returns-12
-returns-12 c =
+returns-12 c = λ a. c .lend-target .ensures (c .before .before .before .args .line) a (c .before .before .match .keys12)
+
+returns-13 : tie.Need-returns-13
+returns-13 c =
     let p = c .before .before .before .before .before .args .p in
     let done = c .before .before .plain in
     λ a. plain (picked-so (λ k m. makes k p (c .answered .result) (done .result) m (c .answered .ensures)) (done .ensures)) refl
@@ -102,6 +108,7 @@ call-spec =
     lend-list-requires
     busiest-requires
     share-requires
+    lend-target-requires
     plain-requires
     answered-requires
     returns
@@ -115,4 +122,5 @@ call-spec =
     returns-9
     returns-10
     returns-11
-    returns-12)
+    returns-12
+    returns-13)

@@ -34,6 +34,8 @@ next c =
       screen = args .p .screen;
       «has_list» = args .p .«has_list»;
       list = args .p .list;
+      «has_target» = args .p .«has_target»;
+      target = args .p .target;
       at = c .end .result;
       lines = args .p .lines;
     }
@@ -46,13 +48,15 @@ returns c =
     let d = done (made .result .session) (made .result .answer) in
     makes Create (a .p) (next c) d (made .ensures .meets)
     (record {
-      ready = record { given = made .ensures .meets .given; lent = r .lent; screen = r .screen; list = r .list; at = c .end .ensures };
+      ready = record { given = made .ensures .meets .given; lent = r .lent; screen = r .screen; list = r .list; target = r .target; at = c .end .ensures };
       session = refl;
       lent = refl;
       set = refl;
       screen = refl;
       has-list = refl;
       list = refl;
+      has-target = refl;
+      target = refl;
       lines = refl;
     })
 

@@ -22,6 +22,7 @@ answered-requires c κs =
         lent = begun-c (c .before .before .before .before .args .c) (c .before .before .before .start .result) (c .before .before .before .start .ensures) (c .before .before .before .before .pre .1);
         screen = r .screen;
         list = r .list;
+        target = r .target;
         at = r .at;
       },
       c .before .before .before .start .ensures .given,

@@ -1,8 +1,8 @@
 -- Each arm plays the line of its own kind.
 use mathlib.Core.Path.{refl}
-use mathlib.Core.Logic.{⊎-elim}
+use mathlib.Core.Logic.{⊎-elim, inl, inr}
 use native.Mathlib.Omega.{arith}
-use Rattle.replay.proofs.laws.Arms.{not-lent}
+use Rattle.replay.proofs.laws.Arms.{on-target, no-target, not-lent}
 use Rattle.replay.specs.Played.{pixels, lists, asks-hits, stores, shows}
 use borrow.Author.Needs.{needs}
 use Rattle.replay.proofs.player.Player.line.Statement.{statement}
@@ -23,15 +23,24 @@ stored-requires c κs = search needs
 shown-requires : tie.Need-shown-requires
 shown-requires c κs = search needs
 
+look-requires : tie.Need-look-requires
+look-requires c κs =
+    let t = c .before .before .before in
+    let p = t .before .before .before .before .before .before .before .pre in
+    (p .0, on-target _ (t .before .if5 .left) (t .if6 .taken))
+
 call-requires : tie.Need-call-requires
 call-requires c κs =
     let start = c .before .before .before .before in
     let left = c .before .before .before .match .rest in
-    let apart = not-lent (start .args .line .kind) (left .0 .0 .1) (left .0 .1) (left .1) in (
+    let k = start .args .line .kind in
+    let apart = not-lent k (left .0 .0 .1) (left .0 .1) (left .1) in (
       start .pre .0,
       start .pre .1,
-      ⊎-elim (λ w. apart (λ h. omega (arith, w .taken)) (λ h. omega (arith, w .taken)))
-          (⊎-elim (λ w. apart (λ h. w .1 .left) (λ h. omega (arith, w .2 .taken))) (λ w. apart (λ h. omega (arith, w .3 .left)) (λ h. w .3 .left)))
+      ⊎-elim (λ w. apart (no-target k (inl (omega (arith, w .taken)))) (λ h. omega (arith, w .taken)) (λ h. omega (arith, w .taken)))
+          (⊎-elim (λ w. apart (no-target k (inl (omega (arith, w .2 .taken)))) (λ h. w .1 .left) (λ h. omega (arith, w .2 .taken)))
+          (⊎-elim (λ w. apart (no-target k (inl (omega (arith, w .4 .taken)))) (λ h. omega (arith, w .3 .left)) (λ h. w .3 .left))
+          (λ w. apart (no-target k (inr (w .5 .left))) (λ h. omega (arith, w .3 .left)) (λ h. w .3 .left))))
           (c .before .before .if1 .came),
     )
 
@@ -52,6 +61,11 @@ returns-5 c = shows (c .before .before .before .before .before .before .if3 .lef
 
 returns-6 : tie.Need-returns-6
 returns-6 c =
+    let args = c .before .before .before .before .before .before .before .before .before .before .before .args in
+    c .look .ensures (pixels (args .store .now) (args .screen .now))
+
+returns-7 : tie.Need-returns-7
+returns-7 c =
     let args = c .before .before .before .before .before .args in
     c .call .ensures (pixels (args .store .now) (args .screen .now))
 
@@ -64,10 +78,12 @@ line-spec =
     hits-requires
     stored-requires
     shown-requires
+    look-requires
     call-requires
     returns
     returns-2
     returns-3
     returns-4
     returns-5
-    returns-6)
+    returns-6
+    returns-7)

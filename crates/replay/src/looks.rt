@@ -1,0 +1,130 @@
+// The lines of a closer look.
+ghost use mathlib.Core.Path.{_≡_};
+ghost use Prim.Native.Nat.{_≤_};
+ghost use lib.ListN.{length, take};
+ghost use Rattle.windows.specs.View.{group, Given};
+ghost use Rattle.replay.specs.Called.{OnTarget, sizeAt};
+ghost use Rattle.replay.specs.Numbers.{num, idOf, floatOf};
+ghost use Rattle.replay.specs.Looks.{lookOf, LooksPart, targetLen};
+ghost use Rattle.replay.specs.Ready.{Ready, Next, untargeted};
+ghost use Rattle.replay.specs.Played.{Pixels, Plays};
+use crate::numbers;
+use crate::pixels;
+use crate::player::Player;
+use look::Look;
+use look::Zoom;
+use script::Line;
+use script::kind;
+use windows::Session;
+
+// The look that a line names.
+fn look_of(k: u8, ns: &[u32; 4200]) -> Look
+    ensures { λ r. ⌜ r ≡ lookOf k (now (ns .entry)) ⌝ }
+{
+    let x = numbers::float(ns[1], ns[2]);
+    let y = numbers::float(ns[3], ns[4]);
+    if k == kind::LOOK_FIT {
+        return Look {
+            x,
+            y,
+            zoom: Zoom::Fit,
+        };
+    }
+    let factor = numbers::float(ns[5], ns[6]);
+    Look {
+        x,
+        y,
+        zoom: Zoom::Factor(factor),
+    }
+}
+
+// Where the target's width stands among the numbers of a line; its height is the next.
+fn size_at(k: u8) -> usize
+    ensures { λ r. ⌜ (r ≡ sizeAt k) × (r ≤ 7) ⌝ }
+{
+    if k == kind::LOOK_FIT {
+        return 5;
+    }
+    7
+}
+
+// How many pixels a target has: what was said, or what its size asks for.
+fn target_len(p: Player, k: u8, ns: &[u32; 4200]) -> u64
+    ensures { λ r. ⌜ r ≡ targetLen p k (now (ns .entry)) ⌝ }
+{
+    if p.has_target {
+        return p.target as u64;
+    }
+    let at = size_at(k);
+    numbers::size(ns[at], ns[at + 1])
+}
+
+// The call is lent the fronts of the store and of the target.
+fn asked(
+    s: Session,
+    k: u8,
+    ns: &[u32; 4200],
+    store: &[u32],
+    lent: usize,
+    target: &mut [u32],
+    len: usize,
+) -> u32
+    requires { ⌜ Given s × (lent ≤ length (now store)) × (len ≤ length (now target)) ⌝ }
+    ensures { λ r. ⌜ LooksPart (group s) k (now (ns .entry)) (take lent (now (store .entry))) len (now (target .entry)) r (now (target .exit)) ⌝ }
+{
+    let id = numbers::id(ns);
+    let l = look_of(k, ns);
+    let at = size_at(k);
+    let tw = ns[at];
+    let th = ns[at + 1];
+    s.look(id, l, &store[0..lent], &mut target[0..len], tw, th)
+}
+
+// A target before a look: made apart, as the other arrays are.
+fn ones() -> [u32; 65536] {
+    [4294967295u32; 65536]
+}
+
+fn put(answer: u32, target: &[u32], len: usize, out: &mut [u8; 65536], at: usize) -> usize
+    requires { ⌜ (len ≤ length (now target)) × (at ≤ 65536) ⌝ }
+    ensures { λ r. ⌜ r ≤ 65536 ⌝ }
+{
+    pixels::put(answer, &target[0..len], out, at)
+}
+
+fn looked(
+    mut p: Player,
+    k: u8,
+    ns: &[u32; 4200],
+    store: &[u32; 1048576],
+    len: usize,
+    out: &mut [u8; 65536],
+) -> Player
+    requires { ⌜ Ready p × (len ≤ 65536) ⌝ }
+    ensures { λ r. ⌜ Next (untargeted p) (p .session) r ⌝ }
+{
+    let mut target = ones();
+    let s = p.session;
+    let answer = asked(s, k, ns, store, p.lent, &mut target, len);
+    p.has_target = false;
+    p.at = put(answer, &target, len, out, p.at);
+    p
+}
+
+pub fn look(
+    p: Player,
+    line: Line,
+    ns: &[u32; 4200],
+    store: &[u32; 1048576],
+    out: &mut [u8; 65536],
+) -> Player
+    requires { ⌜ Ready p × OnTarget (line .kind) ⌝ }
+    ensures { λ r. ⌜ ((a : Pixels) → Plays line (now (ns .entry)) p a r a) ⌝ }
+{
+    let k = line.kind;
+    let len = target_len(p, k, ns);
+    if len <= 65536 {
+        return looked(p, k, ns, store, len as usize, out);
+    }
+    p.refused(out)
+}
