@@ -16,6 +16,7 @@ static RoqSession session;
 static uint32_t store[16 * C], screen[C], list[1984], data[64];
 static RoqSession *const s = &session;
 static const RoqRect area = {{10, 20}, {8, 8}}, other = {{12, 14}, {3, 30}};
+static const RoqLook fitting = {0, 0, 0, true};
 static const RoqPos point = {11, 21};
 static const RoqEvent press = {25, 25, 0, 0, 0, ROQ_MOUSE_DOWN, 1, 0};
 
@@ -41,6 +42,7 @@ static const RoqEvent press = {25, 25, 0, 0, 0, ROQ_MOUSE_DOWN, 1, 0};
     CALL(roq_visible, (s, 0, list, 1984))                                              \
     CALL(roq_share, (s, 0))                                                            \
     CALL(roq_hits, (s, data, 64, list, 1984))                                          \
+    CALL(roq_look, (s, 0, fitting, WIDTH, HEIGHT, store, 16 * C, screen, C))           \
     CALL(roq_focus, (s))                                                               \
     CALL(roq_rect_of, (s, 0))                                                          \
     CALL(roq_contains, (area, point))                                                  \

@@ -15,6 +15,7 @@ SIZE(RoqPopped, 24);
 SIZE(RoqAltered, 16);
 SIZE(RoqListing, 16);
 SIZE(RoqShare, 12);
+SIZE(RoqLook, 32);
 SIZE(RoqPlaced, 20);
 SIZE(RoqTested, 8);
 SIZE(RoqIntersection, 24);
@@ -127,6 +128,22 @@ static void fingers(void) {
     EXPECT(roq_hits(s, points, 6, answers, 8) == 5 && answers[0] == LAST);
 }
 
+/* A look at the pixels that the fill and the blit wrote: the fields of the struct, what lies around the target, fit, which reads no other
+ * field, and the refusals, which write nothing. */
+static void looks(void) {
+    uint32_t kept_pixels[18] = {9, 9, 9, 9, 9, 9, 9, 9, 9, 9, 9, 9, 9, 9, 9, 9, 9, 9}, *target = kept_pixels + 1;
+    RoqLook twice = {19.5, 30.25, 2, false}, threefold = {19.5, 30.25, 3, false}, between = {0.1, 0, 1, false}, fit = {0.1, -1.0 / 0.0, 3, true};
+    EXPECT(roq_look(s, LAST, twice, 4, 4, store, 16 * C - 1, target, 16) == 1 && roq_look(s, 16, twice, 4, 4, store, 16 * C, target, 16) == 3);
+    EXPECT(roq_look(s, LAST, threefold, 4, 4, store, 16 * C, target, 15) == 22 && roq_look(s, LAST, between, 4, 4, store, 16 * C, target, 16) == 22);
+    EXPECT(roq_look(s, LAST, twice, 4, 4, store, 16 * C, target, 15) == 23 && roq_look(s, LAST, twice, 0, 4, store, 16 * C, target, 0) == 23);
+    EXPECT(target[0] == 9 && roq_look(s, LAST, twice, 4, 4, store, 16 * C, target, 16) == 0);
+    EXPECT(target[0] == 0 && target[1] == 11 && target[2] == 11 && target[3] == 12 && target[4] == 0 && target[5] == 11);
+    EXPECT(target[8] == 0 && target[9] == 21 && target[11] == 22 && target[15] == 22 && kept_pixels[0] == 9 && kept_pixels[17] == 9);
+    EXPECT(roq_look(s, LAST, fit, 4, 4, store, 16 * C, target, 16) == 0 && target[0] == 0 && target[6] == 0);
+    EXPECT(roq_fill(s, LAST, rect(8, 4, 1, 1), 8, store, 16 * C).answer == 0 && roq_look(s, LAST, fit, 4, 4, store, 16 * C, target, 16) == 0);
+    EXPECT(target[5] == 0 && target[6] == 8);
+}
+
 /* A session as large as the library's: its last words hold C, the focus, dimming and the window of the last MouseDown, the walk's next place,
  * whether it is on and full, the debt, and the layers; nothing is written beyond. */
 static void session(void) {
@@ -153,6 +170,7 @@ static void session(void) {
     uint32_t data[6] = {11, 12, 13, 21, 22, 23};
     EXPECT(roq_blit(s, LAST, rect(20, 30, 2, 2), 3, data, 6, store, 16 * C).answer == 0);
     EXPECT(store[LAST * C + 31 * 200 + 21] == 22 && store[LAST * C + 31 * 200 + 22] == 0);
+    looks();
     shares();
     fingers();
     RoqPlaced at = roq_rect_of(s, LAST);

@@ -13,6 +13,8 @@
  *                                                     17  the layer is at most 1
  *                                                     20  a walk was begun, and is neither over nor dropped
  *                                                     21  the event is no KeyFire, asked before every other
+ *                                                     22  the look fits, or its factor is 0.25, 0.5, 1, 2 or 4 and its corner in quarters, 0 to 32,767
+ *                                                     23  the target's width and height are 1 to 32,767, its length their product
  *                                                     24  the window is shown and has pixels
  *                                                     25  at most 32 points, each x with its y, and 3 numbers for each in the list
  *                                                     26  the run has at most 4,096 times
@@ -223,6 +225,19 @@ RoqShare roq_share(const RoqSession *s, uint16_t id);
  * would go to and the point relative to it, or 16, 0, 0 where there is none. Nothing is delivered, and a full queue changes no answer.
  * Writes the front of the answers; 96 numbers always suffice. Asks 5 of every number given, 25. */
 uint32_t roq_hits(const RoqSession *s, const uint32_t *points, size_t points_len, uint32_t *answers, size_t answers_len);
+
+/* A look at a window: its corner (x,y) in the window and a factor, 0.25, 0.5, 1, 2 or 4; or `fit`, which takes the corner (0,0) and the
+ * greatest factor with which the window passes the target in neither width nor height, or else 0.25, and reads x, y and factor not. */
+typedef struct RoqLook {
+    double x, y, factor;
+    bool fit;
+} RoqLook;
+
+/* Fills a target of tw by th pixels with what a look shows of a window, shown or hidden: target pixel (i,j) is the window's pixel at
+ * (x + i / factor, y + j / factor), each sum rounded down, and 0 outside the window. A corner number of -0.0 counts as 0; any double may be
+ * given, NaNs too. Reads the store, writes every pixel of the target; what the window shows is not dimmed. Asks 1, 3, 22, 23. */
+uint32_t roq_look(const RoqSession *s, uint16_t id, RoqLook look, uint32_t tw, uint32_t th, const uint32_t *store, size_t store_len,
+                  uint32_t *target, size_t target_len);
 
 /* The window that has the focus; 0 where none is shown. Asks nothing. */
 uint16_t roq_focus(const RoqSession *s);

@@ -30,6 +30,8 @@ pub enum Call {
     Visible(u16),
     Share(u16),
     Hits(Vec<Pos>),
+    /// At window 0, from a corner on: a factor, or none to fit. The screen is the target.
+    Look(f64, f64, Option<f64>),
     Busiest(Vec<u32>),
 }
 
@@ -56,6 +58,7 @@ impl Call {
             Call::Visible(_) => "roq_visible",
             Call::Share(_) => "roq_share",
             Call::Hits(_) => "roq_hits",
+            Call::Look(..) => "roq_look",
             Call::Busiest(_) => "roq_busiest",
         }
     }

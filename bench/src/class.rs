@@ -23,6 +23,8 @@ pub enum Beside {
     Bright,
     /// Our own library, with a visible list in place of a share.
     Listed,
+    /// A loop in Rust with the rule of a look in f64.
+    Floats,
     /// A loop over event times in Rust, the same as ours.
     OnePass,
     /// A loop in Rust that counts the events of every second anew.
@@ -34,7 +36,7 @@ impl Beside {
         match self {
             Beside::Original => "original",
             Beside::Pixman | Beside::PixmanAtOnce => "pixman",
-            Beside::Loops | Beside::Table | Beside::OnePass | Beside::Square => "Rust",
+            Beside::Loops | Beside::Table | Beside::Floats | Beside::OnePass | Beside::Square => "Rust",
             Beside::Undivided => "undivided",
             Beside::Bright => "dimming off",
             Beside::Listed => "visible list",

@@ -2,6 +2,7 @@
 use crate::call::{Area, Call};
 use crate::class::{Beside, Class, Limit};
 use crate::dims;
+use crate::looks;
 use crate::mix::Drag;
 use crate::pixman;
 use crate::plain::Copied;
@@ -48,6 +49,7 @@ pub fn table() -> Vec<Class> {
     all.extend(dims::classes());
     all.extend(shares::classes());
     all.extend(points::classes());
+    all.extend(looks::classes());
     all
 }
 

@@ -1,13 +1,14 @@
-//! Archives of earlier commits, which have no walks, no dimming, no layers, no busiest second, no share or no answer for many points: there these
-//! functions answer 20, 20, 17, 26, 24 and 25. Where an archive has its own, those are linked.
+//! Archives of earlier commits, which have no walks, no dimming, no layers, no busiest second, no share, no answer for many points or no look: there
+//! these functions answer 20, 20, 17, 26, 24, 25 and 22. Where an archive has its own, those are linked.
 use crate::call::Call;
 use crate::class::{Beside, Class};
-use roqshyn::{busiest, Error, Id, Session};
+use roqshyn::{busiest, Error, Id, Look, Session};
 
 std::arch::global_asm!(".weak roq_begin", "roq_begin:", ".weak roq_portion", "roq_portion:", "mov eax, 20", "ret");
 std::arch::global_asm!(".weak roq_hits", "roq_hits:", "mov eax, 25", "ret");
 std::arch::global_asm!(".weak roq_dim", "roq_dim:", "mov eax, 20", "ret");
 std::arch::global_asm!(".weak roq_set_layer", "roq_set_layer:", "mov eax, 17", "ret");
+std::arch::global_asm!(".weak roq_look", "roq_look:", "mov eax, 22", "ret");
 // The struct goes back in two registers.
 std::arch::global_asm!(".weak roq_share", "roq_share:", "mov eax, 24", "xor edx, edx", "ret");
 // The caller hands over where the struct goes.
@@ -36,6 +37,7 @@ pub fn has(class: &Class) -> bool {
     match class.beside {
         Beside::Undivided => session.begin(false).is_ok(),
         Beside::Table | Beside::Bright => session.dim(false).is_ok(),
+        Beside::Floats => session.look(Id::from(0_u16), Look::fit(), 1, 1, &[0; 16], &mut [0]) == Err(Error::UnknownId),
         Beside::OnePass | Beside::Square => busiest(&[]).is_ok(),
         _ => true,
     }

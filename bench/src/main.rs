@@ -9,6 +9,7 @@ mod class;
 mod classes;
 mod dims;
 mod earlier;
+mod looks;
 mod loops;
 mod measure;
 mod mix;
@@ -72,6 +73,7 @@ fn tables(folder: &Path, copies: &str, stack: &str) {
         ("portions", summary::portions(&table, of_table)),
         ("seconds", summary::seconds(&table, of_table)),
         ("dims", summary::dims(&table, of_table)),
+        ("looks", summary::looks(&table, of_table)),
         ("calls", summary::calls(&table, of_table, &copies, &stack)),
     ];
     let long = tell(&table, of_table, &runs);
@@ -91,7 +93,7 @@ fn tell(classes: &[Class], results: &[Measured], runs: &[Vec<Measured>]) -> Stri
     let table = |beside| report::table(beside, classes, results, runs);
     let (original, loops, undivided) = (table(Beside::Original), table(Beside::Loops), table(Beside::Undivided));
     let (one_pass, square, listed) = (table(Beside::OnePass), table(Beside::Square), table(Beside::Listed));
-    let (through, bright) = (table(Beside::Table), table(Beside::Bright));
+    let (through, bright, floats) = (table(Beside::Table), table(Beside::Bright), table(Beside::Floats));
     let pixman = if pixman::INSTALLED { table(Beside::Pixman) } else { report::NO_PIXMAN.to_string() };
     format!(
         "# Speed table\n\nWritten by `bash bench/run`. [SPEED.md](SPEED.md) says what is measured.\n\n\
@@ -101,7 +103,8 @@ fn tell(classes: &[Class], results: &[Measured], runs: &[Vec<Measured>]) -> Stri
          ## Busiest second of 4,096 events beside the square form in Rust\n\n{square}\n\
          ## Share in view beside our visible list and the sum of its areas\n\n{listed}\n\
          ## Dimmed redraw beside a loop over the same table in Rust\n\n{through}\n\
-         ## Dimmed redraw beside our redraw with dimming off\n\n{bright}",
+         ## Dimmed redraw beside our redraw with dimming off\n\n{bright}\n\
+         ## A closer look beside a loop in f64 in Rust\n\n{floats}",
         report::notes(classes)
     )
 }

@@ -4,6 +4,7 @@ use crate::check;
 use crate::class::{Beside, Class, Limit};
 use crate::dims::{Bright, Through};
 use crate::earlier;
+use crate::looks::Floats;
 use crate::loops::Loops;
 use crate::ours::Ours;
 use crate::pixman::Pixman;
@@ -63,6 +64,7 @@ pub fn measure(class: &Class) -> Measured {
         Beside::Table => beside(class, Some(Through::new(Ours::new(scene.c, scene.width, scene.height)))),
         Beside::Bright => beside(class, Some(Bright::new(Ours::new(scene.c, scene.width, scene.height)))),
         Beside::Listed => beside(class, Some(Listed(Ours::new(scene.c, scene.width, scene.height)))),
+        Beside::Floats => beside(class, Some(Floats(Ours::new(scene.c, scene.width, scene.height)))),
         Beside::OnePass => beside(class, Some(InRust::one_pass())),
         Beside::Square => beside(class, Some(InRust::square())),
     }

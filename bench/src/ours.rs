@@ -4,7 +4,7 @@ use crate::class::Class;
 use crate::dims;
 use crate::plain::{Piece, Plain};
 use crate::shares;
-use roqshyn::{busiest, Error, Event, Hit, Id, Pos, Rect, Session, Share, MOST_POINTS, MOST_RECTS};
+use roqshyn::{busiest, Error, Event, Hit, Id, Look, Pos, Rect, Session, Share, Zoom, MOST_POINTS, MOST_RECTS};
 use std::arch::x86_64::{_mm_clflush, _mm_mfence};
 
 pub struct Ours {
@@ -100,6 +100,12 @@ impl Ours {
         seen.iter().map(|r| Area(r.pos.x, r.pos.y, r.dims.w, r.dims.h)).collect()
     }
 
+    /// Hands on what a look at window 0 is lent: the window's pixels, its width and height, the target and its width.
+    pub fn look_by(&mut self, look: impl FnOnce(&[u32], usize, usize, &mut [u32], usize)) {
+        let size = self.session.rect_of(Id::from(0_u16)).unwrap_or_default().dims;
+        look(&self.store[..self.c], size.w as usize, size.h as usize, &mut self.screen, self.width as usize);
+    }
+
     /// The share of a window by the areas of its visible list.
     pub fn listed_share(&mut self, id: u16) -> Result<Share, Error> {
         let dims = self.session.rect_of(Id::from(id)).unwrap_or_default().dims;
@@ -137,6 +143,10 @@ impl Side for Ours {
             Call::Hits(ref points) => {
                 self.points = points.len();
                 answer(s.hits(points, &mut self.answers))
+            }
+            Call::Look(x, y, factor) => {
+                let look = Look { x, y, zoom: factor.map_or(Zoom::Fit, Zoom::Factor) };
+                answer(s.look(Id::from(0_u16), look, self.width, self.height, &self.store, &mut self.screen))
             }
             Call::Busiest(ref times) => return Reply::Second(busiest(times)),
             Call::Show(id) => answer(s.show(Id::from(id))),

@@ -3,6 +3,7 @@ use crate::class::{Beside, Class, COLD};
 use crate::classes::{ALL, EIGHT, LONGEST, MIX, MIX_OF_EIGHT, THREE};
 use crate::dims;
 use crate::dims::DIMMED;
+use crate::looks;
 use crate::measure::Measured;
 use crate::report::{nanoseconds, whole};
 use crate::scene::{HEIGHT, WIDTH};
@@ -132,6 +133,23 @@ pub fn dims(classes: &[Class], results: &[Measured]) -> String {
     let rows: String = dims::names().iter().map(row).collect();
     format!(
         "| 800 by 480 | ours, ns a pixel | the loop in Rust | ratio | dimming off |\n|---|---:|---:|---:|---:|\n{rows}"
+    )
+}
+
+/// Looks at a window, by the pixel of the target.
+pub fn looks(classes: &[Class], results: &[Measured]) -> String {
+    let row = |&(factor, width, height): &(Option<f64>, u32, u32)| {
+        let m = named(classes, results, &looks::name(factor));
+        let a_pixel =
+            |time: f64| if time.is_nan() { String::new() } else { format!("{:.2}", time / f64::from(width * height)) };
+        let (ours, floats, copy) = (a_pixel(m.ours), a_pixel(m.theirs), a_pixel(m.limit));
+        let what = factor.map_or("fit".to_string(), |factor| factor.to_string());
+        format!("| {what} | {width} by {height} | {ours} | {floats} | {:.2} | {copy} |\n", m.ratio)
+    };
+    let rows: String = looks::LOOKS.iter().map(row).collect();
+    format!(
+        "| factor | target | ours, ns a pixel | the loop in f64 in Rust | ratio | `memcpy` of the rows |\n\
+         |---|---|---:|---:|---:|---:|\n{rows}"
     )
 }
 

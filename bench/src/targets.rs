@@ -2,6 +2,7 @@
 use crate::class::{Beside, Class};
 use crate::classes::{LAYER, MIX};
 use crate::dims::DIMMED;
+use crate::looks::LOOK;
 use crate::measure::Measured;
 use crate::pixman;
 use crate::points::POINTS;
@@ -38,7 +39,7 @@ const WIDE_FILLS: &[&str] = &["fill 300 by", "fill 800 by", "fill 4000 by", "fil
 const NARROW_BLITS: &[&str] = &["blit 8 by", "blit 16 by", "blit 32 by", "blit 64 by", "blit 100 by"];
 const WIDE_BLITS: &[&str] = &["blit 300 by", "blit 800 by", "blit 4000 by", "blit 32767 by"];
 
-const TARGETS: [Target; 25] = [
+const TARGETS: [Target; 26] = [
     target("mark", Beside::Original, &["mark"], Time(1.0)),
     target("move", Beside::Original, &["move, "], Time(1.0)),
     target("show, hide", Beside::Original, &["hide or show"], Time(1.0)),
@@ -64,6 +65,7 @@ const TARGETS: [Target; 25] = [
     target("share in view", Beside::Pixman, &[SHARE], Time(1.0)),
     target("share in view", Beside::Listed, &[SHARE], Time(1.0)),
     target("32 points together", Beside::Original, &[POINTS], Time(1.0)),
+    target("a closer look", Beside::Floats, &[LOOK], Time(0.7)),
     target("busiest second of 4,096 events", Beside::OnePass, &[BUSIEST], Time(1.1)),
 ];
 
@@ -82,6 +84,7 @@ impl Target {
             (_, Beside::Table) => "a loop over the same table in Rust, time",
             (_, Beside::Bright) => "our redraw with dimming off, time",
             (_, Beside::Listed) => "our visible list, time",
+            (_, Beside::Floats) => "a loop with the same rule in f64 in Rust, time",
             (_, Beside::OnePass) => "the same loop in Rust, time",
             (_, Beside::Square) => "the square form in Rust, time",
         }

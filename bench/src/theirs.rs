@@ -85,7 +85,7 @@ impl Side for Theirs {
                 self.points.clear();
                 self.points.extend(points.iter().map(|point| g.at(point.x, point.y)));
             }
-            Call::Begin(_) | Call::Portion | Call::Dim(_) | Call::Share(_) | Call::Busiest(_) => {
+            Call::Begin(_) | Call::Portion | Call::Dim(_) | Call::Share(_) | Call::Look(..) | Call::Busiest(_) => {
                 unreachable!("the original has no such call")
             }
         }

@@ -54,6 +54,8 @@ questions! {
     17 Layer "the layer is at most 1"
     20 NoWalk "a walk was begun, and is neither over nor dropped"
     21 KeyFire "the event is no KeyFire, asked before every other"
+    22 Look "the look fits, or its factor is 0.25, 0.5, 1, 2 or 4 and its corner in quarters, 0 to 32,767"
+    23 TargetSize "the target's width and height are 1 to 32,767, its length their product"
     24 NotInView "the window is shown and has pixels"
     25 Points "at most 32 points, each x with its y, and 3 numbers for each in the list"
     26 RunLength "the run has at most 4,096 times"

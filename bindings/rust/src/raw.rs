@@ -56,6 +56,14 @@ pub struct Share {
 }
 
 #[repr(C)]
+pub struct Look {
+    pub x: f64,
+    pub y: f64,
+    pub factor: f64,
+    pub fit: bool,
+}
+
+#[repr(C)]
 pub struct Placed {
     pub answer: u32,
     pub rect: Rect,
@@ -128,6 +136,7 @@ extern "C" {
     pub fn roq_visible(s: *const Session, id: u16, list: *mut u32, list_len: usize) -> Listing;
     pub fn roq_share(s: *const Session, id: u16) -> Share;
     pub fn roq_hits(s: *const Session, points: *const u32, points_len: usize, answers: *mut u32, answers_len: usize) -> u32;
+    pub fn roq_look(s: *const Session, id: u16, look: Look, tw: u32, th: u32, store: *const u32, store_len: usize, target: *mut u32, target_len: usize) -> u32;
     pub fn roq_focus(s: *const Session) -> u16;
     pub fn roq_rect_of(s: *const Session, id: u16) -> Placed;
     pub fn roq_contains(r: Rect, pt: Pos) -> Tested;

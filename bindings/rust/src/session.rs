@@ -40,6 +40,37 @@ impl Hit {
     }
 }
 
+/// How much a look magnifies: by 0.25, 0.5, 1, 2 or 4, or so that the window fits the target.
+#[derive(Clone, Copy, Debug, PartialEq)]
+pub enum Zoom {
+    Factor(f64),
+    Fit,
+}
+
+/// A corner in the window, and a zoom. With [`Zoom::Fit`] the corner is not looked at.
+#[derive(Clone, Copy, Debug, PartialEq)]
+pub struct Look {
+    pub x: f64,
+    pub y: f64,
+    pub zoom: Zoom,
+}
+
+impl Look {
+    /// The whole window.
+    pub const fn fit() -> Look {
+        Look { x: 0.0, y: 0.0, zoom: Zoom::Fit }
+    }
+
+    #[inline]
+    fn raw(self) -> raw::Look {
+        let (factor, fit) = match self.zoom {
+            Zoom::Factor(factor) => (factor, false),
+            Zoom::Fit => (0.0, true),
+        };
+        raw::Look { x: self.x, y: self.y, factor, fit }
+    }
+}
+
 #[inline]
 fn altered(altered: raw::Altered) -> Result<usize, Error> {
     Error::checked(altered.answer).map(|()| altered.altered)
@@ -186,6 +217,15 @@ impl Session {
         let (from, to) = (points.as_ptr().cast(), answers.as_mut_ptr().cast());
         Error::checked(unsafe { raw::roq_hits(&self.0, from, 2 * points.len(), to, 3 * answers.len()) })?;
         Ok(&answers[..points.len()])
+    }
+
+    /// Fills a target of tw by th pixels with what a look shows of a window, shown or hidden: 0 outside the window.
+    #[inline]
+    pub fn look(&self, id: Id, look: Look, tw: u32, th: u32, store: &[u32], target: &mut [u32]) -> Result<(), Error> {
+        let (px, len) = (target.as_mut_ptr(), target.len());
+        Error::checked(unsafe {
+            raw::roq_look(&self.0, id.0, look.raw(), tw, th, store.as_ptr(), store.len(), px, len)
+        })
     }
 
     /// The window that has the focus; 0 where none is shown.

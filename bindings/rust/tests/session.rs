@@ -136,6 +136,19 @@ fn views() {
 }
 
 #[test]
+fn looks() {
+    let Station { session, mut store, plan, .. } = station();
+    store[..4].copy_from_slice(&[1, 2, 3, 4]);
+    let mut target = [9; 4];
+    let look = Look { x: 0.5, y: 0.0, zoom: Zoom::Factor(2.0) };
+    assert_eq!((session.look(plan, look, 4, 1, &store, &mut target), target), (Ok(()), [1, 2, 2, 3]));
+    assert_eq!((session.look(plan, Look::fit(), 2, 2, &store, &mut target), target), (Ok(()), [1, 0, 0, 0]));
+    let third = Look { zoom: Zoom::Factor(3.0), ..look };
+    assert_eq!((session.look(plan, third, 4, 1, &store, &mut target), target), (Err(Error::Look), [1, 0, 0, 0]));
+    assert_eq!(session.look(plan, look, 4, 2, &store, &mut target), Err(Error::TargetSize));
+}
+
+#[test]
 fn rectangles_alone() {
     let (a, b) = (Rect::new(0, 0, 10, 10), Rect::new(4, 3, 9, 2));
     assert_eq!((a.contains(Pos::new(9, 9)), a.contains(Pos::new(10, 9))), (Ok(true), Ok(false)));
