@@ -1,4 +1,4 @@
--- Rectangles: which pixels lists of them have, that no pixel is in two, and how many there are.
+-- Rectangles: which pixels lists of them have, that no pixel is in two, how many there are, and which is nearest to a point.
 pub mod Facts
 pub mod Sides
 pub mod Four
@@ -9,3 +9,5 @@ pub mod Apart
 pub mod Bound
 pub mod Remains
 pub mod Areas
+pub mod Nearest
+pub mod Displays

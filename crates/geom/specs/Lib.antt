@@ -3,6 +3,8 @@ pub mod Questions
 pub mod Geom
 pub mod Lists
 pub mod Areas
+pub mod Nearest
+pub mod Displays
 pub mod Bare
 pub mod Inner
 pub mod Limits

@@ -1,13 +1,15 @@
 // The same without question 14, for our own crates: their coordinates are known to fit (`Fits`).
 ghost use mathlib.Core.Path.{_≡_};
-ghost use mathlib.Core.Bool.{true};
-ghost use Prim.Native.Nat.{min, max};
+ghost use mathlib.Core.Bool.{true, false};
+ghost use Prim.Native.Nat.{_≤_, min, max};
 ghost use Rattle.geom.specs.Geom as rule;
+ghost use Rattle.geom.specs.Nearest.{nearestX, nearestY, apart, distance²};
 ghost use Rattle.geom.specs.Inner.{Fits};
 ghost use Rattle.geom.specs.Bare.{edgesFit, bothFit};
 
 pub mod pieces;
 
+use crate::Pos;
 use crate::Rect;
 
 // Question 14 of one rectangle.
@@ -167,4 +169,35 @@ pub fn common(a: Rect, b: Rect) -> Rect
     let r = least(right(a), right(b));
     let s = least(bottom(a), bottom(b));
     Rect::new(x, y, r - x, s - y)
+}
+
+// The pixel of the rectangle that is nearest to the position.
+pub fn clamp_pos(r: Rect, pos: Pos) -> Pos
+    requires { ⌜ Fits r ⌝ }
+    requires { ⌜ rule.isEmpty r ≡ false ⌝ }
+    ensures { λ p. ⌜ (p .x ≡ nearestX r (pos .x)) × (p .y ≡ nearestY r (pos .y)) ⌝ }
+{
+    let x = greatest(r.pos.x, least(right(r) - 1, pos.x));
+    let y = greatest(r.pos.y, least(bottom(r) - 1, pos.y));
+    Pos::new(x, y)
+}
+
+// How far two numbers are apart.
+fn abs_diff(a: u32, b: u32) -> u32
+    ensures { λ n. ⌜ n ≡ apart a b ⌝ }
+{
+    if a < b {
+        return b - a;
+    }
+    a - b
+}
+
+// The square of the distance between two positions in a straight line. Twice the square of a difference of 31 bits is a number of 64 bits.
+pub fn dist_sq(a: Pos, b: Pos) -> u64
+    requires { ⌜ (apart (a .x) (b .x) ≤ 2147483647) × (apart (a .y) (b .y) ≤ 2147483647) ⌝ }
+    ensures { λ n. ⌜ n ≡ distance² (a .x) (a .y) (b .x) (b .y) ⌝ }
+{
+    let dx = abs_diff(a.x, b.x) as u64;
+    let dy = abs_diff(a.y, b.y) as u64;
+    dx * dx + dy * dy
 }

@@ -3,7 +3,7 @@
 ghost use mathlib.Core.Path.{_≡_};
 ghost use Prim.Native.Nat.{_-_, _<_};
 ghost use Rattle.rules.specs.Order.{forget};
-ghost use Rattle.rules.specs.Nearest.{cut};
+ghost use Rattle.geom.specs.Nearest.{cut};
 ghost use Rattle.order.specs.Ids.{ids, heldOf};
 ghost use Rattle.order.specs.Frames.{frameAt, Shown, hitOf, takerAt};
 use crate::WinId;

@@ -16,7 +16,7 @@ use Rattle.window.specs.declared.Event.the-variants as Event
 use Rattle.rules.specs.Group.{Group, start, win}
 use Rattle.rules.specs.Order.{isIn, above}
 use Rattle.rules.specs.Visible.{Listed, visibleList, rectsOf}
-use Rattle.rules.specs.Nearest.{nearestX, nearestY}
+use Rattle.geom.specs.Nearest.{nearestX, nearestY}
 use Rattle.rules.specs.Events.{route}
 use Rattle.rules.specs.Calls.{Call, Made, does, byRule, accepted, after}
 use Rattle.rules.specs.Book.{Book, page, bookOf, topmost}

@@ -8,6 +8,7 @@ use lib.Dec.{T, eqb}
 use borrow.Author.Tests.{eqb-true}
 use Rattle.geom.specs.Geom as Geom
 use Rattle.geom.specs.Lists as Lists
+use Rattle.geom.specs.Displays as Places
 use Rattle.geom.proofs.basics.Tests.{is-true, holds, clash, or-right, or-cases}
 use Rattle.scanline.specs.Pixels as Pixels
 use Rattle.shade.specs.Shade as Shade
@@ -22,6 +23,7 @@ use Rattle.rules.specs.Store as Store
 use Rattle.rules.specs.Redraw as Draw
 use Rattle.rules.specs.Walk as Walk
 use Rattle.rules.specs.Dim as Dimming
+use Rattle.rules.specs.Displays as Displays
 use Rattle.rules.specs.Calls as Calls
 use Rattle.rules.specs.Calls.{does, byRule, after}
 use Rattle.rules.specs.Book as Book
@@ -30,7 +32,7 @@ use Rattle.rules.specs.Conditions as Conditions
 use Rattle.rules.specs.Conditions.{beforeLast, unmarked}
 use Rattle.rules.specs.Demand.{pixelOf, leftAt, Ended, Two}
 use Rattle.rules.specs.Layers.{Panel}
-use Rattle.rules.specs.Station.{before, first, between, second, picture, walk, last, back, lastBack, backPicture, meanwhile, lastMeanwhile, meanwhilePicture, switched, lastSwitched, switchedPicture, raised, lastRaised, raisedPicture}
+use Rattle.rules.specs.Station.{before, first, between, second, picture, walk, last, back, lastBack, backPicture, meanwhile, lastMeanwhile, meanwhilePicture, switched, lastSwitched, switchedPicture, raised, lastRaised, raisedPicture, spread, lastSpread, spreadPicture}
 
 -- no third window is shown
 none-else : {A : Type 0} (n : ℕ) → T (isIn (suc (suc n)) (0 ∷ 1 ∷ [])) → A
@@ -200,4 +202,31 @@ station-raised = (
   },
   refl,
   record { shown = tt; high = refl; has = tt },
+)
+
+-- Windows on a display -----------------------------------------------------------------------------------------------
+
+marked-spread : (id : ℕ) → T (isIn id (bookOf 4 (before ++ (first ∷ spread)) .order))
+    → unmarked id (start 4 .group) false (beforeLast 4 id ((before ++ (first ∷ spread)) ++ (lastSpread ∷ []))) ≡ false
+unfolding Geom.meets Geom.common Geom.contains Geom.containsRect Geom.pieces Geom.around Geom.ifAny Lists.outside Lists.outsideAll Lists.meetsOf Lists.listIntersect Places.away² Places.closestOf Places.displayFor Pixels.writeRows Pixels.resizedAt Window.addDirty Window.anyContains Window.merges Window.mergeOrAppend Window.pushed Group.create Group.move Group.mark Order.show Visible.visible Events.route Store.resize Store.fill Store.filledAt Draw.redraw Displays.addDisplay Displays.maximise Displays.updateDims Calls.does Calls.run Calls.after Book.turn Book.read Book.bookOf Conditions.upToLast Conditions.unmarked
+marked-spread zero h = refl
+marked-spread (suc zero) h = refl
+marked-spread (suc (suc n)) h = none-else n h
+
+-- the conditions, and the screen
+pub station-spread : Two 4 3 2 before first spread lastSpread × (does (after 4 (before ++ (first ∷ spread))) lastSpread .screen ≡ spreadPicture)
+unfolding Geom.meets Geom.common Geom.contains Geom.containsRect Geom.pieces Geom.around Geom.ifAny Lists.outside Lists.outsideAll Lists.meetsOf Lists.listIntersect Places.away² Places.closestOf Places.displayFor Pixels.writeRows Pixels.resizedAt Window.addDirty Window.anyContains Window.merges Window.mergeOrAppend Window.pushed Group.create Group.move Group.mark Order.show Visible.visible Events.route Store.resize Store.fill Store.filledAt Draw.redraw Displays.addDisplay Displays.maximise Displays.updateDims Calls.does Calls.run Calls.after Conditions.Quiet Conditions.Sized Conditions.noRedraw Conditions.written
+station-spread = (
+  record {
+    first = tt;
+    second = record {
+      ended = tt;
+      quiet = (tt, tt, (tt, tt, (tt, tt, (refl, tt, (refl, tt, (refl, tt, (tt, tt, (tt, tt, (tt, tt, (tt, tt, (refl, tt, (tt, tt, (tt, tt, (refl, tt, (refl, tt, (refl, refl, tt))))))))))))))));
+      sized = (tt, (tt, (tt, (tt, (tt, (tt, (tt, (tt, (tt, (tt, ((refl, refl), (tt, (tt, (tt, (tt, ((refl, refl), tt))))))))))))))));
+      marked = marked-spread;
+    };
+    between = tt;
+    unwritten = refl;
+  },
+  refl,
 )

@@ -22,14 +22,15 @@ use Rattle.window.proofs.laws.Damage.{addDirty-old}
 use Rattle.rules.specs.Group as Group
 use Rattle.rules.specs.Store as Store
 use Rattle.rules.specs.Events as Events
-use Rattle.rules.specs.Group.{Group, Walk, used, win, withHeld, withLayers, setWin, giveLayer, isOver, sentBack, theWin}
+use Rattle.rules.specs.Displays as Displays
+use Rattle.rules.specs.Group.{Group, Walk, used, win, withHeld, withLayers, withDisplays, withMaximised, setWin, giveLayer, isOver, sentBack, theWin}
 use Rattle.rules.specs.Order.{isIn, without, inserted, shown}
 use Rattle.rules.specs.Events.{topmost, afterPop}
 use Rattle.rules.specs.Walk.{doneOf}
-use Rattle.rules.specs.Calls.{Call, Create, Show, Hide, Drop, Mark, Pop, Move, Resize, Fill, Blit, Route, Redraw, Begin, Portion, Dim, SetLayer, does, accepted}
+use Rattle.rules.specs.Calls.{Call, Create, Show, Hide, Drop, Mark, Pop, Move, Resize, Fill, Blit, Route, Redraw, Begin, Portion, Dim, SetLayer, AddDisplay, Maximise, UpdateDims, does, accepted}
 use Rattle.rules.specs.Conditions.{deed, lentScreen, owesMark}
 use Rattle.rules.proofs.group.Topmost.{topmost-same}
-use Rattle.rules.proofs.group.Steps.{on-create, on-show, on-hide, on-drop, on-move, on-pop, on-key, on-to, on-pointed, on-route, on-dim, on-layer, on-resize, on-fill, on-blit}
+use Rattle.rules.proofs.group.Steps.{on-create, on-show, on-hide, on-drop, on-move, on-pop, on-key, on-to, on-pointed, on-route, on-dim, on-layer, on-add-display, on-resize, on-fill, on-blit}
 use Rattle.rules.proofs.group.Invariant.{Ok, used-below, free-place}
 
 -- What is kept -------------------------------------------------------------------------------------------------------
@@ -129,13 +130,14 @@ module _ (g : Group) (ok : Ok g) where
   calm-alike : (i : ℕ) (v : Win) → v .at ≡ win g i .at → v .marked ≡ win g i .marked → v .damage ≡ win g i .damage → Calm g (setWin i (some v) g) as-was
   calm-alike i v a m d = calm-set g ok i v as-was (λ s. keeps-same (win g i) v (as-was i) a m d (λ u e. e)) (λ id ne u e. e)
 
+  -- what no redraw looks at: the window remembered, layers where the order stays, displays and flags
+  calm-aside : (r : Group) (h : Option ℕ) (ls : List ℕ) (ds : List Rect) (ms : List Bool) (f : ℕ → Bool → Bool) → Calm g r f
+      → Calm g (withMaximised ms (withDisplays ds (withLayers ls (withHeld h r)))) f
+  calm-aside r h ls ds ms f k = record { c = k .c; order = k .order; owed = k .owed; walk = k .walk; dimmed = k .dimmed; each = k .each }
+
   -- another window is remembered, or none
   calm-held : (r : Group) (h : Option ℕ) → Calm g r as-was → Calm g (withHeld h r) as-was
-  calm-held r h k = record { c = k .c; order = k .order; owed = k .owed; walk = k .walk; dimmed = k .dimmed; each = k .each }
-
-  -- a layer is changed: where the order stays nothing rests on it
-  calm-layers : (ls : List ℕ) (r : Group) (f : ℕ → Bool → Bool) → Calm g r f → Calm g (withLayers ls r) f
-  calm-layers ls r f k = record { c = k .c; order = k .order; owed = k .owed; walk = k .walk; dimmed = k .dimmed; each = k .each }
+  calm-held r h k = calm-aside r h (r .layers) (r .displays) (r .maximised) as-was k
 
   calm-pop : (i : ℕ) (q : List Event) (d : Bool) → Calm g (setWin i (some (afterPop (win g i) q d)) g) as-was
   calm-pop i [] true = calm-alike i _ refl refl refl
@@ -179,7 +181,7 @@ module _ (g : Group) (ok : Ok g) where
   unfolding does Group.create
   stays-create e =
       on-create (Stays g Create) g
-      (λ n f. inr (calm-layers (giveLayer n 0 g .layers) (setWin n (some newWin) g) (flag g Create)
+      (λ n f. inr (calm-aside (setWin n (some newWin) g) (g .held) (giveLayer n 0 g .layers) (g .displays) _ (flag g Create)
       (calm-set g ok n newWin (flag g Create) (λ s. clash (ok .shown-used n s) (free-place g n f .1)) (λ id ne u q. rw (f, ne-eqb n id (λ k. ne (sym k))) at q))))
       (λ f. clash e (rw f))
 
@@ -193,6 +195,14 @@ module _ (g : Group) (ok : Ok g) where
   pub resize-none-fine : (i w h : ℕ) (s : List ℕ) → accepted g (Resize i w h s) ≡ true → NoneFine (does g (Resize i w h s) .group)
   unfolding does Store.resize
   resize-none-fine i w h s y = cond-yes NoneFine _ _ _ y (sent-back (g .order) (g .walk))
+
+  pub maximise-none-fine : (i : ℕ) (s : List ℕ) → accepted g (Maximise i s) ≡ true → NoneFine (does g (Maximise i s) .group)
+  unfolding does Displays.maximise
+  maximise-none-fine i s y = cond-yes NoneFine _ _ _ y (sent-back (g .order) (g .walk))
+
+  pub update-none-fine : (s : List ℕ) → accepted g (UpdateDims s) ≡ true → NoneFine (does g (UpdateDims s) .group)
+  unfolding does Displays.updateDims
+  update-none-fine s y = cond-yes NoneFine _ _ _ y (sent-back (g .order) (g .walk))
 
   pub stays : (k : Call) → lentScreen k ≡ none → deed k .begins ≡ false → accepted g k ≡ true → Stays g k (does g k .group)
   unfolding does
@@ -221,5 +231,9 @@ module _ (g : Group) (ok : Ok g) where
       on-layer (Stays g (SetLayer i l)) g i l
       (λ u. on-cond (Stays g (SetLayer i l)) (shown g i) _ (giveLayer i l g)
       (λ s. inl (both s (snd (used g i && leb l 1) _ u), sent-back (inserted (giveLayer i l g .layers) i (without i (g .order))) (g .walk)))
-      (λ s. inr (calm-layers (giveLayer i l g .layers) g as-was as-it-was)))
+      (λ s. inr (calm-aside g (g .held) (giveLayer i l g .layers) (g .displays) (g .maximised) as-was as-it-was)))
       (λ u. inr as-it-was)
+  stays (AddDisplay d) r b e =
+      on-add-display (Stays g (AddDisplay d)) g d (λ u. inr (calm-aside g (g .held) (g .layers) _ (g .maximised) as-was as-it-was)) (λ u. inr as-it-was)
+  stays (Maximise i s) r b e = inl (refl, maximise-none-fine i s e)
+  stays (UpdateDims s) r b e = inl (refl, update-none-fine s e)

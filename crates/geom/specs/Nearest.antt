@@ -1,10 +1,11 @@
--- Document 02, "A release stays with its press": "the window pixel nearest to the point".
+-- Document 02: the pixel of a rectangle that is nearest to a point, as "the window pixel nearest to the point" of a release is, and the pixel of a
+-- display "nearest in a straight line".
 use Prim.Native.Nat.{ℕ, _+_, _-_, _*_, _≤_, min, max}
 use mathlib.Core.Path.{_≡_}
 use mathlib.Core.Bool.{false}
 use lib.Dec.{T}
 use Rattle.geom.specs.declared.Rect.{Rect}
 use Rattle.geom.specs.Geom.{left, top, width, height, isEmpty, contains}
 
 -- of the n numbers from `first` on, of which there is one at least, the one nearest to p: p itself, or the end on its side
 abbrev pub cut : ℕ → ℕ → ℕ → ℕ

@@ -5,10 +5,10 @@ use mathlib.Core.Logic.{_⊎_, inl, inr, ⊎-elim}
 use native.Mathlib.Omega.{arith}
 use native.Mathlib.Nat.{mul-le-mul, add-le-add}
 use lib.Dec.{T}
 use Rattle.geom.specs.Geom.{left, top, width, height, right, bottom, contains}
 use Rattle.geom.proofs.basics.Tests.{is-true, holds, lt-or-le}
 use Rattle.geom.proofs.geometry.Facts.{Solid, solid, says-in}
-use Rattle.rules.specs.Nearest.{cut, nearestX, nearestY, apart, Nearest}
+use Rattle.geom.specs.Nearest.{cut, nearestX, nearestY, apart, Nearest}
 
 -- One axis -----------------------------------------------------------------------------------------------------------
 
