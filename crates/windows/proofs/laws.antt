@@ -12,6 +12,8 @@ pub mod Layered
 pub mod Hidden
 pub mod Store
 pub mod Pixels
+pub mod Dims
+pub mod Updated
 pub mod Listed
 pub mod InView
 pub mod Hits

@@ -8,5 +8,6 @@ pub mod Frames
 pub mod Drawing
 pub mod Walk
 pub mod Pixels
+pub mod Dims
 pub mod Events
 pub mod Aimed

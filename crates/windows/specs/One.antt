@@ -43,7 +43,7 @@ pub record SharedBy (k : Shared) : Type 0 where
 
 -- the session with another window at a place, sharing k
 abbrev pub put : ℕ → Window → Shared → Session → Session
-put at w k s = record { windows = set (s .windows) at w; shared = k }
+put at w k s = record { windows = set (s .windows) at w; shared = k; displays = s .displays }
 
 -- every session that holds the window, with the new one put in its place, is the session that the call promises
 abbrev pub MeetsAt : Call → ℕ → Window → Shared → Changed → Type 0
@@ -62,7 +62,7 @@ MeetsAlteredAt call id w k r store =
 
 -- the same of a call that touches what the windows share and no window: every session that shares this, with what the call makes of it
 abbrev pub MeetsShared : Call → Shared → SharedDone → Type 0
-MeetsShared call k r = (s : Session) → Given s → s .shared ≡ k → Meets call s (done (record { windows = s .windows; shared = r .shared }) (r .answer))
+MeetsShared call k r = (s : Session) → Given s → s .shared ≡ k → Meets call s (done (record { windows = s .windows; shared = r .shared; displays = s .displays }) (r .answer))
 
 -- a place for the next window: that of the smallest unused number, or any where no number is left
 pub record Free (s : Session) (f : FreeSlot) : Type 0 where

@@ -18,10 +18,12 @@ use Rattle.rules.specs.Group as Rule
 use Rattle.rules.specs.Share.{share}
 use Rattle.rules.specs.Hits.{hits}
 use Rattle.rules.specs.Look.{look}
+use Rattle.rules.specs.DisplayAt.{displayAt}
 use Rattle.rules.specs.Visible.{visibleList}
 use Rattle.rules.specs.Calls.{Call, does, after}
 use Rattle.order.specs.declared.due.Walk.{Walk}
 use Rattle.order.specs.Ids.{ids, heldOf}
+use Rattle.display.specs.Held.{regions, RepDisplays, locatedOf}
 use Rattle.windows.specs.declared.Session.{Session}
 use Rattle.windows.specs.declared.Done.{Done}
 use Rattle.windows.specs.declared.Written.{Written}
@@ -34,6 +36,7 @@ use Rattle.windows.specs.declared.Popped.{Popped}
 use Rattle.windows.specs.declared.Placed.{Placed}
 use Rattle.windows.specs.declared.Listing.{Listing}
 use Rattle.windows.specs.declared.InView.{InView}
+use Rattle.windows.specs.declared.ForPos.{ForPos}
 
 -- The view --------------------------------------------------------------------------------------------------------------
 
@@ -58,6 +61,8 @@ group s =
       dimmed = s .shared .dimmed;
       held = heldOf (s .shared .held);
       layers = s .shared .layers;
+      displays = regions (s .displays);
+      maximised = s .shared .maximised;
     }
 
 -- Which sessions there are ----------------------------------------------------------------------------------------------
@@ -83,6 +88,7 @@ pub record Rep (s : Session) : Type 0 where
   pub order : length (s .shared .order) ≡ 16
   pub shown : s .shared .shown ≤ 16
   pub each : (id : ℕ) → id < 16 → RepWindow (windowAt s id)
+  pub displays : RepDisplays (s .displays)
 
 -- "A session is one that a start and later calls gave": the only premise of a call
 pub record Given (s : Session) : Type 0 where
@@ -168,6 +174,11 @@ pub record Hits (g : Group) (points before : List ℕ) (a : ℕ) (after : List �
 pub record Looks (g : Group) (id : ℕ) (l : Look) (store before : List ℕ) (tw th : ℕ) (a : ℕ) (after : List ℕ) : Type 0 where
   pub answer : a ≡ look g id l store before tw th .answer
   pub target : after ≡ look g id l store before tw th .target
+
+-- the display at a position: answer and display are the rule's
+pub record Locates (g : Group) (px py : ℕ) (r : ForPos) : Type 0 where
+  pub answer : r .answer ≡ displayAt g px py .answer
+  pub located : locatedOf (r .located) ≡ displayAt g px py .located
 
 -- position and size of a window: question 3, "any other number handed back 0"
 abbrev pub placed : Group → ℕ → Placed

@@ -4,7 +4,7 @@ use mathlib.Core.Path.{_≡_}
 use mathlib.Core.Bool.{Bool, true, false, cond, _||_}
 use mathlib.Core.List.{List, map}
 use lib.Dec.{eqb}
-use lib.ListN.{getD, drop}
+use lib.ListN.{getD, set, drop}
 use Rattle.window.specs.declared.Window.{Window}
 use Rattle.rules.specs.Group.{win, layer, giveLayer}
 use Rattle.rules.specs.Order.{hidden, toTop}
@@ -25,26 +25,33 @@ use Rattle.windows.specs.One.{put}
 -- Parts of what is shared set -----------------------------------------------------------------------------------------
 
 abbrev pub ordered : List WinId → ℕ → WinId → Shared → Shared
-ordered o n f k = record { order = o; shown = n; c = k .c; focus = f; dimmed = k .dimmed; held = k .held; due = k .due; layers = k .layers }
+ordered o n f k = record { order = o; shown = n; c = k .c; focus = f; dimmed = k .dimmed; held = k .held; due = k .due; layers = k .layers; maximised = k .maximised }
 
 -- what is still to be drawn
 abbrev pub noted : Due → Shared → Shared
-noted u k = record { order = k .order; shown = k .shown; c = k .c; focus = k .focus; dimmed = k .dimmed; held = k .held; due = u; layers = k .layers }
+noted u k = record { order = k .order; shown = k .shown; c = k .c; focus = k .focus; dimmed = k .dimmed; held = k .held; due = u; layers = k .layers; maximised = k .maximised }
 
 -- whether dimming is on
 abbrev pub dimming : Bool → Shared → Shared
-dimming on k = record { order = k .order; shown = k .shown; c = k .c; focus = k .focus; dimmed = on; held = k .held; due = k .due; layers = k .layers }
+dimming on k = record { order = k .order; shown = k .shown; c = k .c; focus = k .focus; dimmed = on; held = k .held; due = k .due; layers = k .layers; maximised = k .maximised }
 
 -- the number of the window that is remembered
 abbrev pub holding : ℕ → Shared → Shared
-holding h k = record { order = k .order; shown = k .shown; c = k .c; focus = k .focus; dimmed = k .dimmed; held = h; due = k .due; layers = k .layers }
+holding h k = record { order = k .order; shown = k .shown; c = k .c; focus = k .focus; dimmed = k .dimmed; held = h; due = k .due; layers = k .layers; maximised = k .maximised }
 
 -- the layers of the windows by their numbers
 abbrev pub layering : List ℕ → Shared → Shared
-layering ls k = record { order = k .order; shown = k .shown; c = k .c; focus = k .focus; dimmed = k .dimmed; held = k .held; due = k .due; layers = ls }
+layering ls k = record { order = k .order; shown = k .shown; c = k .c; focus = k .focus; dimmed = k .dimmed; held = k .held; due = k .due; layers = ls; maximised = k .maximised }
+
+-- whether the windows are maximised, by their numbers; and one flag
+abbrev pub flagging : List Bool → Shared → Shared
+flagging ms k = record { order = k .order; shown = k .shown; c = k .c; focus = k .focus; dimmed = k .dimmed; held = k .held; due = k .due; layers = k .layers; maximised = ms }
+
+abbrev pub flagged : ℕ → Bool → Shared → Shared
+flagged id on k = flagging (set (k .maximised) id on) k
 
 abbrev pub sharing : Shared → Session → Session
-sharing k s = record { windows = s .windows; shared = k }
+sharing k s = record { windows = s .windows; shared = k; displays = s .displays }
 
 -- a full redraw is owed
 abbrev pub indebted : Shared → Shared

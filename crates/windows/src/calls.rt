@@ -1,4 +1,5 @@
-// The calls that touch one window, or only what the windows share, by value: the function of one window, and its results put in their place.
+// The calls that touch one window, or only what the windows share, by value: the function of one window, and its results put in their place. With
+// them the calls that go in two halves, and the adding of a display.
 ghost use mathlib.Core.Path.{_≡_};
 ghost use Prim.Native.Nat.{_<_};
 ghost use Rattle.rules.specs.Calls.{Call};
@@ -11,6 +12,7 @@ use crate::Session;
 use crate::Written;
 use crate::WrittenOne;
 use crate::dim;
+use crate::dims;
 use crate::events;
 use crate::one;
 use crate::one::slot;
@@ -141,6 +143,40 @@ impl Session {
         let at = slot(id);
         let d = store::blit(self.windows[at], self.shared, id, area, stride, data, store);
         self.put_written(at, d)
+    }
+
+    // The window takes the display that its position is on, and stays maximised until it is moved or resized.
+    pub fn maximise_window(self, id: WinId, store: &mut [u32]) -> Done
+        requires { ⌜ Given self ⌝ }
+        ensures { λ r. ⌜ MeetsStore (Call.Maximise (id .0) (now (store .entry))) self r (now (store .exit)) ⌝ }
+    {
+        let t = self.taking(id, store);
+        let at = t.at;
+        let d = dims::take(self.windows[at], self.shared, t.what);
+        self.put(at, d)
+    }
+
+    // Windows keep to the displays: a maximised one takes the display of its position or the closest, another that is on none comes to the closest.
+    pub fn update_dims(self, store: &mut [u32]) -> Done
+        requires { ⌜ Given self ⌝ }
+        ensures { λ r. ⌜ MeetsStore (Call.UpdateDims (now (store .entry))) self r (now (store .exit)) ⌝ }
+    {
+        let p = self.planned(store);
+        dims::moved(self, p)
+    }
+
+    pub fn add_display(mut self, region: Rect) -> Done
+        requires { ⌜ Given self ⌝ }
+        ensures { λ r. ⌜ Meets (Call.AddDisplay region) self r ⌝ }
+    {
+        let old = self.displays;
+        let added = old.add(region);
+        let displays = added.displays;
+        self.displays = displays;
+        Done {
+            session: self,
+            answer: added.answer,
+        }
     }
 
     pub fn route(self, e: Event) -> Done

@@ -11,6 +11,7 @@ use crate::Placed;
 use crate::Session;
 use crate::Shared;
 use crate::one;
+use display::Displays;
 use geom::Rect;
 use order::WinId;
 use order::due::Due;
@@ -39,8 +40,14 @@ impl Session {
             held: NOBODY,
             due,
             layers: [0; 16],
+            maximised: [false; 16],
         };
-        Session { windows, shared }
+        let displays = Displays::none();
+        Session {
+            windows,
+            shared,
+            displays,
+        }
     }
 
     pub fn start(c: u32) -> Done

@@ -11,6 +11,8 @@
 //             redraw that goes window by window
 //     the lent store             C     C     C     C     C  …   C     window i has the C pixels from i × C on, rows of its own width
 //     the lent screen            what a redraw writes, window by window in the order, each under those above it
+use display::Displays;
+use display::Located;
 use geom::Rect;
 use order::WinId;
 use order::due::Due;
@@ -20,6 +22,7 @@ use window::Window;
 
 mod calls;
 pub mod dim;
+pub mod dims;
 pub mod events;
 mod frames;
 mod group;
@@ -46,12 +49,14 @@ pub struct Shared {
     pub held: u8,
     pub due: Due,
     pub layers: [u8; 16],
+    pub maximised: [bool; 16],
 }
 
 #[repr(C)]
 pub struct Session {
     pub windows: [Window; 16],
     pub shared: Shared,
+    pub displays: Displays,
 }
 
 // What a call makes of one window and of what the windows share, and the answer.
@@ -144,6 +149,12 @@ pub struct InView {
     pub answer: u32,
     pub percent: u32,
     pub remainder: u32,
+}
+
+// The display that a position is on, or the closest one, which is (0,0,0,0) where the answer is 5.
+pub struct ForPos {
+    pub answer: u32,
+    pub located: Located,
 }
 
 // The position and size of a window: (0,0,0,0) where the answer is 3.

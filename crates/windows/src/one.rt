@@ -44,7 +44,7 @@ pub fn is_used(win: Window, id: WinId) -> bool
     false
 }
 
-// A window of layer 0 that is not shown and has no pixels, if the place of this id is free.
+// A window of layer 0 that is not shown, not maximised and has no pixels, if the place of this id is free.
 pub fn create(win: Window, mut shared: Shared, id: WinId) -> CreatedOne
     requires { ⌜ id .0 < 16 ⌝ }
     ensures { λ r. ⌜ CreatesAt (id .0) win shared r ⌝ }
@@ -61,6 +61,7 @@ pub fn create(win: Window, mut shared: Shared, id: WinId) -> CreatedOne
     let was = shared.layers;
     let layers = with_layer(was, id, 0);
     shared.layers = layers;
+    shared = shared.flagged(id, false);
     CreatedOne {
         window,
         shared,
@@ -97,6 +98,7 @@ pub fn move_window(mut win: Window, mut shared: Shared, id: WinId, x: u32, y: u3
             area.x = x as u16;
             area.y = y as u16;
             win.at = area;
+            shared = shared.flagged(id, false);
             shared = shared.owing(); // where it was is uncovered
             answer = 0;
         }

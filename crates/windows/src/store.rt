@@ -7,9 +7,10 @@ ghost use lib.ListN.{length};
 ghost use Rattle.geom.specs.Geom.{rect};
 ghost use Rattle.scanline.specs.Pixels.{resizedAt};
 ghost use Rattle.scanline.specs.Rows.{Counted};
-ghost use Rattle.window.specs.Held.{Small, RepDamage, winOf};
+ghost use Rattle.window.specs.Held.{Small, rectOf, RepDamage, RepWindow, winOf};
 ghost use Rattle.window.specs.Inner.{Dirtied};
 ghost use Rattle.rules.specs.Store.{resizedWin, filledAt, blitAt};
+ghost use Rattle.rules.specs.Displays.{taken};
 ghost use Rattle.rules.specs.Calls.{Call};
 ghost use Rattle.windows.specs.One.{Held, MeetsStoreAt, MeetsAlteredAt};
 ghost use Rattle.windows.specs.Pixels.{Becomes, Stored, Resizable, setDamage, filledWin, blitWin};
@@ -137,8 +138,22 @@ fn blit_rect(
     }
 }
 
-// The window at a new size, with all of it damaged and Resize queued.
-fn resized(mut win: Window, base: usize, c: usize, size: Dims, store: &mut [u32]) -> Window
+// The window at a new place and of a new size, with all of it damaged and Resize queued.
+pub fn taken(mut win: Window, at: Area) -> Window
+    requires { ⌜ RepWindow win × Small (rectOf at) ⌝ }
+    ensures { λ r. ⌜ Becomes win (taken (rectOf at) (winOf win)) r ⌝ }
+{
+    let damage = Damage::whole(at.w as u32, at.h as u32);
+    let waiting = win.queue;
+    let queue = waiting.push(Event::Resize);
+    win.at = at;
+    win.damage = damage;
+    win.queue = queue;
+    win
+}
+
+// The window at a new size, with its pixels.
+fn resized(win: Window, base: usize, c: usize, size: Dims, store: &mut [u32]) -> Window
     requires { ⌜ Resizable (length (now store)) base c (size .w) (size .h) win ⌝ }
     ensures { λ r. ⌜ Becomes win (resizedWin (size .w) (size .h) (winOf win)) r × (now (store .exit) ≡ resizedAt base c (win .at .w) (win .at .h) (size .w) (size .h) (now (store .entry))) ⌝ }
 {
@@ -158,13 +173,7 @@ fn resized(mut win: Window, base: usize, c: usize, size: Dims, store: &mut [u32]
         w: size.w as u16,
         h: size.h as u16,
     };
-    let damage = Damage::whole(size.w, size.h);
-    let waiting = win.queue;
-    let queue = waiting.push(Event::Resize);
-    win.at = at;
-    win.damage = damage;
-    win.queue = queue;
-    win
+    taken(win, at)
 }
 
 pub fn fill(
@@ -269,6 +278,7 @@ pub fn resize(
                 if w * h <= shared.c {
                     answer = 0;
                     window = resized(win, id.0 as usize * c, c, size, store);
+                    shared = shared.flagged(id, false);
                     shared = shared.owing();
                 }
             }

@@ -17,7 +17,7 @@ use Rattle.window.specs.declared.damage.Area.{Area}
 use Rattle.window.specs.Window.{Win}
 use Rattle.rules.specs.Group.{win}
 use Rattle.rules.specs.Order.{shown}
-use Rattle.rules.specs.Nearest.{nearestX, nearestY}
+use Rattle.geom.specs.Nearest.{nearestX, nearestY}
 use Rattle.rules.specs.Calls.{Route, does}
 use Rattle.order.specs.Ids.{heldOf}
 use Rattle.order.specs.Frames.{frameAt}

@@ -24,9 +24,8 @@ use Rattle.rules.proofs.group.Invariant.{used-small}
 use Rattle.order.specs.Ids.{ids}
 use Rattle.order.specs.Order.{Marks}
 use Rattle.windows.specs.declared.Session.{Session}
-use Rattle.windows.specs.declared.Shared.{Shared}
 use Rattle.windows.specs.View.{cell, group, blank, windowAt, Rep, Given}
-use Rattle.windows.specs.Walk.{sharing, wiped}
+use Rattle.windows.specs.Walk.{wiped}
 use Rattle.windows.proofs.laws.Session.{cell-at, is-cell, win-at, used-at, putWindow, put-rep, given-ok}
 
 -- The rule, window by window ------------------------------------------------------------------------------------------
@@ -124,10 +123,11 @@ pub record Cleaning (full : Bool) (flags : List Bool) (s t : Session) (n : ℕ) 
   pub rep : Rep t
   pub within : n ≤ 16
   pub shared : t .shared ≡ s .shared
+  pub displays : t .displays ≡ s .displays
   pub each : (j : ℕ) → windowAt t j ≡ cond (ltb j n && drawn full (getD flags j false) (windowAt s j)) (wiped (windowAt s j)) (windowAt s j)
 
 pub clean-none : (full : Bool) (flags : List Bool) (s : Session) → Rep s → Cleaning full flags s s 0
-clean-none full flags s r = record { rep = r; within = omega arith; shared = refl; each = λ j. rw (le-ltb j 0 (omega arith)) refl }
+clean-none full flags s r = record { rep = r; within = omega arith; shared = refl; displays = refl; each = λ j. rw (le-ltb j 0 (omega arith)) refl }
 
 module _ {full : Bool} {flags : List Bool} {s t : Session} {n : ℕ} (q : Cleaning full flags s t n) (l : n < 16) where
   untouched : windowAt t n ≡ windowAt s n
@@ -143,6 +143,7 @@ module _ {full : Bool} {flags : List Bool} {s t : Session} {n : ℕ} (q : Cleani
         rep = q .rep;
         within = omega arith;
         shared = q .shared;
+        displays = q .displays;
         each = λ j. go j (ℕ-discrete j n);
       }
     where
@@ -156,6 +157,7 @@ module _ {full : Bool} {flags : List Bool} {s t : Session} {n : ℕ} (q : Cleani
         rep = put-rep t n (wiped (windowAt t n)) (q .rep) (wiped-rep (windowAt t n) (q .rep .each n l));
         within = omega arith;
         shared = q .shared;
+        displays = q .displays;
         each = λ j. set-in (λ w. w ≡ cond (ltb j (n + 1) && drawn full (getD flags j false) (windowAt s j)) (wiped (windowAt s j)) (windowAt s j)) (t .windows) n j (wiped (windowAt t n)) blank
             (λ _. omega (arith, l, q .rep .windows)) (λ i. rw (i, lt-ltb n (n + 1) (omega arith), ← untouched, e) refl) (λ i. rw (elsewhere j i) (q .each j));
       }
@@ -167,7 +169,7 @@ module _ {full : Bool} {flags : List Bool} {s t : Session} {n : ℕ} (q : Cleani
   pub clean-next : drawn full (getD flags n false) (windowAt t n) ≡ true → Cleaning full flags s (putWindow n (emptied (windowAt once n)) once) (n + 1)
   clean-next e =
       subst (λ (w : Window). Cleaning full flags s (putWindow n (emptied w) once) (n + 1)) (sym (getD-set-same (t .windows) n (unmarked (windowAt t n)) blank (omega (arith, l, q .rep .windows))))
-      (subst (λ (ws : List Window). Cleaning full flags s (record { windows = ws; shared = t .shared }) (n + 1)) (sym (set-set (t .windows) n (unmarked (windowAt t n)) (wiped (windowAt t n))))
+      (subst (λ (ws : List Window). Cleaning full flags s (record { windows = ws; shared = t .shared; displays = t .displays }) (n + 1)) (sym (set-set (t .windows) n (unmarked (windowAt t n)) (wiped (windowAt t n))))
       (wipe e))
 
 -- All windows ---------------------------------------------------------------------------------------------------------
@@ -178,7 +180,7 @@ clean-nobody full flags s t r m q =
     let same : t .windows ≡ s .windows =
     ext-getD blank (t .windows) (s .windows) (q .rep .windows ∙ sym (r .windows))
     (λ j l. q .each j ∙ rw (m .each j (omega (arith, l, q .rep .windows)), and-false)) in
-    λ i. record { windows = same i; shared = q .shared i }
+    λ i. record { windows = same i; shared = q .shared i; displays = q .displays i }
 
 module _ (full : Bool) (flags : List Bool) (s t : Session) (h : Given s) (m : Marks flags (ids (s .shared .shown) (s .shared .order))) (q : Cleaning full flags s t 16) where
   cell-wiped : (w : Window) → w .used ≡ true → cell (wiped w) ≡ some (clean (winOf w))
@@ -220,7 +222,7 @@ module _ (full : Bool) (flags : List Bool) (s t : Session) (h : Given s) (m : Ma
   pub clean-end : (group t ≡ cleanAll full (group s .order) (group s)) × Rep t
   unfolding group
   clean-end = (
-    ap (λ (k : Shared). group (sharing k t)) (q .shared)
+    (λ i. group (record { windows = t .windows; shared = q .shared i; displays = q .displays i }))
         ∙ ap (λ (ws : List (Option Win)). withWindows ws (group s)) windows-are
         ∙ sym (clean-rest full (group s .order) (group s)),
     q .rep,

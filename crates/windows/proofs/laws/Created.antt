@@ -1,7 +1,7 @@
 -- A window created: the search for the smallest unused id, and the two ends of the call.
 use Prim.Native.Nat.{ℕ, zero, suc, _≤_, _<_}
 use mathlib.Core.Path.{_≡_, refl, sym, ap, _∙_}
-use mathlib.Core.Bool.{true}
+use mathlib.Core.Bool.{true, false}
 use mathlib.Core.List.{_∷_}
 use mathlib.Core.Option.{none, some}
 use native.Mathlib.Omega.{arith}
@@ -19,10 +19,10 @@ use Rattle.windows.specs.declared.Session.{Session}
 use Rattle.windows.specs.declared.NewId.the-variants.{Id, Absent}
 use Rattle.windows.specs.View.{cell, group, windowAt, Given, MeetsId}
 use Rattle.windows.specs.One.{Free}
-use Rattle.windows.specs.Walk.{layering, sharing}
+use Rattle.windows.specs.Walk.{layering, flagged, sharing}
 use Rattle.windows.specs.Frames.{Framed}
 use Rattle.windows.proofs.laws.Session.{cell-at, is-cell, no-cell, putWindow, put-group, put-rep, refuses, gives}
-use Rattle.windows.proofs.laws.Shared.{layers-shared}
+use Rattle.windows.proofs.laws.Shared.{layers-shared, flag-shared, then-shared}
 
 -- The smallest unused number ----------------------------------------------------------------------------------------
 
@@ -58,15 +58,15 @@ pub full : (s : Session) → Given s → firstFree (group s .windows) 0 ≡ none
 unfolding does Group.create
 full s h e = record { meets = refuses Create s 3 h (rw e); id = sym e }
 
--- its layer is 0
+-- its layer is 0, and it is not maximised
 abbrev lowest : ℕ → Session → Session
-lowest i s = sharing (layering (set (s .shared .layers) i 0) (s .shared)) s
+lowest i s = sharing (flagged i false (layering (set (s .shared .layers) i 0) (s .shared))) s
 
 pub created : (s : Session) (v : Window) (i : ℕ) → Given s → firstFree (group s .windows) 0 ≡ some i → v .used ≡ true → winOf v ≡ newWin → RepWindow v
     → MeetsId Create s (record { session = putWindow i v (lowest i s); answer = 0; id = Id (record { 0 = i }) })
 unfolding group does Group.create
 created s v i h e u w r =
-    let k = layers-shared (set (s .shared .layers) i 0) in
+    let k = then-shared (layers-shared (set (s .shared .layers) i 0)) (flag-shared i false) in
     record {
       meets =
           gives Create s (putWindow i v (lowest i s)) h (put-rep (lowest i s) i v (k .rep s (h .rep)) r) (rw e)

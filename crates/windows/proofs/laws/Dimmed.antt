@@ -12,7 +12,7 @@ use Rattle.windows.proofs.laws.Shared.{Shares, debt-shared}
 
 dim-shared : (on : Bool) → Shares (dimming on) (withDim on)
 unfolding group
-dim-shared on = record { group = λ s r. refl; rep = λ s r. record { windows = r .windows; order = r .order; shown = r .shown; each = r .each } }
+dim-shared on = record { group = λ s r. refl; rep = λ s r. record { windows = r .windows; order = r .order; shown = r .shown; each = r .each; displays = r .displays } }
 
 module _ (s : Session) (h : Given s) (on : Bool) where
   pub is-set : Rule.same on (s .shared .dimmed) ≡ true → Meets (Dim on) s (done s 0)

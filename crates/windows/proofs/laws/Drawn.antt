@@ -149,7 +149,7 @@ withoutDebt s = sharing (noted (record { walk = walkAt (s .shared .due .walk .ne
 
 pub pays : (s : Session) (g : Group) → (group s ≡ g) × Rep s → (group (withoutDebt s) ≡ paid g) × Rep (withoutDebt s)
 unfolding group walkOf
-pays s g e = let r = e .1 in (ap paid (e .0), record { windows = r .windows; order = r .order; shown = r .shown; each = r .each })
+pays s g e = let r = e .1 in (ap paid (e .0), record { windows = r .windows; order = r .order; shown = r .shown; each = r .each; displays = r .displays })
 
 module _ (s : Session) (told : Bool) (sw sh : ℕ) (store screen : List ℕ) (h : Given s) (full : Bool) (is : full ≡ told || s .shared .due .owed) where
   abbrev half : ℕ → Drawn

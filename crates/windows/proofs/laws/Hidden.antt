@@ -37,7 +37,7 @@ module _ (s : Session) (h : Given s) (id : ℕ) where
     closed = ids-closed id (s .shared .shown) p (s .shared .order) order (has-place s h id p at) (in-order s h id p at) q
 
     left-rep : (focus : WinId) (held : ℕ) → Rep (left s order focus held)
-    left-rep focus held = record { windows = h .rep .windows; order = q .all; shown = omega (arith, h .rep .shown); each = h .rep .each }
+    left-rep focus held = record { windows = h .rep .windows; order = q .all; shown = omega (arith, h .rep .shown); each = h .rep .each; displays = h .rep .displays }
 
     pub hidden-now : (focus : WinId) (held : ℕ)
         → focus .0 ≡ cond (eqb (s .shared .focus .0) id) (getD (ids (s .shared .shown - 1) order) (p - 1) 0) (s .shared .focus .0)

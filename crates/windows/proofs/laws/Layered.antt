@@ -53,7 +53,7 @@ module _ (s : Session) (h : Given s) (id l : ℕ) where
       after = sharing (indebted (moved .shared)) s
 
       moved-rep : Rep moved
-      moved-rep = record { windows = h .rep .windows; order = q .all; shown = h .rep .shown; each = h .rep .each }
+      moved-rep = record { windows = h .rep .windows; order = q .all; shown = h .rep .shown; each = h .rep .each; displays = h .rep .displays }
 
       pub shown-layer : (group after ≡ changed id l (group s)) × Rep after
       unfolding group

@@ -28,15 +28,15 @@ use Rattle.windows.proofs.laws.Session.{used-at, used-past}
 -- Parts of a session ---------------------------------------------------------------------------------------------------
 
 -- a new share alone
-pub shares : (P : Session → Type 0) (s : Session) (at : ℕ) (k : Shared) → P (record { windows = s .windows; shared = k }) → P (put at (windowAt s at) k s)
-shares P s at k = subst (λ (l : List Window). P (record { windows = l; shared = k })) (sym (set-getD (s .windows) at blank))
+pub shares : (P : Session → Type 0) (s : Session) (at : ℕ) (k : Shared) → P (record { windows = s .windows; shared = k; displays = s .displays }) → P (put at (windowAt s at) k s)
+shares P s at k = subst (λ (l : List Window). P (record { windows = l; shared = k; displays = s .displays })) (sym (set-getD (s .windows) at blank))
 
 -- what was there is put back
 pub put-back : (s : Session) (at : ℕ) {w : Window} {k : Shared} → windowAt s at ≡ w → s .shared ≡ k → put at w k s ≡ s
 put-back s at {w} {k} is same =
     ap (λ (v : Window). put at v k s) (sym is)
     ∙ ap (λ (m : Shared). put at (windowAt s at) m s) (sym same)
-    ∙ ap (λ (l : List Window). record { windows = l; shared = s .shared }) (set-getD (s .windows) at blank)
+    ∙ ap (λ (l : List Window). record { windows = l; shared = s .shared; displays = s .displays }) (set-getD (s .windows) at blank)
 
 -- a place that was found in what is shared is the session's
 pub same-place : (id : ℕ) (o : Option ℕ) {k m : Shared} → m ≡ k → o ≡ renderIdx id (ids (k .shown) (k .order)) → o ≡ renderIdx id (ids (m .shown) (m .order))

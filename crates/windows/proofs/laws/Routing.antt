@@ -11,7 +11,7 @@ use Rattle.window.specs.declared.Event.{Event}
 use Rattle.window.specs.declared.Event.the-variants.{Resize, KeyDown, KeyUp, KeyFire, Text, MouseMove, MouseDown, MouseClick, MouseUp}
 use Rattle.rules.specs.Group.{Group, Outcome, win, setWin, withHeld, leaves, someId, idOr}
 use Rattle.rules.specs.Order.{shown}
-use Rattle.rules.specs.Nearest.{nearestX, nearestY}
+use Rattle.geom.specs.Nearest.{nearestX, nearestY}
 use Rattle.rules.specs.Events as Rule
 use Rattle.rules.specs.Events.{topmost, holder}
 use Rattle.rules.specs.Calls.{Route, does}

@@ -69,7 +69,7 @@ isnt-whole s store n = ne-eqb (length store) (16 * s .shared .c) n
 -- A window put back --------------------------------------------------------------------------------------------------
 
 abbrev pub putWindow : ℕ → Window → Session → Session
-putWindow id v s = record { windows = set (s .windows) id v; shared = s .shared }
+putWindow id v s = record { windows = set (s .windows) id v; shared = s .shared; displays = s .displays }
 
 put-cell : (s : Session) (id : ℕ) (v : Window) (o : Option Win) → cell v ≡ o → group (putWindow id v s) ≡ setWin id o (group s)
 unfolding group
@@ -91,6 +91,7 @@ put-rep s id v r h =
       order = r .order;
       shown = r .shown;
       each = λ j l. set-case RepWindow (s .windows) id j v blank (λ e. h) (r .each j l);
+      displays = r .displays;
     }
 
 -- What a session is --------------------------------------------------------------------------------------------------

@@ -6,7 +6,7 @@ use mathlib.Core.List.{List}
 use mathlib.Core.Option.{none, some}
 use native.Mathlib.Omega.{arith}
 use lib.Dec.{leb}
-use Rattle.rules.specs.Group.{Group, withLayers, note, isOver, settle, sentBack, owing}
+use Rattle.rules.specs.Group.{Group, withLayers, setMaximised, note, isOver, settle, sentBack, owing}
 use Rattle.order.specs.declared.due.Walk.{Walk}
 use Rattle.order.specs.Ids.{ids}
 use Rattle.order.specs.Due.{walkAt, noWalk, settled}
@@ -14,7 +14,7 @@ use Rattle.order.proofs.laws.Order.{ids-length}
 use Rattle.windows.specs.declared.Shared.{Shared}
 use Rattle.windows.specs.declared.Session.{Session}
 use Rattle.windows.specs.View.{walkOf, group, Rep}
-use Rattle.windows.specs.Walk.{noted, layering, sharing, indebted}
+use Rattle.windows.specs.Walk.{noted, layering, flagged, sharing, indebted}
 
 -- where what the windows share changes by K, the group changes by G
 pub record Shares (K : Shared → Shared) (G : Group → Group) : Type 0 where
@@ -27,7 +27,19 @@ same-shared = record { group = λ s r. refl; rep = λ s r. r }
 -- the layers are others
 pub layers-shared : (ls : List ℕ) → Shares (layering ls) (withLayers ls)
 unfolding group
-layers-shared ls = record { group = λ s r. refl; rep = λ s r. record { windows = r .windows; order = r .order; shown = r .shown; each = r .each } }
+layers-shared ls = record { group = λ s r. refl; rep = λ s r. record { windows = r .windows; order = r .order; shown = r .shown; each = r .each; displays = r .displays } }
+
+-- a window's flag is another
+pub flag-shared : (id : ℕ) (on : Bool) → Shares (flagged id on) (setMaximised id on)
+unfolding group
+flag-shared id on = record { group = λ s r. refl; rep = λ s r. record { windows = r .windows; order = r .order; shown = r .shown; each = r .each; displays = r .displays } }
+
+-- one change after the other
+pub then-shared : {K K′ : Shared → Shared} {G G′ : Group → Group} → Shares K G → Shares K′ G′ → Shares (λ k. K′ (K k)) (λ g. G′ (G g))
+then-shared {K} {G′ = G′} a b = record {
+  group = λ s r. b .group (sharing (K (s .shared)) s) (a .rep s r) ∙ ap G′ (a .group s r);
+  rep = λ s r. b .rep (sharing (K (s .shared)) s) (a .rep s r);
+}
 
 -- What is due ---------------------------------------------------------------------------------------------------------
 
@@ -54,7 +66,7 @@ module _ (s : Session) (r : Rep s) (v : Walk) (d : Bool) where
       go false e = rw (e, and-true)
 
   pub settled-rep : Rep after
-  settled-rep = record { windows = r .windows; order = r .order; shown = r .shown; each = r .each }
+  settled-rep = record { windows = r .windows; order = r .order; shown = r .shown; each = r .each; displays = r .displays }
 
 -- A full redraw owed --------------------------------------------------------------------------------------------------
 
@@ -72,3 +84,7 @@ debt-shared = record {
   group = λ s r. settled-group s r (walkAt 0 (s .shared .due .walk .on) true) true ∙ ap (λ o. settle true o (group s)) (sent-back (s .shared .due .walk));
   rep = λ s r. settled-rep s r (walkAt 0 (s .shared .due .walk .on) true) true;
 }
+
+-- the flag and the debt
+pub flag-debt : (id : ℕ) (on : Bool) → Shares (λ k. indebted (flagged id on k)) (λ g. owing (setMaximised id on g))
+flag-debt id on = then-shared (flag-shared id on) debt-shared

@@ -45,7 +45,7 @@ module _ (s : Session) (id : ℕ) (h : Given s) (u : windowAt s id .used ≡ tru
       after = sharing (indebted (joined .shared)) s
 
       joined-rep : Rep joined
-      joined-rep = record { windows = h .rep .windows; order = q .all; shown = omega (arith, has-room); each = h .rep .each }
+      joined-rep = record { windows = h .rep .windows; order = q .all; shown = omega (arith, has-room); each = h .rep .each; displays = h .rep .displays }
 
       after-group : group after ≡ setOrder (inserted (group s .layers) id (group s .order)) id (group s)
       unfolding group

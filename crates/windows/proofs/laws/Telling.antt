@@ -117,7 +117,7 @@ held-group s id v m u = ap (λ (g : Group). withHeld (heldOf m) g) (put-group s 
 held-rep : (s : Session) (id : ℕ) (v : Window) (m : ℕ) → Rep s → RepWindow v → Rep (put id v (holding m (s .shared)) s)
 held-rep s id v m r h =
     let q = put-rep s id v r h in
-    record { windows = q .windows; order = q .order; shown = q .shown; each = q .each }
+    record { windows = q .windows; order = q .order; shown = q .shown; each = q .each; displays = q .displays }
 
 -- a call whose last question is 12, and which tells one window; `held` is remembered then, which m stands for
 module _ (k : Call) (s : Session) (id : ℕ) (e : Event) (t : Told) (h : Given s) (u : windowAt s id .used ≡ true) (to : ToldTo (windowAt s id) e t)

@@ -1,4 +1,4 @@
--- The window of an id in use gets its new position, and a full redraw is owed.
+-- The window of an id in use gets its new position and is not maximised, and a full redraw is owed.
 use Prim.Native.Nat.{ℕ, _≤_}
 use mathlib.Core.Path.{_≡_, sym, ap, _∙_}
 use mathlib.Core.Bool.{true, false, _&&_}
@@ -10,16 +10,16 @@ use Rattle.geom.proofs.basics.Tests.{fst, snd}
 use Rattle.window.specs.declared.Window.{Window}
 use Rattle.window.specs.Window.{Win}
 use Rattle.window.specs.Held.{RepWindow}
-use Rattle.rules.specs.Group as Group
-use Rattle.rules.specs.Group.{used, setWin, movedTo, owing}
+use Rattle.rules.specs.Group as Rule
+use Rattle.rules.specs.Group.{Group, used, setWin, setMaximised, movedTo, owing}
 use Rattle.rules.specs.Calls.{Move, does}
 use Rattle.windows.specs.declared.Session.{Session}
 use Rattle.windows.specs.View.{group, windowAt, Given, Meets, done}
 use Rattle.windows.specs.One.{put}
-use Rattle.windows.specs.Walk.{indebted}
+use Rattle.windows.specs.Walk.{flagged, indebted}
 use Rattle.windows.proofs.laws.Session.{used-at, win-at, putWindow, put-group, put-rep, refuses, gives}
-use Rattle.windows.proofs.laws.Shared.{debt-shared}
-use Rattle.windows.proofs.laws.One.{accepts, not-used, shares}
+use Rattle.windows.proofs.laws.Shared.{flag-debt}
+use Rattle.windows.proofs.laws.One.{here, accepts, not-used, shares}
 use borrow.Author.Needs.{needs}
 use Rattle.windows.proofs.one.move_window.Statement.{statement}
 use Rattle.windows.proofs.one.move_window.Tie as tie
@@ -40,21 +40,22 @@ module _ (s : Session) (id x y : ℕ) (h : Given s) (u : windowAt s id .used ≡
   in-use = used-at s id ∙ u
 
   move-yes : small x && small y ≡ true → RepWindow (moved x y (windowAt s id))
-      → Meets (Move id x y) s (done (put id (moved x y (windowAt s id)) (indebted (s .shared)) s) 0)
-  unfolding does Group.move
+      → Meets (Move id x y) s (done (put id (moved x y (windowAt s id)) (indebted (flagged id false (s .shared))) s) 0)
+  unfolding does Rule.move
   move-yes l r =
       let t = putWindow id (moved x y (windowAt s id)) s in
       let k = put-rep s id (moved x y (windowAt s id)) (h .rep) r in
-      gives (Move id x y) s (put id (moved x y (windowAt s id)) (indebted (s .shared)) s) h (debt-shared .rep t k) (rw (in-use, l))
-      (debt-shared .group t k ∙ ap owing (put-group s id _ u)
-      ∙ ap (λ (w : Win). owing (setWin id (some (movedTo x y w)) (group s))) (sym (win-at s id u)) ∙ rw (in-use, l))
+      let f = flag-debt id false in
+      gives (Move id x y) s (put id (moved x y (windowAt s id)) (indebted (flagged id false (s .shared))) s) h (f .rep t k) (rw (in-use, l))
+      (f .group t k ∙ ap (λ (g : Group). owing (setMaximised id false g)) (put-group s id _ u)
+      ∙ ap (λ (w : Win). owing (setMaximised id false (setWin id (some (movedTo x y w)) (group s)))) (sym (win-at s id u)) ∙ rw (in-use, l))
 
   too-far : small x && small y ≡ false → Meets (Move id x y) s (done s 5)
-  unfolding does Group.move
+  unfolding does Rule.move
   too-far n = refuses (Move id x y) s 4 h (rw (in-use, n))
 
 no-window : (s : Session) (id x y : ℕ) → Given s → used (group s) id ≡ false → Meets (Move id x y) s (done s 3)
-unfolding does Group.move
+unfolding does Rule.move
 no-window s id x y h u = refuses (Move id x y) s 2 h (rw u)
 
 is-used-requires : tie.Need-is-used-requires
@@ -78,16 +79,21 @@ cast-area c = omega (arith, low c)
 cast-area-2 : tie.Need-cast-area-2
 cast-area-2 c = omega (arith, low c)
 
+flagged-requires : tie.Need-flagged-requires
+flagged-requires c κs =
+    let u = c .before .before .before .before in
+    here (sym (u .is-used .ensures) ∙ c .before .before .before .if1 .taken) (u .before .pre .holds) .low
+
 owing-requires : tie.Need-owing-requires
 owing-requires c κs = search needs
 
 returns : tie.Need-returns
 returns c =
-    let d = c .before in
+    let d = c .before .before in
     let a = d .before .before .before .before .before .args in
     let id = a .id .0 in
-    rw (c .owing .ensures)
-    (accepts (λ s at w k. Meets (Move id (a .x) (a .y)) s (done (put at (moved (a .x) (a .y) w) (indebted k) s) 0))
+    rw (c .owing .ensures, c .before .flagged .ensures)
+    (accepts (λ s at w k. Meets (Move id (a .x) (a .y)) s (done (put at (moved (a .x) (a .y) w) (indebted (flagged id false k)) s) 0))
     (sym (d .before .before .before .before .is-used .ensures) ∙ d .before .before .before .if1 .taken)
     (λ s q.
     let r = q .rep in
@@ -110,4 +116,4 @@ returns-3 c =
 
 pub move-window-spec : {M : Type 1} → statement M
 move-window-spec =
-    tie.close (tie.spec is-used-requires small-point-requires cast-area cast-area-2 owing-requires returns returns-2 returns-3)
+    tie.close (tie.spec is-used-requires small-point-requires cast-area cast-area-2 flagged-requires owing-requires returns returns-2 returns-3)

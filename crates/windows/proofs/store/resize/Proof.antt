@@ -1,4 +1,4 @@
--- Questions 1, 3, 5 and 6; then the window has its new size, and a full redraw is owed.
+-- Questions 1, 3, 5 and 6; then the window has its new size and is not maximised, and a full redraw is owed.
 use Prim.Native.Nat.{ℕ, _*_, _≤_}
 use mathlib.Core.Path.{_≡_, refl, sym, _∙_}
 use mathlib.Core.Bool.{Bool, true, false, _&&_}
@@ -11,11 +11,11 @@ use Rattle.geom.specs.Questions as Questions
 use Rattle.geom.specs.Questions.{_is_}
 use Rattle.geom.specs.Geom.{width, height}
 use Rattle.scanline.specs.Pixels.{resizedAt}
-use Rattle.rules.specs.Group.{owing}
+use Rattle.rules.specs.Group.{setMaximised, owing}
 use Rattle.rules.specs.Store as Spec
 use Rattle.rules.specs.Store.{resizedWin}
 use Rattle.rules.specs.Calls.{Resize, does}
-use Rattle.windows.proofs.laws.Shared.{debt-shared}
+use Rattle.windows.proofs.laws.Shared.{flag-debt}
 use Rattle.windows.proofs.laws.Store.{Rule, Writable, writable, not-whole, not-used, no, yes, rep, size, ends, place, small-size}
 use borrow.Author.Needs.{needs}
 use Rattle.windows.proofs.store.resize.Statement.{statement}
@@ -27,7 +27,7 @@ smallSize w h = Questions.small w && Questions.small h
 -- the rule, read at one window
 rule : {id w h : ℕ} {store : List ℕ}
     → Rule (Resize id w h store) id store (λ c. (5 is smallSize w h) ∷ (6 is leb (w * h) c) ∷ []) (resizedWin w h)
-    (λ c v. resizedAt (id * c) c (width (v .at)) (height (v .at)) w h store) owing
+    (λ c v. resizedAt (id * c) c (width (v .at)) (height (v .at)) w h store) (λ g. owing (setMaximised id false g))
 unfolding does Spec.resize
 rule = record { lent = refl; asks = λ g. refl; after = λ g u. refl; stored = λ g. refl }
 
@@ -84,6 +84,9 @@ resized-requires c κs =
       height≤ = b .1;
     }
 
+flagged-requires : tie.Need-flagged-requires
+flagged-requires c κs = known (c .before .before .before .before .before .before .before .before .before) .low
+
 owing-requires : tie.Need-owing-requires
 owing-requires c κs = search needs
 
@@ -92,14 +95,14 @@ same-length c = search needs
 
 returns : tie.Need-returns
 returns c =
-    let r = c .before .before .before in
+    let r = c .before .before .before .before in
     let g = r .before .before .before in
     let f = g .before .before in
     let t = f .before .before in
     let s = t .before .before .before .before .before in
     let a = s .args in
-    rw (c .owing .ensures)
-    (yes rule (known t) debt-shared (r .resized .result) _ (rw (small f, le-leb (a .w * a .h) (a .shared .c) (g .if4 .taken))) (r .resized .ensures))
+    rw (c .owing .ensures, c .before .flagged .ensures)
+    (yes rule (known t) (flag-debt (a .id .0) false) (r .resized .result) _ (rw (small f, le-leb (a .w * a .h) (a .shared .c) (g .if4 .taken))) (r .resized .ensures))
 
 returns-2 : tie.Need-returns-2
 returns-2 c =
@@ -136,6 +139,7 @@ resize-spec =
     cast-resized
     mul-resized
     resized-requires
+    flagged-requires
     owing-requires
     same-length
     returns

@@ -1,0 +1,2 @@
+-- Lemmas on displays.
+pub mod laws

@@ -1,0 +1,167 @@
+// The displays: rectangles of the one lent screen, in order of adding. Document 02, N2. Translated from video/mod.rs.
+//
+// The functions here are called by our own crates. Each `requires` is part of what a session keeps of its displays (specs/Held.antt).
+ghost use mathlib.Core.Path.{_≡_};
+ghost use mathlib.Core.List.{[]};
+ghost use Prim.Native.Nat.{_≤_};
+ghost use Rattle.geom.specs.Nearest.{nearestX, nearestY};
+ghost use Rattle.geom.specs.Displays.{firstOn, closestTo, displayFor};
+ghost use Rattle.window.specs.Held.{Small};
+ghost use Rattle.rules.specs.Displays.{onScreen};
+ghost use Rattle.display.specs.Held.{regions, RepDisplays, regionOf, locatedOf, Adds};
+use geom::Pos;
+use geom::Rect;
+use geom::inner::bottom;
+use geom::inner::clamp_pos;
+use geom::inner::contains;
+use geom::inner::dist_sq;
+use geom::inner::is_empty;
+use geom::inner::right;
+use winbuf::inner::region::small_area;
+use window::damage::Area;
+
+pub mod dims;
+
+// The first `len` areas.
+#[repr(C)]
+pub struct Displays {
+    pub areas: [Area; 8],
+    pub len: u8,
+}
+
+// The display that a position is on, or the closest one.
+pub enum Located {
+    On(Rect),
+    Closest(Rect),
+}
+
+// What the adding of a display makes of them, and the answer.
+#[repr(C)]
+pub struct Added {
+    pub displays: Displays,
+    pub answer: u32,
+}
+
+pub enum AtPos {
+    Display(Rect),
+    Nowhere,
+}
+
+// Question 15 of a rectangle that passed question 5.
+fn on_screen(r: Rect) -> bool
+    requires { ⌜ Small r ⌝ }
+    ensures { λ b. ⌜ b ≡ onScreen r ⌝ }
+{
+    if is_empty(r) {
+        return false;
+    }
+    if 32767 < right(r) {
+        return false;
+    }
+    bottom(r) <= 32767
+}
+
+impl Displays {
+    pub fn none() -> Displays
+        ensures { λ d. ⌜ (regions d ≡ []) × RepDisplays d ⌝ }
+    {
+        let blank = Area {
+            x: 0,
+            y: 0,
+            w: 0,
+            h: 0,
+        };
+        let areas = [blank; 8];
+        Displays { areas, len: 0 }
+    }
+
+    // One display more, behind the others. A refused call leaves them as they were.
+    pub fn add(mut self, region: Rect) -> Added
+        requires { ⌜ RepDisplays self ⌝ }
+        ensures { λ r. ⌜ Adds self region r ⌝ }
+    {
+        let mut answer: u32 = 5;
+        if small_area(region.pos.x, region.pos.y, region.dims.w, region.dims.h) {
+            answer = 15;
+            if on_screen(region) {
+                answer = 16;
+                let n = self.len;
+                if n < 8 {
+                    answer = 0;
+                    let last = Area::new(region.pos.x, region.pos.y, region.dims.w, region.dims.h);
+                    let at = n as usize;
+                    self.areas[at] = last;
+                    self.len = n + 1;
+                }
+            }
+        }
+        Added {
+            displays: self,
+            answer,
+        }
+    }
+
+    // The first display that contains the position.
+    fn with_display_at_pos(self, pos: Pos) -> AtPos
+        requires { ⌜ RepDisplays self ⌝ }
+        ensures { λ r. ⌜ regionOf r ≡ firstOn (regions self) (pos .x) (pos .y) ⌝ }
+    {
+        let n = self.len as usize;
+        let mut i: usize = 0;
+        while i < n {
+            let surf = self.areas[i];
+            let region = surf.rect();
+            if contains(region, pos.x, pos.y) {
+                return AtPos::Display(region);
+            }
+            i += 1;
+        }
+        AtPos::Nowhere
+    }
+
+    // The nearest pixel of any display; with no display (0,0).
+    fn get_closest_visible_pos(self, pos: Pos) -> Pos
+        requires { ⌜ RepDisplays self × (pos .x ≤ 32767) × (pos .y ≤ 32767) ⌝ }
+        ensures { λ p. ⌜ (p .x ≡ nearestX (closestTo (regions self) (pos .x) (pos .y)) (pos .x)) × (p .y ≡ nearestY (closestTo (regions self) (pos .x) (pos .y)) (pos .y)) ⌝ }
+    {
+        let n = self.len as usize;
+        let mut dist: u64 = 18446744073709551615;
+        let mut cpos = Pos::new(0, 0);
+        let mut i: usize = 0;
+        while i < n {
+            let surf = self.areas[i];
+            let new_pos = clamp_pos(surf.rect(), pos);
+            let new_dist = dist_sq(pos, new_pos);
+            if new_dist < dist {
+                dist = new_dist;
+                cpos = new_pos;
+            }
+            i += 1;
+        }
+        cpos
+    }
+
+    // The display that holds the nearest pixel; with no display (0,0,0,0).
+    fn closest(self, pos: Pos) -> Rect
+        requires { ⌜ RepDisplays self × (pos .x ≤ 32767) × (pos .y ≤ 32767) ⌝ }
+        ensures { λ r. ⌜ r ≡ closestTo (regions self) (pos .x) (pos .y) ⌝ }
+    {
+        let near = self.get_closest_visible_pos(pos);
+        let at = self.with_display_at_pos(near);
+        match at {
+            AtPos::Display(r) => r,
+            AtPos::Nowhere => Rect::new(0, 0, 0, 0),
+        }
+    }
+
+    pub fn get_display_for_pos(self, pos: Pos) -> Located
+        requires { ⌜ RepDisplays self × (pos .x ≤ 32767) × (pos .y ≤ 32767) ⌝ }
+        ensures { λ r. ⌜ locatedOf r ≡ displayFor (regions self) (pos .x) (pos .y) ⌝ }
+    {
+        let at = self.with_display_at_pos(pos);
+        match at {
+            AtPos::Display(r) => Located::On(r),
+            AtPos::Nowhere => Located::Closest(self.closest(pos)),
+        }
+    }
+}
