@@ -1,12 +1,16 @@
--- What create and pop promise of the numbers that they hand back: s is the session before the call, t the session after it.
+-- What create, pop and the display at a position promise of the numbers that they hand back: s is the session before the call, t the session after it.
 use Prim.Native.Nat.{ℕ}
 use mathlib.Core.Path.{_≡_}
+use mathlib.Core.Bool.{true, false}
+use Rattle.geom.specs.Displays.{Located, on, closest}
 use Rattle.rules.specs.Group.{idOr}
 use Rattle.rules.specs.Calls.{Create, Pop, does}
+use Rattle.rules.specs.DisplayAt.{Display}
 use Rattle.windows.specs.declared.Session.{Session}
 use Rattle.windows.specs.View.{group, done, Meets}
 use Rattle.station.specs.declared.values.RoqCreated.{RoqCreated}
 use Rattle.station.specs.declared.values.RoqPopped.{RoqPopped}
+use Rattle.station.specs.declared.values.RoqDisplay.{RoqDisplay}
 use Rattle.station.specs.Events.{numbersOf}
 
 -- "an id … asked for is then absent": 65,535, which is no window's
@@ -18,3 +22,11 @@ pub record Creates (s t : Session) (r : RoqCreated) : Type 0 where
 pub record Pops (id : ℕ) (s t : Session) (r : RoqPopped) : Type 0 where
   pub meets : Meets (Pop id) s (done t (r .answer))
   pub event : r .event ≡ numbersOf (does (group s) (Pop id) .event)
+
+-- this paper's number and values for the two cases of the display at a position
+abbrev pub displayOf : ℕ → Located → RoqDisplay
+displayOf a (on r) = record { answer = a; on = true; rect = r }
+displayOf a (closest r) = record { answer = a; on = false; rect = r }
+
+abbrev pub displayed : Display → RoqDisplay
+displayed d = displayOf (d .answer) (d .located)

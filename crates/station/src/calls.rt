@@ -5,7 +5,8 @@
 ghost use mathlib.Core.Path.{_≡_};
 ghost use Rattle.rules.specs.Calls.{Call};
 ghost use Rattle.windows.specs.View.{group, done, written, Given, Meets, MeetsStore, MeetsAltered, MeetsScreen, Starts, Lists, Shares, Hits, Looks, placed};
-ghost use Rattle.station.specs.Answers.{Creates, Pops};
+ghost use Rattle.rules.specs.DisplayAt.{displayAt};
+ghost use Rattle.station.specs.Answers.{Creates, Pops, displayed};
 ghost use Rattle.station.specs.Events.{eventOf, Routes};
 ghost use Rattle.station.specs.Looks.{lookOf};
 use crate::events::RoqEvent;
@@ -13,6 +14,7 @@ use crate::looks;
 use crate::looks::RoqLook;
 use crate::values;
 use crate::values::RoqCreated;
+use crate::values::RoqDisplay;
 use crate::values::RoqPopped;
 use geom::Rect;
 use order::WinId;
@@ -22,6 +24,8 @@ use windows::Listing;
 use windows::Placed;
 use windows::Session;
 use windows::dim;
+use windows::dims::moved;
+use windows::dims::take;
 use windows::events::tell;
 use windows::one;
 use windows::one::slot;
@@ -193,6 +197,44 @@ pub extern "C" fn roq_blit(
 }
 
 #[no_mangle]
+pub extern "C" fn roq_add_display(s: &mut Session, region: Rect) -> u32
+    requires { ⌜ Given (now s) ⌝ }
+    ensures { λ r. ⌜ Meets (Call.AddDisplay region) (now (s .entry)) (done (now (s .exit)) r) ⌝ }
+{
+    let d = (*s).add_display(region);
+    let t = d.session;
+    *s = t;
+    d.answer
+}
+
+#[no_mangle]
+pub extern "C" fn roq_maximise(s: &mut Session, id: WinId, store: &mut [u32]) -> u32
+    requires { ⌜ Given (now s) ⌝ }
+    ensures { λ r. ⌜ MeetsStore (Call.Maximise (id .0) (now (store .entry))) (now (s .entry)) (done (now (s .exit)) r) (now (store .exit)) ⌝ }
+{
+    let t = (*s).taking(id, store);
+    let at = t.at;
+    let d = take((*s).windows[at], (*s).shared, t.what);
+    let w = d.window;
+    (*s).windows[at] = w;
+    let k = d.shared;
+    (*s).shared = k;
+    d.answer
+}
+
+#[no_mangle]
+pub extern "C" fn roq_update_dims(s: &mut Session, store: &mut [u32]) -> u32
+    requires { ⌜ Given (now s) ⌝ }
+    ensures { λ r. ⌜ MeetsStore (Call.UpdateDims (now (store .entry))) (now (s .entry)) (done (now (s .exit)) r) (now (store .exit)) ⌝ }
+{
+    let p = (*s).planned(store);
+    let e = moved(*s, p);
+    let t = e.session;
+    *s = t;
+    e.answer
+}
+
+#[no_mangle]
 pub extern "C" fn roq_route(s: &mut Session, e: RoqEvent) -> u32
     requires { ⌜ Given (now s) ⌝ }
     ensures { λ r. ⌜ Routes (eventOf e) (now (s .entry)) (done (now (s .exit)) r) ⌝ }
@@ -329,6 +371,14 @@ pub extern "C" fn roq_look(
     ensures { λ r. ⌜ Looks (group (now (s .entry))) (id .0) (lookOf look) (now (store .entry)) (now (target .entry)) tw th r (now (target .exit)) ⌝ }
 {
     looks::look(*s, id, look, tw, th, store, target)
+}
+
+#[no_mangle]
+pub extern "C" fn roq_display_at(s: &Session, x: u32, y: u32) -> RoqDisplay
+    requires { ⌜ Given (now s) ⌝ }
+    ensures { λ r. ⌜ r ≡ displayed (displayAt (group (now (s .entry))) x y) ⌝ }
+{
+    values::display_at(*s, x, y)
 }
 
 #[no_mangle]

@@ -3,12 +3,17 @@ ghost use mathlib.Core.Path.{_≡_};
 ghost use Prim.Native.Nat.{_<_};
 ghost use Rattle.window.specs.Held.{RepWindow};
 ghost use Rattle.rules.specs.Group.{idOr};
-ghost use Rattle.windows.specs.View.{Given, Starts, idOf};
+ghost use Rattle.rules.specs.DisplayAt.{displayAt};
+ghost use Rattle.windows.specs.View.{group, Given, Starts, idOf};
 ghost use Rattle.windows.specs.Aimed.{Aims};
 ghost use Rattle.station.specs.Events.{eventOf, Routes};
+ghost use Rattle.station.specs.Answers.{displayed};
 ghost use Rattle.station.specs.Inner.{MakesAt, TakesAt};
 use crate::events;
 use crate::events::RoqEvent;
+use display::Located;
+use geom::Pos;
+use geom::Rect;
 use order::WinId;
 use window::Window;
 use windows::Done;
@@ -34,6 +39,14 @@ pub struct RoqPopped {
     pub event: RoqEvent,
 }
 
+// The answer and a display: the one that the position is on, where `on` is true, else the closest one.
+#[repr(C)]
+pub struct RoqDisplay {
+    pub answer: u32,
+    pub on: bool,
+    pub rect: Rect,
+}
+
 // What a create makes of one window, and what it hands back.
 #[repr(C)]
 pub struct Made {
@@ -57,6 +70,27 @@ fn number_of(id: NewId) -> WinId
     match id {
         NewId::Id(at) => at,
         NewId::Absent => WinId(65535),
+    }
+}
+
+pub fn display_at(s: Session, x: u32, y: u32) -> RoqDisplay
+    requires { ⌜ Given s ⌝ }
+    ensures { λ r. ⌜ r ≡ displayed (displayAt (group s) x y) ⌝ }
+{
+    let found = s.get_display_for_pos(Pos::new(x, y));
+    let answer = found.answer;
+    let located = found.located;
+    match located {
+        Located::On(rect) => RoqDisplay {
+            answer,
+            on: true,
+            rect,
+        },
+        Located::Closest(rect) => RoqDisplay {
+            answer,
+            on: false,
+            rect,
+        },
     }
 }
 

@@ -23,7 +23,7 @@ use Rattle.station.proofs.shims.Slots as slots
 use Rattle.station.proofs.shims.Slots.{Slots}
 use Rattle.station.proofs.shims.Locals.{at-cell, cell, room, sits}
 
-module _ {E K : Plain} (L : Slots E K) where
+module _ {E K O : Plain} (L : Slots E K O) where
   abbrev S : Plain
   S = slots.plain L
 
@@ -72,13 +72,13 @@ module _ {E K : Plain} (L : Slots E K) where
   module _ {M : Type 1} {𝓤 : URA M} {H : Heap 𝓤} {A : Atoms 𝓤} {Kg : Type 0} {W : Given 𝓤 H A} {C : Calls 𝓤 H} {Λ : Loops 𝓤 H} {z : Post 𝓤 H}
       {N : Env 𝓤 H} {rest : Body} {Γ : List (Item 𝓤)} {τ : Ty} {b o l₁ : ℕ} where
     -- the other field is put there, from the field j of the struct in d, and the answer from the one after it
-    puts : Kg → (ρ : Ty) (j : ℕ) {d g l₀ lᵈ lg e₀ e₁ : ℕ} {ν : Sym} (τs : Tys) (vs : Vals) {u u′ : Val} → fieldAt zero τs j ≡ some (K .ty, e₀)
+    puts : Kg → (ρ : Ty) (j : ℕ) {d g l₀ lᵈ lg e₀ e₁ : ℕ} {ν : Sym} (τs : Tys) (vs : Vals) {u u′ r : Val} → fieldAt zero τs j ≡ some (K .ty, e₀)
         → fieldAt zero τs (suc j) ≡ some (ρ, e₁) → T (hasTy (K .ty) (getV vs j)) × WT (getV vs j) → T (hasTy ρ (getV vs (suc j))) × WT (getV vs (suc j))
         → getD N 0 (noLocal 𝓤 H) ≡ (ρ, l₀) → getD N 1 (noLocal 𝓤 H) ≡ (τ, l₁) → getD N d (noLocal 𝓤 H) ≡ (tyStruct ν τs, lᵈ)
         → getD N g (noLocal 𝓤 H) ≡ (K .ty, lg)
-        → Step Kg W (at-cell (S .ty) b o (vstruct (vcons u (vcons (getV vs j) vnil))) ∷ cell ρ l₀ (getV vs (suc j)) ∷ cell τ l₁ (vptr b o)
+        → Step Kg W (at-cell (S .ty) b o (vstruct (vcons u (vcons (getV vs j) (vcons r vnil)))) ∷ cell ρ l₀ (getV vs (suc j)) ∷ cell τ l₁ (vptr b o)
         ∷ cell (tyStruct ν τs) lᵈ (vstruct vs) ∷ cell (K .ty) lg (getV vs j) ∷ Γ) (runs C Λ N rest z)
-        (at-cell (S .ty) b o (vstruct (vcons u (vcons u′ vnil))) ∷ room ρ l₀ ∷ cell τ l₁ (vptr b o)
+        (at-cell (S .ty) b o (vstruct (vcons u (vcons u′ (vcons r vnil)))) ∷ room ρ l₀ ∷ cell τ l₁ (vptr b o)
         ∷ cell (tyStruct ν τs) lᵈ (vstruct vs) ∷ room (K .ty) lg ∷ Γ) (runs C Λ N (writes-shared j d g rest) z)
     puts t ρ j τs vs is-k is-r k-typed r-typed at₀ at₁ atᵈ at-g = step (λ next.
         assigns t (of-opd t (load t (sits t atᵈ (fld t is-k (stop t))) (look-in t 3 (sub t j is-k (whole t))))) (sits t at-g (stop t))

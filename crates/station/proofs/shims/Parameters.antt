@@ -16,6 +16,8 @@ use Rattle.winbuf.proofs.Altered as Altered
 use Rattle.winbuf.proofs.Altered.Laws as Altered′
 use Rattle.window.proofs.Window as Window
 use Rattle.window.proofs.Window.Laws as Window′
+use Rattle.display.proofs.Displays as Displays
+use Rattle.display.proofs.Displays.Laws as Displays′
 use Rattle.order.proofs.WinId as WinId
 use Rattle.order.proofs.WinId.Laws as WinId′
 use Rattle.windows.specs.View.{blank}
@@ -45,6 +47,12 @@ use Rattle.windows.proofs.portion.Next as Next
 use Rattle.windows.proofs.portion.Next.Laws as Next′
 use Rattle.windows.proofs.portion.Turn as Turn
 use Rattle.windows.proofs.portion.Turn.Laws as Turn′
+use Rattle.windows.proofs.dims.Takes as Takes
+use Rattle.windows.proofs.dims.Takes.Laws as Takes′
+use Rattle.windows.proofs.dims.Taking as Taking
+use Rattle.windows.proofs.dims.Taking.Laws as Taking′
+use Rattle.windows.proofs.dims.Planned as Planned
+use Rattle.windows.proofs.dims.Planned.Laws as Planned′
 use Rattle.windows.proofs.events.Message as Message
 use Rattle.windows.proofs.events.Message.Laws as Message′
 use Rattle.windows.proofs.events.Aim as Aim
@@ -57,6 +65,8 @@ use Rattle.station.proofs.values.RoqCreated as RoqCreated
 use Rattle.station.proofs.values.RoqCreated.Laws as RoqCreated′
 use Rattle.station.proofs.values.RoqPopped as RoqPopped
 use Rattle.station.proofs.values.RoqPopped.Laws as RoqPopped′
+use Rattle.station.proofs.values.RoqDisplay as RoqDisplay
+use Rattle.station.proofs.values.RoqDisplay.Laws as RoqDisplay′
 use Rattle.station.proofs.values.Made as Made
 use Rattle.station.proofs.values.Made.Laws as Made′
 use Rattle.station.proofs.values.Taken as Taken
@@ -84,6 +94,9 @@ window = ofStruct Window.the-type Window′.the-laws Window′.the-plain Window�
 abbrev pub shared : Plain
 shared = ofStruct Shared.the-type Shared′.the-laws Shared′.the-plain Shared′.mir refl
 
+abbrev pub displays : Plain
+displays = ofStruct Displays.the-type Displays′.the-laws Displays′.the-plain Displays′.mir refl
+
 abbrev pub winId : Plain
 winId = ofStruct WinId.the-type WinId′.the-laws WinId′.the-plain WinId′.mir refl
 
@@ -108,6 +121,15 @@ drawn = ofStruct Drawn.the-type Drawn′.the-laws Drawn′.the-plain Drawn′.mi
 abbrev pub next : Plain
 next = ofStruct Next.the-type Next′.the-laws Next′.the-plain Next′.mir refl
 
+abbrev pub takes : Plain
+takes = ofStruct Takes.the-type Takes′.the-laws Takes′.the-plain Takes′.mir refl
+
+abbrev pub planned : Plain
+planned = ofStruct Planned.the-type Planned′.the-laws Planned′.the-plain Planned′.mir refl
+
+abbrev pub display : Plain
+display = ofStruct RoqDisplay.the-type RoqDisplay′.the-laws RoqDisplay′.the-plain RoqDisplay′.mir refl
+
 abbrev pub event : Plain
 event = ofStruct RoqEvent.the-type RoqEvent′.the-laws RoqEvent′.the-plain RoqEvent′.mir refl
 
@@ -123,12 +145,12 @@ created = ofStruct RoqCreated.the-type RoqCreated′.the-laws RoqCreated′.the-
 abbrev pub popped : Plain
 popped = ofStruct RoqPopped.the-type RoqPopped′.the-laws RoqPopped′.the-plain RoqPopped′.mir refl
 
--- The session as sixteen windows and what they share -----------------------------------------------------------------
+-- The session as sixteen windows, what they share and the displays -----------------------------------------------------------------
 
 pub vals-of : (ws : List (Of window)) → map (Window′.the-field-laws .val) (map (Window.the-field .into) ws) ≡ map (window .val) ws
 vals-of ws = maps (Window′.the-field-laws .val) (Window.the-field .into) ws
 
-abbrev pub windows : Slots window shared
+abbrev pub windows : Slots window shared displays
 windows = record {
   type = Session.the-row;
   name = Session.struct .name;
@@ -137,9 +159,10 @@ windows = record {
   near = λ k l. omega arith;
   items = λ s. s .windows;
   shared = λ s. s .shared;
-  make = λ ws h. record { windows = ws; shared = h };
+  rest = λ s. s .displays;
+  make = λ ws h o. record { windows = ws; shared = h; displays = o };
   blank = blank;
-  tells = λ s vs is. session .tells s vs is ∙ ap (λ (us : List Val). spelled window shared us (s .shared) ∷ []) (vals-of (s .windows));
+  tells = λ s vs is. session .tells s vs is ∙ ap (λ (us : List Val). spelled window shared displays us (s .shared) (s .displays) ∷ []) (vals-of (s .windows));
   typed = λ 𝓤 H A W s v is. Laws.lawful Session.the-type Session′.the-laws 𝓤 H A W .typed s (v ∷ []) is .0;
   pure = session .pure;
   opened = λ s v is.
@@ -151,9 +174,10 @@ windows = record {
           subst (λ (us : List Val). shadow (each (Of window) (window .type .own) (s .windows) us)) (each-told window (s .windows) (one .0) own) own,
         ),
         parts .1 .0,
+        parts .1 .1 .0,
       );
-  closed = λ ws h len own h-is. subst (λ (us : List Val). Is Session.the-row (record { windows = ws; shared = h }) (spelled window shared us h ∷ [])) (vals-of ws)
-      (Laws.owes Session.the-type Session′.the-laws (record { windows = ws; shared = h }) (
+  closed = λ ws h o len own h-is o-is. subst (λ (us : List Val). Is Session.the-row (record { windows = ws; shared = h; displays = o }) (spelled window shared displays us h o ∷ [])) (vals-of ws)
+      (Laws.owes Session.the-type Session′.the-laws (record { windows = ws; shared = h; displays = o }) (
         (
           map (window .val) ws,
           (
@@ -161,7 +185,7 @@ windows = record {
             each-in (Window.the-field .row .own) (Window.the-field .into) ws (map (window .val) ws) own,
           ),
         ),
-        (h-is, tt),
+        (h-is, (o-is, tt)),
       ));
 }
 
@@ -213,6 +237,18 @@ turn = record {
   tells = Laws.tells Turn.the-type Turn′.the-laws;
   typed = λ 𝓤 H A W d v is. Laws.lawful Turn.the-type Turn′.the-laws 𝓤 H A W .typed d (v ∷ []) is .0;
   owed = λ d v is. let parts = Laws.owed Turn.the-type Turn′.the-laws d (v ∷ []) is in (parts .0, parts .1 .0);
+}
+
+-- the place of a window that is maximised, and what it takes
+abbrev pub taking : Pair index takes
+taking = record {
+  type = Taking.the-row;
+  name = Taking.struct .name;
+  fst = λ d. d .at;
+  snd = λ d. d .what;
+  tells = Laws.tells Taking.the-type Taking′.the-laws;
+  typed = λ 𝓤 H A W d v is. Laws.lawful Taking.the-type Taking′.the-laws 𝓤 H A W .typed d (v ∷ []) is .0;
+  owed = λ d v is. let parts = Laws.owed Taking.the-type Taking′.the-laws d (v ∷ []) is in (parts .0, parts .1 .0);
 }
 
 -- a place for the next window, and its number

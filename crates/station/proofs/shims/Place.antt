@@ -43,9 +43,9 @@ use Rattle.station.proofs.shims.Steps.{opens-at, closes-at, answers}
 use Rattle.station.proofs.shims.Find.{Find, finds}
 use Rattle.station.proofs.shims.InPlace.{reads, writes, fetch, restore}
 
--- E is the element's type, K the other field's, P the first argument's and ps the others, of which n are slices, R the answer's, and D the struct of
+-- E is the element's type, K the other field's, O that of the field which stays, P the first argument's and ps the others, of which n are slices, R the answer's, and D the struct of
 -- three that the element's function hands back
-module _ (E K P R : Plain) (n : ℕ) (ps : List (Arg n)) (L : Slots E K) (D : Trio E K R) where
+module _ (E K O P R : Plain) (n : ℕ) (ps : List (Arg n)) (L : Slots E K O) (D : Trio E K R) where
   abbrev S : Plain
   S = slots.plain L
 

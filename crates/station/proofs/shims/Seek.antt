@@ -44,9 +44,9 @@ use Rattle.station.proofs.shims.Locals.{past, sits}
 use Rattle.station.proofs.shims.Steps.{opens-at, closes-at, answers, takes}
 use Rattle.station.proofs.shims.InPlace.{reads, writes, fetch, restore}
 
--- E is the element's type, K the other field's, X that of what the element's function is handed, R the answer's, and ps the arguments, of which n are
+-- E is the element's type, K the other field's, O that of the field which stays, X that of what the element's function is handed, R the answer's, and ps the arguments, of which n are
 -- slices; T is the struct of place and X, and D the struct of three that the element's function hands back
-module _ (E K X R : Plain) (n : ℕ) (ps : List (Arg n)) (L : Slots E K) (T : Pair index X) (D : Trio E K R) where
+module _ (E K O X R : Plain) (n : ℕ) (ps : List (Arg n)) (L : Slots E K O) (T : Pair index X) (D : Trio E K R) where
   abbrev S : Plain
   S = slots.plain L
 

@@ -42,9 +42,9 @@ use Rattle.station.proofs.shims.Locals.{past, sits}
 use Rattle.station.proofs.shims.Steps.{opens-at, closes-at, answers}
 use Rattle.station.proofs.shims.InPlace.{reads-shared, writes-shared, fetch-shared, restore-shared}
 
--- E is the element's type, K the other field's, R the answer's, and ps the arguments, of which n are slices; D is the struct of two that the other
+-- E is the element's type, K the other field's, O that of the field which stays, R the answer's, and ps the arguments, of which n are slices; D is the struct of two that the other
 -- field's function hands back
-module _ (E K R : Plain) (n : ℕ) (ps : List (Arg n)) (L : Slots E K) (D : Pair K R) where
+module _ (E K O R : Plain) (n : ℕ) (ps : List (Arg n)) (L : Slots E K O) (D : Pair K R) where
   abbrev S : Plain
   S = slots.plain L
 

@@ -1,4 +1,5 @@
--- A struct of an array and one more field, as a walk takes it: one element and the other field, or that field alone, are read and put back in place.
+-- A struct of an array and two more fields, as a walk takes it: one element and the next field, or that field alone, are read and put back in place.
+-- The last field stays as it is.
 use mathlib.Core.Path.{_≡_, refl, sym, _∙_, ap, subst}
 use Prim.Native.Nat.{ℕ, zero, suc, _*_, _<_, _^_}
 use native.Mathlib.Nat.{not-suc-le-zero, le-of-suc-le-suc}
@@ -24,14 +25,14 @@ abbrev pub Each : (E : Plain) → List (Of E) → Type 0
 Each E xs = shadow (each (Of E) (E .type .own) xs (map (E .val) xs))
 
 -- the MIR type and a machine value of such a struct
-abbrev pub slotsTy : Plain → Plain → Sym → ℕ → Ty
-slotsTy E K name n = tyStruct name (tcons (tyArray (E .ty) n) (tcons (K .ty) tnil))
+abbrev pub slotsTy : Plain → Plain → Plain → Sym → ℕ → Ty
+slotsTy E K O name n = tyStruct name (tcons (tyArray (E .ty) n) (tcons (K .ty) (tcons (O .ty) tnil)))
 
-abbrev pub spelled : (E K : Plain) → List Val → Of K → Val
-spelled E K us h = vstruct (vcons (vstruct (ofList us)) (vcons (K .val h) vnil))
+abbrev pub spelled : (E K O : Plain) → List Val → Of K → Of O → Val
+spelled E K O us h o = vstruct (vcons (vstruct (ofList us)) (vcons (K .val h) (vcons (O .val o) vnil)))
 
--- E is the element's type and K the other field's
-pub record Slots (E K : Plain) : Type 2 where
+-- E is the element's type, K the next field's and O the last one's
+pub record Slots (E K O : Plain) : Type 2 where
   pub type : RattleType
   pub name : Sym
   pub n : ℕ
@@ -39,16 +40,17 @@ pub record Slots (E K : Plain) : Type 2 where
   pub near : (k : ℕ) → k < n → k * size (E .ty) < 2 ^ 64
   pub items : type .Denot → List (Of E)
   pub shared : type .Denot → Of K
-  pub make : List (Of E) → Of K → type .Denot
+  pub rest : type .Denot → Of O
+  pub make : List (Of E) → Of K → Of O → type .Denot
   pub blank : Of E
-  pub tells : Tells type (Is type) (λ s. spelled E K (map (E .val) (items s)) (shared s) ∷ [])
+  pub tells : Tells type (Is type) (λ s. spelled E K O (map (E .val) (items s)) (shared s) (rest s) ∷ [])
   pub typed : {M : Type 1} (𝓤 : URA M) (H : Heap 𝓤) (A : Atoms 𝓤) → Given 𝓤 H A → (s : type .Denot) (v : Val) → Is type s (v ∷ [])
-      → T (hasTy (slotsTy E K name n) v) × WT v
+      → T (hasTy (slotsTy E K O name n) v) × WT v
   pub pure : (s : type .Denot) (vs : List Val) → Pure (type .own s vs)
   pub opened : (s : type .Denot) (v : Val) → Is type s (v ∷ []) → ((length (items s) ≡ n) × Each E (items s)) × Is (K .type) (shared s) (K .val
-      (shared s) ∷ [])
-  pub closed : (xs : List (Of E)) (h : Of K) → length xs ≡ n → Each E xs → Is (K .type) h (K .val h ∷ [])
-      → Is type (make xs h) (spelled E K (map (E .val) xs) h ∷ [])
+      (shared s) ∷ []) × Is (O .type) (rest s) (O .val (rest s) ∷ [])
+  pub closed : (xs : List (Of E)) (h : Of K) (o : Of O) → length xs ≡ n → Each E xs → Is (K .type) h (K .val h ∷ []) → Is (O .type) o (O .val o ∷ [])
+      → Is type (make xs h o) (spelled E K O (map (E .val) xs) h o ∷ [])
 
 map-set : {X Y : Type 0} (f : X → Y) (l : List X) (k : ℕ) (a : X) → map f (set l k a) ≡ set (map f l) k (f a)
 map-set f [] k a = refl
@@ -72,7 +74,7 @@ each-told E [] (u ∷ us) h = absurd h
 each-told E (x ∷ xs) [] h = absurd h
 each-told E (x ∷ xs) (u ∷ us) h = λ i. only (E .tells x (u ∷ []) (h .0) i) ∷ each-told E xs us (h .1) i
 
-module _ {E K : Plain} (L : Slots E K) where
+module _ {E K O : Plain} (L : Slots E K O) where
   abbrev pub Session : Type 0
   Session = L .type .Denot
 
@@ -80,13 +82,13 @@ module _ {E K : Plain} (L : Slots E K) where
   vals s = map (E .val) (L .items s)
 
   abbrev pub val : Session → Val
-  val s = spelled E K (vals s) (L .shared s)
+  val s = spelled E K O (vals s) (L .shared s) (L .rest s)
 
   -- the struct as a type of plain data
   abbrev pub plain : Plain
   plain = record {
     type = L .type;
-    ty = slotsTy E K (L .name) (L .n);
+    ty = slotsTy E K O (L .name) (L .n);
     val = val;
     tells = L .tells;
     typed = λ 𝓤 H A W s is. L .typed 𝓤 H A W s (val s) is;
@@ -97,18 +99,19 @@ module _ {E K : Plain} (L : Slots E K) where
   at s k = getD (L .items s) k (L .blank)
 
   abbrev pub put : ℕ → Of E → Of K → Session → Session
-  put k w h s = L .make (set (L .items s) k w) h
+  put k w h s = L .make (set (L .items s) k w) h (L .rest s)
 
   abbrev pub share : Of K → Session → Session
-  share h s = L .make (L .items s) h
+  share h s = L .make (L .items s) h (L .rest s)
 
-  -- a struct made of such an array and such a field: its machine value is the one spelled out
-  module _ (xs : List (Of E)) (h : Of K) (long : length xs ≡ L .n) (each-is : Each E xs) (h-is : Is (K .type) h (K .val h ∷ [])) where
-    told : spelled E K (map (E .val) xs) h ≡ val (L .make xs h)
-    told = ap only (L .tells (L .make xs h) (spelled E K (map (E .val) xs) h ∷ []) (L .closed xs h long each-is h-is))
+  -- a struct made of such an array and such fields: its machine value is the one spelled out
+  module _ (xs : List (Of E)) (h : Of K) (o : Of O) (long : length xs ≡ L .n) (each-is : Each E xs) (h-is : Is (K .type) h (K .val h ∷ []))
+      (o-is : Is (O .type) o (O .val o ∷ [])) where
+    told : spelled E K O (map (E .val) xs) h o ≡ val (L .make xs h o)
+    told = ap only (L .tells (L .make xs h o) (spelled E K O (map (E .val) xs) h o ∷ []) (L .closed xs h o long each-is h-is o-is))
 
-    is-made : Is (L .type) (L .make xs h) (val (L .make xs h) ∷ [])
-    is-made = subst (λ (v : Val). Is (L .type) (L .make xs h) (v ∷ [])) told (L .closed xs h long each-is h-is)
+    is-made : Is (L .type) (L .make xs h o) (val (L .make xs h o) ∷ [])
+    is-made = subst (λ (v : Val). Is (L .type) (L .make xs h o) (v ∷ [])) told (L .closed xs h o long each-is h-is o-is)
 
   module _ (s : Session) (is : Is (L .type) s (val s ∷ [])) where
     long : length (L .items s) ≡ L .n
@@ -120,13 +123,16 @@ module _ {E K : Plain} (L : Slots E K) where
     pub shared-is : Is (K .type) (L .shared s) (K .val (L .shared s) ∷ [])
     shared-is = L .opened s (val s) is .1
 
+    rest-is : Is (O .type) (L .rest s) (O .val (L .rest s) ∷ [])
+    rest-is = L .opened s (val s) is .2
+
     -- with another field beside the array
     module _ (h : Of K) (h-is : Is (K .type) h (K .val h ∷ [])) where
       pub is-share : Is (L .type) (share h s) (val (share h s) ∷ [])
-      is-share = is-made (L .items s) h long each-is h-is
+      is-share = is-made (L .items s) h (L .rest s) long each-is h-is rest-is
 
-      pub val-share : spelled E K (vals s) h ≡ val (share h s)
-      val-share = told (L .items s) h long each-is h-is
+      pub val-share : spelled E K O (vals s) h (L .rest s) ≡ val (share h s)
+      val-share = told (L .items s) h (L .rest s) long each-is h-is rest-is
 
     module _ (k : ℕ) (l : k < L .n) where
       pub vals-long : length (vals s) ≡ L .n
@@ -150,10 +156,10 @@ module _ {E K : Plain} (L : Slots E K) where
         set-is = each-set E (L .items s) k w each-is w-is
 
         pub is-put : Is (L .type) (put k w h s) (val (put k w h s) ∷ [])
-        is-put = is-made (set (L .items s) k w) h set-long set-is h-is
+        is-put = is-made (set (L .items s) k w) h (L .rest s) set-long set-is h-is rest-is
 
-        pub val-put : spelled E K (set (vals s) k (E .val w)) h ≡ val (put k w h s)
-        val-put = ap (λ (us : List Val). spelled E K us h) (sym (map-set (E .val) (L .items s) k w)) ∙ told (set (L .items s) k w) h set-long set-is h-is
+        pub val-put : spelled E K O (set (vals s) k (E .val w)) h (L .rest s) ≡ val (put k w h s)
+        val-put = ap (λ (us : List Val). spelled E K O us h (L .rest s)) (sym (map-set (E .val) (L .items s) k w)) ∙ told (set (L .items s) k w) h (L .rest s) set-long set-is h-is rest-is
 
 -- a field that is an array of records holds the tuples of their fields: the records' machine values and what they own are those of the tuples
 pub maps : {X Y Z : Type 0} (f : Y → Z) (g : X → Y) (xs : List X) → map f (map g xs) ≡ map (λ (x : X). f (g x)) xs

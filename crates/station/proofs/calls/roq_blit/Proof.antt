@@ -15,7 +15,7 @@ use Rattle.windows.proofs.store.blit.Symbol as value
 use Rattle.windows.proofs.store.blit.Met as value′
 use Rattle.station.proofs.shims.Place as shim
 use Rattle.station.proofs.shims.Args.{value, reads, writes}
-use Rattle.station.proofs.shims.Parameters.{window, shared, winId, rect, size, number, windows, altered, writtenOne}
+use Rattle.station.proofs.shims.Parameters.{window, shared, displays, winId, rect, size, number, windows, altered, writtenOne}
 use Rattle.station.proofs.calls.roq_blit as f
 use Rattle.station.proofs.calls.roq_blit.Key as key
 use Rattle.station.proofs.calls.roq_blit.Statement.{statement}
@@ -26,7 +26,7 @@ unfolding code.routine
 roq-blit-spec 𝓤 H 𝓜 𝓖 𝓡 =
     entered 𝓤 H (tripleOf 𝓤 H (𝓖 .A) f.signature (f.spec 𝓤 H (𝓖 .A) (𝓜 .mem) (𝓡 .run)))
     (tables 𝓤 H 𝓜 𝓡 code.env .C) (tables 𝓤 H 𝓜 𝓡 code.env .Λ) key.name code.function (code.unfolded 𝓤 H 𝓜 𝓡)
-    (shim.meets window shared winId altered 2 (value rect ∷ value size ∷ reads 0 tt ∷ writes 1 tt ∷ []) windows writtenOne
+    (shim.meets window shared displays winId altered 2 (value rect ∷ value size ∷ reads 0 tt ∷ writes 1 tt ∷ []) windows writtenOne
     Given (λ id at. At (id .0) at) (λ w k κs a. Held (a .0 .0) w k)
     (λ w k κs a r e. MeetsAlteredAt (Blit (a .0 .0) (a .1 .0) (now (a .1 .1 .1 .0)) (a .1 .1 .0) (now (a .1 .1 .1 .1 .0))) (a .0 .0) w k r (now (e .1 .1 .1 .1 .0)))
     (λ κs s a n t e. MeetsAltered (Blit (a .0 .0) (a .1 .0) (now (a .1 .1 .1 .0)) (a .1 .1 .0) (now (a .1 .1 .1 .1 .0))) s (View.written t n) (now (e .1 .1 .1 .1 .0)))

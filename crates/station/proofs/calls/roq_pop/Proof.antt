@@ -14,7 +14,7 @@ use Rattle.windows.proofs.one.slot.Met as find′
 use Rattle.station.proofs.values.pop.Symbol as value
 use Rattle.station.proofs.values.pop.Met as value′
 use Rattle.station.proofs.shims.Place as shim
-use Rattle.station.proofs.shims.Parameters.{window, shared, winId, popped, windows, taken}
+use Rattle.station.proofs.shims.Parameters.{window, shared, displays, winId, popped, windows, taken}
 use Rattle.station.proofs.calls.roq_pop as f
 use Rattle.station.proofs.calls.roq_pop.Key as key
 use Rattle.station.proofs.calls.roq_pop.Statement.{statement}
@@ -25,7 +25,7 @@ unfolding code.routine
 roq-pop-spec 𝓤 H 𝓜 𝓖 𝓡 =
     entered 𝓤 H (tripleOf 𝓤 H (𝓖 .A) f.signature (f.spec 𝓤 H (𝓖 .A) (𝓜 .mem) (𝓡 .run)))
     (tables 𝓤 H 𝓜 𝓡 code.env .C) (tables 𝓤 H 𝓜 𝓡 code.env .Λ) key.name code.function (code.unfolded 𝓤 H 𝓜 𝓡)
-    (shim.meets window shared winId popped 0 [] windows taken
+    (shim.meets window shared displays winId popped 0 [] windows taken
     Given (λ id at. At (id .0) at) (λ w k κs a. RepWindow w) (λ w k κs a r e. TakesAt (a .0 .0) w k r) (λ κs s a r t e. Pops (a .0 .0) s t r)
     (λ id at p. p .inside) (λ κs s a at h p. h .rep .each at (p .inside)) (λ κs s a at r ws h p d. d s at (own h p))
     𝓤 H 𝓜 𝓖 𝓡 code.env find.name find.routine code.calls-windows·one·slot (find′.met 𝓤 H 𝓜 𝓖 𝓡)

@@ -15,7 +15,7 @@ use Rattle.windows.proofs.portion.treat.Symbol as value
 use Rattle.windows.proofs.portion.treat.Met as value′
 use Rattle.station.proofs.shims.Turn as shim
 use Rattle.station.proofs.shims.Args.{value as plain, reads, writes}
-use Rattle.station.proofs.shims.Parameters.{window, shared, next, number, windows, turn, changed}
+use Rattle.station.proofs.shims.Parameters.{window, shared, displays, next, number, windows, turn, changed}
 use Rattle.station.proofs.calls.roq_portion as f
 use Rattle.station.proofs.calls.roq_portion.Key as key
 use Rattle.station.proofs.calls.roq_portion.Statement.{statement}
@@ -26,7 +26,7 @@ unfolding code.routine
 roq-portion-spec 𝓤 H 𝓜 𝓖 𝓡 =
     entered 𝓤 H (tripleOf 𝓤 H (𝓖 .A) f.signature (f.spec 𝓤 H (𝓖 .A) (𝓜 .mem) (𝓡 .run)))
     (tables 𝓤 H 𝓜 𝓡 code.env .C) (tables 𝓤 H 𝓜 𝓡 code.env .Λ) key.name code.function (code.unfolded 𝓤 H 𝓜 𝓡)
-    (shim.meets window shared next number 2 (plain number ∷ plain number ∷ reads 0 tt ∷ writes 1 tt ∷ []) windows turn changed
+    (shim.meets window shared displays next number 2 (plain number ∷ plain number ∷ reads 0 tt ∷ writes 1 tt ∷ []) windows turn changed
     Given Turns (λ w k x κs a. Turned w k x)
     (λ w k x κs a r e. TreatsAt (Portion (a .0) (a .1 .0) (now (a .1 .1 .0)) (now (a .1 .1 .1 .0))) w k x r (now (e .1 .1 .1 .0)))
     (λ κs s a n t e. MeetsScreen (Portion (a .0) (a .1 .0) (now (a .1 .1 .0)) (now (a .1 .1 .1 .0))) s (View.done t n) (now (e .1 .1 .1 .0)))

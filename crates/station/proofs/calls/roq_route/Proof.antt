@@ -18,7 +18,7 @@ use Rattle.windows.proofs.events.tell.Symbol as value
 use Rattle.windows.proofs.events.tell.Met as value′
 use Rattle.station.proofs.shims.Seek as shim
 use Rattle.station.proofs.shims.Args.{value}
-use Rattle.station.proofs.shims.Parameters.{window, shared, event, message, number, windows, aim, changed}
+use Rattle.station.proofs.shims.Parameters.{window, shared, displays, event, message, number, windows, aim, changed}
 use Rattle.station.proofs.calls.roq_route as f
 use Rattle.station.proofs.calls.roq_route.Key as key
 use Rattle.station.proofs.calls.roq_route.Statement.{statement}
@@ -29,7 +29,7 @@ unfolding code.routine
 roq-route-spec 𝓤 H 𝓜 𝓖 𝓡 =
     entered 𝓤 H (tripleOf 𝓤 H (𝓖 .A) f.signature (f.spec 𝓤 H (𝓖 .A) (𝓜 .mem) (𝓡 .run)))
     (tables 𝓤 H 𝓜 𝓡 code.env .C) (tables 𝓤 H 𝓜 𝓡 code.env .Λ) key.name code.function (code.unfolded 𝓤 H 𝓜 𝓡)
-    (shim.meets window shared message number 0 (value event ∷ []) windows aim changed
+    (shim.meets window shared displays message number 0 (value event ∷ []) windows aim changed
     Given (λ s κs a t e. Aims (Routes (eventOf (a .0)) s) s t) (λ w k m. RepWindow w × (m .told ≡ true → Tellable (m .event))) Heard
     (λ κs s a n t e. Routes (eventOf (a .0)) s (View.done t n))
     (λ κs s a t ws h p. p .inside) (λ κs s a t ws h p. (h .rep .each (t .at) (p .inside), p .able))

@@ -14,7 +14,7 @@ use Rattle.windows.proofs.one.set_layer.Symbol as value
 use Rattle.windows.proofs.one.set_layer.Met as value′
 use Rattle.station.proofs.shims.Place as shim
 use Rattle.station.proofs.shims.Args.{value}
-use Rattle.station.proofs.shims.Parameters.{window, shared, winId, number, windows, changed}
+use Rattle.station.proofs.shims.Parameters.{window, shared, displays, winId, number, windows, changed}
 use Rattle.station.proofs.calls.roq_set_layer as f
 use Rattle.station.proofs.calls.roq_set_layer.Key as key
 use Rattle.station.proofs.calls.roq_set_layer.Statement.{statement}
@@ -25,7 +25,7 @@ unfolding code.routine
 roq-set-layer-spec 𝓤 H 𝓜 𝓖 𝓡 =
     entered 𝓤 H (tripleOf 𝓤 H (𝓖 .A) f.signature (f.spec 𝓤 H (𝓖 .A) (𝓜 .mem) (𝓡 .run)))
     (tables 𝓤 H 𝓜 𝓡 code.env .C) (tables 𝓤 H 𝓜 𝓡 code.env .Λ) key.name code.function (code.unfolded 𝓤 H 𝓜 𝓡)
-    (shim.meets window shared winId number 0 (value number ∷ []) windows changed
+    (shim.meets window shared displays winId number 0 (value number ∷ []) windows changed
     Given (λ id at. At (id .0) at) (λ w k κs a. Held (a .0 .0) w k) (λ w k κs a r e. MeetsAt (SetLayer (a .0 .0) (a .1 .0)) (a .0 .0) w k r)
     (λ κs s a n t e. Meets (SetLayer (a .0 .0) (a .1 .0)) s (View.done t n))
     (λ id at p. p .inside) (λ κs s a at h p. held h p) (λ κs s a at r ws h p d. d s at (own h p))
