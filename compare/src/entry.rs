@@ -16,10 +16,15 @@ pub enum Entry {
     DimmingOn,
     ReleaseOff,
     LayerOne,
+    NoDisplay,
+    BelowZero,
+    NothingShown,
+    MaximisedOff,
+    FlagKept,
 }
 
 impl Entry {
-    pub const ALL: [Entry; 14] = [
+    pub const ALL: [Entry; 19] = [
         Entry::SomeEntriesMet,
         Entry::PiecesApart,
         Entry::BarePixels,
@@ -34,6 +39,11 @@ impl Entry {
         Entry::DimmingOn,
         Entry::ReleaseOff,
         Entry::LayerOne,
+        Entry::NoDisplay,
+        Entry::BelowZero,
+        Entry::NothingShown,
+        Entry::MaximisedOff,
+        Entry::FlagKept,
     ];
 
     pub fn text(self) -> &'static str {
@@ -52,6 +62,11 @@ impl Entry {
             Entry::DimmingOn => "a switch of dimming on",
             Entry::ReleaseOff => "a release off the window of its press",
             Entry::LayerOne => "a change to layer 1",
+            Entry::NoDisplay => "no display is there",
+            Entry::BelowZero => "a difference below 0 in the 20 pixel rule",
+            Entry::NothingShown => "an update with nothing shown",
+            Entry::MaximisedOff => "an update, a maximised window on no display",
+            Entry::FlagKept => "an update after a flag was cleared",
         }
     }
 }

@@ -5,6 +5,8 @@ mod busiest;
 mod call;
 mod compare;
 mod damage;
+mod dims;
+mod displays;
 mod entry;
 mod events;
 mod hits;
@@ -28,6 +30,7 @@ mod shadow;
 mod share;
 mod shrink;
 mod sides;
+mod surfaces;
 mod tally;
 mod text;
 mod times;
@@ -47,7 +50,7 @@ compare busiest REPLAY RUNS SEED
 compare panels REPLAY PAIRS SEED
 compare look REPLAY LOOKS SEED
 compare sides REPLAY all|unasked FILE
-compare record FIRST LAST STDIN STDOUT
+compare record FIRST LAST… STDIN STDOUT
 compare play all|unasked";
 
 fn main() -> ExitCode {
@@ -75,7 +78,7 @@ fn command(words: &[&str]) -> io::Result<bool> {
             let script = fs::read(file).map_err(|e| io::Error::other(format!("{file}: {e}")))?;
             sides::print(&Replay(replay.into()), &script, mode(word)?).map(|()| true)
         }
-        ["record", first, last, stdin, stdout] => record::write(first, last, stdin, stdout).map(|()| true),
+        ["record", first, ref last @ .., stdin, stdout] => record::write(first, last, stdin, stdout).map(|()| true),
         ["play", word] => play(mode(word)?).map(|()| true),
         _ => Err(io::Error::other(USAGE)),
     }

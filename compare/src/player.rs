@@ -11,11 +11,13 @@ use crate::picture;
 use crate::questions::{answer, cannot, Lent, SCREEN};
 use crate::shadow::{Seen, Shadow};
 use crate::share;
+use crate::surfaces;
 use crate::text::Text;
 use original::input::Event;
 use original::metadevs::video::lent::{lend_screen, Pixels};
 use original::sync::mutex::Mutex;
 use original::windows::group::Group;
+use original::Rect;
 use std::sync::Arc;
 
 /// How far a player goes.
@@ -25,7 +27,7 @@ pub enum Mode {
     Common,
     /// Such a call is made too.
     All,
-    /// So is a call that question 3 to 7, 13, 14 or 21 refuses.
+    /// So is a call that question 3 to 7, 13 to 16 or 21 refuses.
     Unasked,
 }
 
@@ -44,6 +46,7 @@ pub struct Player {
     mode: Mode,
     group: Group,
     screen: Pixels,
+    displays: Vec<Rect>,
     lines: u64,
     lent: Lent,
     pub shadow: Shadow,
@@ -56,6 +59,7 @@ impl Player {
             mode,
             group: Group::new(),
             screen: Arc::new(Mutex::new(vec![0; SCREEN as usize])),
+            displays: Vec::new(),
             lines: 0,
             lent: Lent { c: 1, store: 16, screen: None, list: None, target: None },
             shadow: Shadow::fresh(Seen::default()),
@@ -70,7 +74,7 @@ impl Player {
             Line::Malformed => out.line(&format!("? {}", self.lines)),
             Line::Call(call) if cannot(&call, &self.lent) => out.line("!"),
             Line::Call(call) => {
-                let answer = answer(&call, &self.group, &self.lent, self.shadow.is_walking());
+                let answer = answer(&call, &self.group, &self.lent, &self.shadow);
                 if let Call::Route(Event::MouseUp(x, y, _)) = call {
                     self.shadow.count_release(x, y);
                 }
@@ -94,17 +98,16 @@ impl Player {
     }
 
     fn call(&mut self, call: &Call, answer: u8, out: &mut Text) {
-        let unasked = self.mode == Mode::Unasked && matches!(answer, 3..=7 | 13 | 14 | 21);
+        let unasked = self.mode == Mode::Unasked && matches!(answer, 3..=7 | 13..=16 | 21);
         let before = out.0.len();
         if answer == 0 || unasked {
-            let made = panics::caught(|| self.make(call, out));
-            match made {
-                Ok(id) if answer == 0 => self.shadow.follow(call, id),
-                Ok(_) => {}
-                Err(panic) => {
-                    out.0.truncate(before);
-                    out.0.extend_from_slice(panic.as_bytes());
-                }
+            let made = panics::caught(|| self.make(call, out)).unwrap_or_else(|panic| {
+                out.0.truncate(before);
+                out.0.extend_from_slice(panic.as_bytes());
+                0
+            });
+            if answer == 0 {
+                self.shadow.follow(call, made);
             }
             out.end();
         } else {
@@ -129,6 +132,7 @@ impl Player {
 
     fn start(&mut self, c: u32) {
         self.group = Group::new();
+        self.displays.clear();
         self.lent.c = c;
         self.lent.store = 16 * c;
         self.shadow = Shadow::fresh(self.shadow.seen);
@@ -176,6 +180,9 @@ impl Player {
             Call::Mark(id) => group.mark(id),
             Call::Move(id, x, y) => group.move_window(id, x, y),
             Call::Resize(id, w, h) => group.resize(id, w, h),
+            Call::Display(region) => self.displays.push(region),
+            Call::Maximise(id) => surfaces::maximise(group, &self.displays, id),
+            Call::UpdateDims => surfaces::update_dims(group, &self.displays),
             Call::Fill(id, area, colour) => group.fill(id, area, colour),
             Call::Blit(id, area, stride, ref data) => group.blit(id, area, data, stride as usize),
             Call::Redraw(told, w, h) => {
@@ -205,6 +212,7 @@ impl Player {
                     out.instead("!");
                 }
             }
+            Call::DisplayAt(x, y) => surfaces::display_at(&self.displays, x, y, out),
             Call::Portion(..) => out.instead("no such call"),
             // To switch off what is off is nothing, and so common ground.
             Call::Dim(on) if on || self.shadow.is_dimmed() => out.instead("no such call"),

@@ -1,8 +1,10 @@
 //! The questions of document 01 that the original does not ask: all but 10, 11 and 12. And the limits of the program itself.
+use crate::area::Area;
 use crate::busiest;
 use crate::call::{Call, Scan};
 use crate::hits;
 use crate::look;
+use crate::shadow::Shadow;
 use crate::share;
 use original::input::Event;
 use original::windows::group::Group;
@@ -42,16 +44,27 @@ pub fn cannot(call: &Call, lent: &Lent) -> bool {
     }
 }
 
-/// The number of the first question with a no, or 0. The original knows of no walk, so that the caller says whether one is on.
-pub fn answer(call: &Call, group: &Group, lent: &Lent, is_walking: bool) -> u8 {
+/// The number of the first question with a no, or 0. The original knows of no walk, and of no limit to displays and what is maximised there: the
+/// shadow does.
+pub fn answer(call: &Call, group: &Group, lent: &Lent, shadow: &Shadow) -> u8 {
     let store = || (1, u64::from(lent.store) == 16 * u64::from(lent.c));
     let used = |id: u32| (3, id < 16 && group.is_used(id));
     let screen = |w: u32, h: u32| (8, is_screen(w, h, lent.screen));
+    let displays = &shadow.places.displays;
     match call {
         Call::Start(c) => first_no(&[(2, (1..=1_048_576).contains(c))]),
         Call::Create => first_no(&[(4, group.count() < 16)]),
         Call::Show(id) | Call::Hide(id) | Call::Drop(id) | Call::Mark(id) | Call::Pop(id) => first_no(&[used(*id)]),
         Call::Layer(id, layer) => first_no(&[used(*id), (17, *layer <= 1)]),
+        Call::Display(region) => first_no(&[small_rect(region), (15, is_display(region)), (16, displays.count() < 8)]),
+        Call::DisplayAt(x, y) => first_no(&[small(&[*x, *y])]),
+        // The size of an unused id is not asked for.
+        Call::Maximise(id) if !used(*id).1 => first_no(&[store(), used(*id)]),
+        Call::Maximise(_) | Call::UpdateDims => {
+            let fit = |size: &Area| u64::from(size.w()) * u64::from(size.h()) <= u64::from(lent.c);
+            let sizes = shadow.places.sizes_taken(call);
+            first_no(&[store(), (6, sizes.iter().all(|(_, size)| fit(size)))])
+        }
         Call::Move(id, x, y) => first_no(&[used(*id), small(&[*x, *y])]),
         Call::Resize(id, w, h) => {
             let fits = u64::from(*w) * u64::from(*h) <= u64::from(lent.c);
@@ -61,7 +74,7 @@ pub fn answer(call: &Call, group: &Group, lent: &Lent, is_walking: bool) -> u8 {
         Call::Blit(id, area, stride, _) => first_no(&[store(), used(*id), small_rect(area), (7, *stride >= 1)]),
         Call::Route(event) => first_no(&[(21, !matches!(event, Event::KeyFire(_))), small_point(event)]),
         Call::Redraw(_, w, h) => first_no(&[store(), screen(*w, *h)]),
-        Call::Portion(w, h) => first_no(&[store(), screen(*w, *h), (20, is_walking)]),
+        Call::Portion(w, h) => first_no(&[store(), screen(*w, *h), (20, shadow.is_walking())]),
         Call::Visible(id) => {
             let needed = |id| 4 * group.visible(id).len() as u64;
             let room = u64::from(lent.list.unwrap_or(LIST));
@@ -107,6 +120,12 @@ fn small(numbers: &[u32]) -> (u8, bool) {
 
 fn small_rect(area: &Rect) -> (u8, bool) {
     small(&[area.pos.x, area.pos.y, area.dims.w, area.dims.h])
+}
+
+/// "15 when an added display has width or height 0, or x + w or y + h above 32,767"
+fn is_display(region: &Rect) -> bool {
+    let fits = |from: u32, size: u32| size > 0 && from.saturating_add(size) <= 32_767;
+    fits(region.pos.x, region.dims.w) && fits(region.pos.y, region.dims.h)
 }
 
 fn small_scan(scan: &Scan) -> (u8, bool) {

@@ -11,8 +11,8 @@ use std::io;
 /// The script ends with the first list that reaches so many lines.
 const LINES: usize = 4000;
 
-/// Records the lines of the first file, those of a wide window, random lists, and then the lines of the last file with their answers.
-pub fn write(first: &str, last: &str, stdin: &str, stdout: &str) -> io::Result<()> {
+/// Records the lines of the first file, those of a wide window, random lists, and then the lines of the last files with their answers.
+pub fn write(first: &str, last: &[&str], stdin: &str, stdout: &str) -> io::Result<()> {
     let mut script = Script::new(Mode::Common);
     let mut tally = Tally::default();
     for line in fs::read_to_string(first)?.lines() {
@@ -35,9 +35,14 @@ pub fn write(first: &str, last: &str, stdin: &str, stdout: &str) -> io::Result<(
         let scene = Scene { actions: 40, ..kind(&mut random) };
         append(&mut random, &mut script, &mut tally, scene);
     }
-    let (lines, answers) = beside(last)?;
-    fs::write(stdin, [text_of(&script.lines), text_of(&lines)].concat())?;
-    fs::write(stdout, [script.answers.0, text_of(&answers)].concat())
+    let (mut calls, mut said) = (text_of(&script.lines), script.answers.0);
+    for file in last {
+        let (lines, answers) = beside(file)?;
+        calls.extend(text_of(&lines));
+        said.extend(text_of(&answers));
+    }
+    fs::write(stdin, calls)?;
+    fs::write(stdout, said)
 }
 
 /// The lines of a script, and the answers that stand below them, each behind `#= `.

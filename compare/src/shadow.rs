@@ -17,6 +17,8 @@ pub struct Seen {
     pub changed: u64,
     pub meeting: u64,
     pub released: Released,
+    /// By the kinds of `dims`.
+    pub dims: [u64; 10],
 }
 
 /// Releases, by the window that took the last MouseDown: there was none; it had no pixels; it was the topmost at the point; or it was not, which
@@ -79,8 +81,16 @@ impl Shadow {
             Call::Portion(..) => Some(Entry::Portion),
             Call::Dim(on) => (*on && !self.dimmed).then_some(Entry::DimmingOn),
             Call::Layer(id, 1) if self.places.changes_layer(*id, 1) => Some(Entry::LayerOne),
+            Call::DisplayAt(..) | Call::Maximise(_) | Call::UpdateDims => self.dims_entry(call),
             _ => self.list_entry(call),
         }
+    }
+
+    /// Document 01's entries hold for the sizes that windows take too.
+    fn dims_entry(&self, call: &Call) -> Option<Entry> {
+        let resized = |(id, to): &(usize, Area)| self.resize_entry(*id as u32, to.w(), to.h());
+        let entry = self.places.dims_entry(call);
+        entry.or_else(|| self.places.sizes_taken(call).iter().find_map(resized)).or_else(|| self.list_entry(call))
     }
 
     /// The entry that this release falls under, "refused or not".
@@ -125,6 +135,10 @@ impl Shadow {
 
     /// Follows an accepted call, which gave the id if it is a create.
     pub fn follow(&mut self, call: &Call, id: usize) {
+        self.places.count_dims(call, &mut self.seen.dims);
+        for (id, to) in self.places.sizes_taken(call) {
+            self.damage[id].set(Area::new(0, 0, to.w(), to.h()));
+        }
         if let Some(places) = self.places.after(call) {
             let owes = places.owes(&self.places, call);
             self.places = places;
@@ -138,6 +152,7 @@ impl Shadow {
         }
         match call {
             Call::Create => self.create(id),
+            Call::Display(region) => self.places.displays.add(Area::of(region)),
             Call::Mark(id) => self.marked[*id as usize] = true,
             Call::Resize(id, w, h) => self.damage[*id as usize].set(Area::new(0, 0, *w, *h)),
             Call::Fill(id, area, _) => self.fill(*id as usize, Area::of(area)),

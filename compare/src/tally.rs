@@ -1,4 +1,5 @@
 //! What was compared, for the table at the end.
+use crate::dims::KINDS;
 use crate::entry::Entry;
 use crate::shadow::Seen;
 use std::collections::BTreeMap;
@@ -96,13 +97,14 @@ impl Tally {
         self.seen.released.no_pixels += seen.released.no_pixels;
         self.seen.released.on += seen.released.on;
         self.seen.released.off += seen.released.off;
+        self.seen.dims.iter_mut().zip(seen.dims).for_each(|(sum, count)| *sum += count);
     }
 
     pub fn print(&self) {
         println!("lines, by word:");
         self.words.iter().for_each(|(word, count)| println!("  {word:14} {count:9}"));
         println!("answers of calls, and `?` and `!` lines:");
-        for answer in (0..=14).chain([17, 20]).map(|answer| answer.to_string()).chain(["?".into(), "!".into()]) {
+        for answer in (0..=17).chain([20]).map(|answer| answer.to_string()).chain(["?".into(), "!".into()]) {
             println!("  {answer:14} {:9}", self.answers.get(&answer).unwrap_or(&0));
         }
         println!("shares in view:");
@@ -125,8 +127,10 @@ impl Tally {
             ("off, not made", released.off),
         ];
         to.iter().for_each(|(which, count)| println!("  {which:14} {count:9}"));
+        println!("displays: positions asked for, and windows maximised and updated:");
+        KINDS.iter().zip(seen.dims).for_each(|(kind, count)| println!("  {kind:44} {count:9}"));
         println!(
-            "show, hide, drop, move, resize, layer: {}, of these {} left windows that meet",
+            "show, hide, drop, move, resize, layer, maximise, update-dims: {}, of these {} left windows that meet",
             seen.changed, seen.meeting
         );
         self.longest.iter().for_each(|(what, most)| println!("{what}: at most {most}"));

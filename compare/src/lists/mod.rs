@@ -1,6 +1,7 @@
 //! Random lists of calls.
 mod bare;
 mod changes;
+mod displays;
 mod input;
 mod layouts;
 mod no_calls;
@@ -45,6 +46,9 @@ impl<'a> Maker<'a> {
     /// Now and then an action that leaves the common ground ends the list; else another is tried.
     fn list(&mut self) -> Step {
         self.say(&format!("start {}", self.scene.c))?;
+        if self.random.chance(500) {
+            self.displays()?;
+        }
         let _ = self.layout();
         for _ in 0..self.scene.actions {
             let action = self.action();
@@ -79,6 +83,11 @@ impl<'a> Maker<'a> {
             (2, Maker::walk),
             (3, Maker::dim),
             (4, Maker::layer),
+            (3, Maker::display),
+            (6, Maker::display_at),
+            (4, Maker::maximise),
+            (5, Maker::update_dims),
+            (2, Maker::spread),
             (16, Maker::event),
             (4, Maker::press),
             (14, Maker::pop),

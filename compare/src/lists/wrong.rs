@@ -35,6 +35,8 @@ impl Maker<'_> {
         let _ = self.fill();
         let _ = self.blit();
         let _ = self.resize();
+        let _ = self.maximise();
+        let _ = self.update_dims();
         self.redraw()?;
         let _ = self.portion();
         let id = self.id();
@@ -82,7 +84,7 @@ impl Maker<'_> {
     fn limits(&mut self) -> Step {
         let id = self.id();
         let c = self.scene.c;
-        let line = match self.random.from_to(0, 10) {
+        let line = match self.random.from_to(0, 12) {
             0 => format!("move {id} 32767 32767"),
             1 => format!("move {id} 32767 32768"),
             2 => format!("resize {id} 1 {c}"),
@@ -93,6 +95,8 @@ impl Maker<'_> {
             7 => format!("mousemove 32768 {c}"),
             8 => "redraw 1 32767 11".to_string(),
             9 => "redraw 1 12 32000".to_string(),
+            10 => "display 0 32000 1 768".to_string(),
+            11 => "display-at 32767 32768".to_string(),
             _ => format!("blit {id} 0 0 32767 32767 1 1 2 3"),
         };
         self.say(&line)

@@ -1,5 +1,5 @@
 -- The call that a line makes: the tables of CALL-SCRIPT.md.
-use Prim.Native.Nat.{ℕ, _-_}
+use Prim.Native.Nat.{ℕ, _-_, _≤_}
 use mathlib.Core.Bool.{Bool, false, cond, _&&_, _||_}
 use mathlib.Core.List.{List, [], _∷_, _++_}
 use mathlib.Core.Option.{Option, none, some}
@@ -26,7 +26,7 @@ pub record Picked (o : Option Call) (P : Call → Type 0) : Type 0 where
   pub so : P call
 
 -- "`show ID` · `hide ID` · `drop ID` · `mark ID`: these"; "`move ID X Y`: move"; "`begin FULL`: begin; FULL is 0 or 1"; "`dim B`:
--- dim; B is 0 or 1"; "`layer ID L`: set_layer"
+-- dim; B is 0 or 1"; "`layer ID L`: set_layer"; "`display X Y W H`: add_display"
 abbrev pub windowCalls : List ℕ → List (ℕ × Call)
 windowCalls ns =
     (Kind.show, Call.Show (idOf ns))
@@ -37,6 +37,7 @@ windowCalls ns =
     ∷ (Kind.begin, Call.Begin (eqb (num ns 0) 1))
     ∷ (Kind.dim, Call.Dim (eqb (num ns 0) 1))
     ∷ (Kind.layer, Call.SetLayer (idOf ns) (num ns 1))
+    ∷ (Kind.display, Call.AddDisplay (rectAt ns 0))
     ∷ []
 
 -- "`keydown V` · `keyup V` · `keyfire V` · `text V`: route"; "`mousemove X Y`: route a MouseMove, its differences 0"; "`mousedown X Y B` ·
@@ -54,12 +55,15 @@ routeCalls ns =
     ∷ (Kind.resized, Call.Route Resize)
     ∷ []
 
--- "`resize ID W H`: resize"; "`fill ID X Y W H COLOUR`: fill"; "`blit ID X Y W H STRIDE DATA…`: blit". n is how many numbers the line has
+-- "`resize ID W H`: resize"; "`fill ID X Y W H COLOUR`: fill"; "`blit ID X Y W H STRIDE DATA…`: blit"; "`maximise ID`: maximise_window";
+-- "`update-dims`: update_dims". n is how many numbers the line has
 abbrev pub storeCalls : ℕ → List ℕ → List ℕ → List (ℕ × Call)
 storeCalls n ns store =
     (Kind.resize, Call.Resize (idOf ns) (num ns 1) (num ns 2) store)
     ∷ (Kind.fill, Call.Fill (idOf ns) (rectAt ns 1) (num ns 5) store)
     ∷ (Kind.blit, Call.Blit (idOf ns) (rectAt ns 1) (take (n - 6) (drop 6 ns)) (num ns 5) store)
+    ∷ (Kind.maximise, Call.Maximise (idOf ns) store)
+    ∷ (Kind.update-dims, Call.UpdateDims store)
     ∷ []
 
 unfoldable pub plainCall : ℕ → List ℕ → Option Call
@@ -99,6 +103,14 @@ routes k = within Kind.keydown Kind.resized k
 abbrev pub isPlain : ℕ → Bool
 isPlain k = isOne k (kinds (windowCalls [])) || routes k
 
+-- the store is lent, to be written
+abbrev pub OnStore : ℕ → Type 0
+OnStore k = ((Kind.resize ≤ k) × (k ≤ Kind.blit)) ⊎ ((Kind.maximise ≤ k) × (k ≤ Kind.update-dims))
+
+-- to a call that resizes windows, and counts no pixels
+abbrev pub Resizes : ℕ → Type 0
+Resizes k = (k ≡ Kind.resize) ⊎ ((Kind.maximise ≤ k) × (k ≤ Kind.update-dims))
+
 -- pixels of the screen are lent
 abbrev pub OnScreen : ℕ → Type 0
 OnScreen k = (k ≡ Kind.redraw) ⊎ (k ≡ Kind.portion)
@@ -111,4 +123,4 @@ OnTarget k = (k ≡ Kind.look) ⊎ (k ≡ Kind.look-fit)
 abbrev pub isLent : ℕ → Bool
 isLent k =
     within Kind.resize Kind.blit k
-    || (eqb k Kind.redraw || (eqb k Kind.portion || (eqb k Kind.visible || (eqb k Kind.hits || (eqb k Kind.look || (eqb k Kind.look-fit || within Kind.screen Kind.region k))))))
+    || (eqb k Kind.redraw || (eqb k Kind.portion || (eqb k Kind.visible || (eqb k Kind.hits || (eqb k Kind.look || (eqb k Kind.look-fit || (within Kind.screen Kind.region k || within Kind.maximise Kind.update-dims k)))))))

@@ -74,7 +74,7 @@ pub record HitsPart (g : Group) (points : List ℕ) (n : ℕ) (list : List ℕ) 
 abbrev pub listLen : ℕ → Player → ℕ
 listLen n p = cond (p .«has_list») (p .list) n
 
--- `resize`, `fill` and `blit` are lent the store as `lend` says
+-- `resize`, `fill`, `blit`, `maximise` and `update-dims` are lent the store as `lend` says
 pub record Stores (k : Call) (p : Player) (store : List ℕ) (r : Player) (after : List ℕ) : Type 0 where
   pub makes : Makes k p r
   pub stored : after ≡ does (group (p .session)) k .store ++ drop (p .lent) store
@@ -122,6 +122,8 @@ pub data Plays (l : Line) (ns : List ℕ) (p : Player) (a : Pixels) (r : Player)
   asks-busiest : l .kind ≡ Kind.busiest → Next p (p .session) r → b ≡ a → Plays l ns p a r b
   -- "the share of the window that no higher window covers"
   asks-share : l .kind ≡ Kind.share → Next p (p .session) r → b ≡ a → Plays l ns p a r b
+  -- "the display that the position is on, or the closest one"
+  asks-display : l .kind ≡ Kind.display-at → Next p (p .session) r → b ≡ a → Plays l ns p a r b
   -- "the target has TW × TH pixels", or as many as `lend-target` said, which it uses up
   asks-look : OnTarget (l .kind) → targetLen p (l .kind) ns ≤ 65536 → Next (untargeted p) (p .session) r → b ≡ a → Plays l ns p a r b
   lends-target : l .kind ≡ Kind.lend-target → num ns 0 ≤ 65536 → Next (lendTarget (num ns 0) p) (p .session) r → b ≡ a → Plays l ns p a r b

@@ -10,6 +10,7 @@ ghost use Rattle.replay.specs.Called.{Picked, plainCall, isPlain, isLent
 ghost use Rattle.replay.specs.Numbers.{idOf, Sound};
 ghost use Rattle.replay.specs.Ready.{Ready, Next};
 ghost use Rattle.replay.specs.Played.{Pixels, Makes, Begins, Plays, PlaysAt};
+use crate::displays;
 use crate::events;
 use crate::lend;
 use crate::numbers;
@@ -40,6 +41,7 @@ fn plain(s: Session, line: Line, ns: &[u32; 4200]) -> Done
         kind::BEGIN => s.begin(ns[0] == 1),
         kind::DIM => s.dim(ns[0] == 1),
         kind::LAYER => s.set_layer(id, ns[1]),
+        kind::DISPLAY => s.add_display(numbers::rect(ns, 0)),
         _ => s.route(events::event(line, ns)),
     }
 }
@@ -63,6 +65,7 @@ pub fn call(p: Player, line: Line, ns: &[u32; 4200], out: &mut [u8; 65536]) -> P
         kind::BUSIEST => times::busiest(p, line, ns, out),
         kind::SHARE => share::share(p, ns, out),
         kind::LEND_TARGET => lend::lend_target(p, ns, out),
+        kind::DISPLAY_AT => displays::display_at(p, ns, out),
         _ => {
             let s = p.session;
             let done = plain(s, line, ns);

@@ -23,7 +23,7 @@ pub fn asked(k: u8, ns: &[u32; 4200], out: &mut [u8; 65536], at: usize) -> usize
     }
 }
 
-fn put_rect(r: Rect, out: &mut [u8; 65536], at: usize) -> usize
+pub fn put_rect(r: Rect, out: &mut [u8; 65536], at: usize) -> usize
     requires { ⌜ at ≤ 65536 ⌝ }
     ensures { λ r. ⌜ r ≤ 65536 ⌝ }
 {

@@ -4,7 +4,7 @@ ghost use Prim.Native.Nat.{_-_, _*_, _≤_};
 ghost use lib.ListN.{length, take, drop};
 ghost use Rattle.rules.specs.Calls.{Call};
 ghost use Rattle.windows.specs.View.{group, done, Given, MeetsStore, MeetsAltered, MeetsScreen};
-ghost use Rattle.replay.specs.Called.{Picked, storeCall, screenCall, OnScreen};
+ghost use Rattle.replay.specs.Called.{Picked, storeCall, screenCall, OnStore, Resizes, OnScreen};
 ghost use Rattle.replay.specs.Numbers.{num, idOf, rectAt, Sound};
 ghost use Rattle.script.specs.Kind as Kind;
 ghost use Rattle.replay.specs.Ready.{Ready, Next, unlisted};
@@ -36,39 +36,55 @@ fn part(s: Session, ns: &[u32; 4200], all: &[u32], count: usize, store: &mut [u3
     blit(s, ns, &all[6..count], store)
 }
 
-// A resize counts no pixels.
-fn resize(s: Session, ns: &[u32; 4200], store: &mut [u32]) -> Written
-    requires { ⌜ Given s ⌝ }
-    ensures { λ r. ⌜ MeetsStore (Call.Resize (idOf (now (ns .entry))) (num (now (ns .entry)) 1) (num (now (ns .entry)) 2) (now (store .entry))) s (done (r .session) (r .answer)) (now (store .exit)) ⌝ }
+// The calls that resize windows, and count no pixels.
+fn resize(s: Session, line: Line, ns: &[u32; 4200], store: &mut [u32]) -> Done
+    requires { ⌜ Given s × Resizes (line .kind) ⌝ }
+    ensures { λ r. ⌜ Picked (storeCall (line .kind) (line .count) (now (ns .entry)) (now (store .entry))) (λ c. MeetsStore c s r (now (store .exit))) ⌝ }
 {
-    let d = s.resize(numbers::id(ns), numbers::dims(ns, 1), store);
-    let session = d.session;
-    Written {
-        session,
-        answer: d.answer,
-        altered: 0,
+    let k = line.kind;
+    let id = numbers::id(ns);
+    match k {
+        kind::MAXIMISE => s.maximise_window(id, store),
+        kind::UPDATE_DIMS => s.update_dims(store),
+        _ => s.resize(id, numbers::dims(ns, 1), store),
     }
 }
 
 // The calls that write the store.
 fn write(s: Session, line: Line, ns: &[u32; 4200], store: &mut [u32]) -> Written
-    requires { ⌜ Given s × Sound line (now ns) × (Kind.resize ≤ line .kind) × (line .kind ≤ Kind.blit) ⌝ }
+    requires { ⌜ Given s × Sound line (now ns) × OnStore (line .kind) ⌝ }
     ensures { λ r. ⌜ Picked (storeCall (line .kind) (line .count) (now (ns .entry)) (now (store .entry))) (λ c. MeetsStore c s (done (r .session) (r .answer)) (now (store .exit))) ⌝ }
 {
     let k = line.kind;
     match k {
         kind::FILL => s.fill(numbers::id(ns), numbers::rect(ns, 1), ns[5], store),
         kind::BLIT => part(s, ns, ns, line.count, store),
-        _ => resize(s, ns, store),
+        _ => {
+            let d = resize(s, line, ns, store);
+            let session = d.session;
+            Written {
+                session,
+                answer: d.answer,
+                altered: 0,
+            }
+        }
     }
 }
 
 fn lent(s: Session, line: Line, ns: &[u32; 4200], store: &mut [u32], lent: usize) -> Written
-    requires { ⌜ Given s × Sound line (now ns) × (Kind.resize ≤ line .kind) × (line .kind ≤ Kind.blit) × (lent ≤ length (now store)) ⌝ }
+    requires { ⌜ Given s × Sound line (now ns) × OnStore (line .kind) × (lent ≤ length (now store)) ⌝ }
     ensures { λ r. ⌜ Picked (storeCall (line .kind) (line .count) (now (ns .entry)) (take lent (now (store .entry))))
         (λ c. MeetsPart c lent (now (store .entry)) s (done (r .session) (r .answer)) (now (store .exit))) ⌝ }
 {
     write(s, line, ns, &mut store[0..lent])
+}
+
+// Are the pixels altered written too?
+fn counts(k: u8) -> bool {
+    if k == kind::FILL {
+        return true;
+    }
+    k == kind::BLIT
 }
 
 pub fn stored(
@@ -78,13 +94,13 @@ pub fn stored(
     store: &mut [u32; 1048576],
     out: &mut [u8; 65536],
 ) -> Player
-    requires { ⌜ Ready p × Sound line (now ns) × (Kind.resize ≤ line .kind) × (line .kind ≤ Kind.blit) ⌝ }
+    requires { ⌜ Ready p × Sound line (now ns) × OnStore (line .kind) ⌝ }
     ensures { λ r. ⌜ Picked (storeCall (line .kind) (line .count) (now (ns .entry)) (take (p .lent) (now (store .entry))))
         (λ c. Stores c p (now (store .entry)) r (now (store .exit))) ⌝ }
 {
     let s = p.session;
     let written = lent(s, line, ns, store, p.lent);
-    p.wrote(written, line.kind != kind::RESIZE, out)
+    p.wrote(written, counts(line.kind), out)
 }
 
 // The calls that draw on the screen.

@@ -2,6 +2,7 @@
 //
 // CALL-SCRIPT.md says what a line means. The store, the screen and the visible list are the program's own: it lends them.
 mod calls;
+mod displays;
 mod events;
 mod geometry;
 mod hits;

@@ -90,7 +90,7 @@ impl Player {
         self
     }
 
-    // A resize, a fill or a blit handed back a session and an answer; of a fill or a blit, the pixels altered are written too.
+    // A call that is lent the store handed back a session and an answer; of a fill or a blit, the pixels altered are written too.
     pub fn wrote(mut self, written: Written, counts: bool, out: &mut [u8; 65536]) -> Player
         requires { ⌜ Ready self × Given (written .session) ⌝ }
         ensures { λ r. ⌜ Next self (written .session) r ⌝ }
@@ -175,7 +175,9 @@ impl Player {
     {
         let k = line.kind;
         match k {
-            kind::RESIZE | kind::FILL | kind::BLIT => lend::stored(self, line, ns, store, out),
+            kind::RESIZE | kind::FILL | kind::BLIT | kind::MAXIMISE | kind::UPDATE_DIMS => {
+                lend::stored(self, line, ns, store, out)
+            }
             kind::REDRAW | kind::PORTION => lend::redraw(self, line, ns, store, screen, out),
             kind::VISIBLE => lend::visible(self, ns, list, out),
             kind::HITS => hits::hits(self, line, ns, list, out),

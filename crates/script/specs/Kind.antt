@@ -154,6 +154,18 @@ look-fit = 49
 abbrev pub lend-target : ℕ
 lend-target = 50
 
+abbrev pub display : ℕ
+display = 51
+
+abbrev pub display-at : ℕ
+display-at = 52
+
+abbrev pub maximise : ℕ
+maximise = 53
+
+abbrev pub update-dims : ℕ
+update-dims = 54
+
 -- the last of them
 abbrev pub last : ℕ
-last = lend-target
+last = update-dims

@@ -143,6 +143,10 @@ table =
     ∷ row "look" Kind.look 9
     ∷ row "look-fit" Kind.look-fit 7
     ∷ row "lend-target" Kind.lend-target 1
+    ∷ row "display" Kind.display 4
+    ∷ row "display-at" Kind.display-at 2
+    ∷ row "maximise" Kind.maximise 1
+    ∷ row "update-dims" Kind.update-dims 0
     ∷ []
 
 abbrev pub sameWord : List ℕ → List ℕ → Bool

@@ -108,8 +108,16 @@ pub const LOOK_FIT: u8 = 49;
 
 pub const LEND_TARGET: u8 = 50;
 
+pub const DISPLAY: u8 = 51;
+
+pub const DISPLAY_AT: u8 = 52;
+
+pub const MAXIMISE: u8 = 53;
+
+pub const UPDATE_DIMS: u8 = 54;
+
 // The last of them.
-pub const LAST: u8 = LEND_TARGET;
+pub const LAST: u8 = UPDATE_DIMS;
 
 const WORDS: usize = LAST as usize - 1;
 
@@ -168,6 +176,10 @@ pub const ROWS: [u8; WORDS * ROW] = *b"\
     \x04\x09 look            \
     \x08\x07 look-fit        \
     \x0b\x01 lend-target     \
+    \x07\x04 display         \
+    \x0a\x02 display-at      \
+    \x08\x01 maximise        \
+    \x0b\x00 update-dims     \
     ";
 
 pub fn wide(b: u8) -> usize

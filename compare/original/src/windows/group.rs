@@ -1,9 +1,13 @@
 //! The calls of document 01 on the original's `WindowGroup`, each by the like-named function.
-use super::{Window, WindowGroup};
+use super::{Window, WindowGroup, S_WINDOW_GROUPS};
 use input::Event;
 use kernel::lib::mem::aref::Aref;
+use kernel::lib::mem::Arc;
 use kernel::lib::ring_buffer::dropped;
+use kernel::lib::sparse_vec::SparseVec;
+use kernel::sync::mutex::Mutex;
 use kernel::user_async::woken;
+use std::mem::{replace, swap};
 use {Colour, Dims, Pos, Rect};
 
 /// What became of an event.
@@ -92,6 +96,15 @@ impl Group {
         self.window(id).resize(Dims::new(w, h));
         self.0.recalc_vis(id as u16)
     }
+    /// As in the original's `WindowHandle::maximise`.
+    pub fn maximise(&mut self, id: u32) {
+        self.window(id).flags.lock().maximised = true;
+        self.0.maximise_window(id as u16)
+    }
+    pub fn update_dims(&mut self) {
+        let _kept = Kept::new(&mut self.0);
+        super::update_dims()
+    }
     pub fn fill(&mut self, id: u32, area: Rect, colour: u32) {
         self.window(id).fill_rect(area, Colour(colour))
     }
@@ -127,5 +140,28 @@ impl Group {
     }
     fn window(&self, id: u32) -> &Window {
         &self.0.windows[id as usize].1
+    }
+}
+
+/// A group among all that the original keeps, over which its `update_dims` goes. It comes back at the end, also at that of a panic.
+struct Kept<'a> {
+    group: &'a mut WindowGroup,
+    kept: Arc<Mutex<WindowGroup>>,
+    place: usize,
+}
+
+impl<'a> Kept<'a> {
+    fn new(group: &'a mut WindowGroup) -> Kept<'a> {
+        let kept = Arc::new(Mutex::new(replace(group, WindowGroup::new(String::new()))));
+        S_WINDOW_GROUPS.init(SparseVec::new);
+        let place = S_WINDOW_GROUPS.lock().insert(kept.clone());
+        Kept { group: group, kept: kept, place: place }
+    }
+}
+
+impl<'a> Drop for Kept<'a> {
+    fn drop(&mut self) {
+        S_WINDOW_GROUPS.lock().remove(self.place);
+        swap(self.group, &mut self.kept.lock());
     }
 }

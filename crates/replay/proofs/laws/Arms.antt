@@ -74,8 +74,8 @@ no-target k (inr h) (inl e) = omega arith
 no-target k (inr h) (inr e) = omega arith
 
 pub not-lent : (k : ℕ) → (OnScreen k → ⊥) → (k ≡ Kind.visible → ⊥) → (k ≡ Kind.hits → ⊥) → (OnTarget k → ⊥) → (Kind.resize ≤ k → Kind.blit < k) → (Kind.screen ≤ k → Kind.region < k)
-    → isLent k ≡ false
-not-lent k o v q t w s =
+    → (Kind.maximise ≤ k → Kind.update-dims < k) → isLent k ≡ false
+not-lent k o v q t w s m =
     rw (
       outside Kind.resize Kind.blit k w,
       ne-eqb k Kind.redraw (λ e. o (inl e)),
@@ -85,6 +85,7 @@ not-lent k o v q t w s =
       ne-eqb k Kind.look (λ e. t (inl e)),
       ne-eqb k Kind.look-fit (λ e. t (inr e)),
       outside Kind.screen Kind.region k s,
+      outside Kind.maximise Kind.update-dims k m,
     )
 
 -- Every line is played -------------------------------------------------------------------------------------------------
@@ -92,7 +93,7 @@ not-lent k o v q t w s =
 -- the kinds that a function of their own plays, lent no pixels and no list
 abbrev pub own : List ℕ
 own =
-    Kind.passed ∷ Kind.malformed ∷ Kind.start ∷ Kind.create ∷ Kind.pop ∷ Kind.focus ∷ Kind.lend ∷ Kind.lend-screen ∷ Kind.lend-list ∷ Kind.busiest ∷ Kind.share ∷ Kind.lend-target ∷ []
+    Kind.passed ∷ Kind.malformed ∷ Kind.start ∷ Kind.create ∷ Kind.pop ∷ Kind.focus ∷ Kind.lend ∷ Kind.lend-screen ∷ Kind.lend-list ∷ Kind.busiest ∷ Kind.share ∷ Kind.lend-target ∷ Kind.display-at ∷ []
 
 -- the test passes below n
 abbrev below : (ℕ → Bool) → ℕ → Bool

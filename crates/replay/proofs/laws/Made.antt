@@ -23,7 +23,7 @@ use Rattle.replay.specs.Numbers.{num, idOf}
 use Rattle.replay.specs.Looks.{lookOf, LooksPart}
 use Rattle.replay.proofs.laws.Sizes.{counted, hits-room}
 use Rattle.replay.proofs.laws.Picked.{picked-so}
-use Rattle.replay.specs.Played.{unread, beyond, starts, creates, plain, stores, pops, redraws, lists, asks-hits, asks-focus, lends, lends-screen, lends-list, asks-busiest, asks-share, asks-look, lends-target, shows}
+use Rattle.replay.specs.Played.{unread, beyond, starts, creates, plain, stores, pops, redraws, lists, asks-hits, asks-focus, lends, lends-screen, lends-list, asks-busiest, asks-share, asks-display, asks-look, lends-target, shows}
 
 -- the session that r has is the next
 own : {p : Player} {s : Session} {r : Player} → Next p s r → Next p (r .session) r
@@ -114,6 +114,7 @@ ready-of (lends-screen k j n e) = n .ready
 ready-of (lends-list k j n e) = n .ready
 ready-of (asks-busiest k n e) = n .ready
 ready-of (asks-share k n e) = n .ready
+ready-of (asks-display k n e) = n .ready
 ready-of (asks-look k j n e) = n .ready
 ready-of (lends-target k j n e) = n .ready
 ready-of (shows k j n e) = n .ready

@@ -1,4 +1,6 @@
-//! A lent screen as the original's only display, so that its own `write_buf` writes there; and the slice of a `StrideBuf`.
+//! A lent screen as the original's only display, so that its own `write_buf` writes there; displays that it is asked for; and the slice of a
+//! `StrideBuf`.
+use super::bootvideo;
 use super::{Dims, DisplaySurface, Framebuffer, Pos, Rect, StrideBuf, S_DISPLAY_SURFACES};
 use lib::sparse_vec::SparseVec;
 use std::any::Any;
@@ -10,11 +12,22 @@ pub type Pixels = Arc<Mutex<Vec<u32>>>;
 
 /// Makes the pixels, w in a row, the only display.
 pub fn lend_screen(pixels: &Pixels, w: u32, h: u32) {
+    let screen = Screen { pixels: pixels.clone(), size: Dims::new(w, h) };
+    put(Some(DisplaySurface { region: Rect::new(0, 0, w, h), fb: Box::new(screen) }));
+}
+
+/// Makes the rectangles the displays, in their order; `add_output` can place one alone. They show nothing: for a redraw the lent screen takes
+/// their place.
+pub fn put_displays(regions: &[Rect]) {
+    let blank = || Box::new(bootvideo::Framebuffer::new(bootvideo::VideoMode));
+    put(regions.iter().map(|&region| DisplaySurface { region: region, fb: blank() }));
+}
+
+fn put<I: IntoIterator<Item = DisplaySurface>>(surfaces: I) {
     let mut displays = SparseVec::new();
-    displays.insert(DisplaySurface {
-        region: Rect::new(0, 0, w, h),
-        fb: Box::new(Screen { pixels: pixels.clone(), size: Dims::new(w, h) }),
-    });
+    for surface in surfaces {
+        displays.insert(surface);
+    }
     *S_DISPLAY_SURFACES.lock() = displays;
 }
 

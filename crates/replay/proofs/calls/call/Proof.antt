@@ -1,7 +1,7 @@
 -- Each arm plays the line of its own kind; the kinds that are left are those of the plain calls.
 use mathlib.Core.Path.{refl}
 use native.Mathlib.Omega.{arith}
-use Rattle.replay.specs.Played.{unread, creates, pops, asks-focus, asks-busiest, asks-share, plain}
+use Rattle.replay.specs.Played.{unread, creates, pops, asks-focus, asks-busiest, asks-share, asks-display, plain}
 use Rattle.replay.proofs.laws.Arms.{plain-left}
 use Rattle.replay.proofs.laws.Picked.{picked-so}
 use Rattle.replay.proofs.laws.Made.{makes}
@@ -41,6 +41,9 @@ share-requires c κs = search needs
 
 lend-target-requires : tie.Need-lend-target-requires
 lend-target-requires c κs = search needs
+
+display-at-requires : tie.Need-display-at-requires
+display-at-requires c κs = search needs
 
 plain-requires : tie.Need-plain-requires
 plain-requires c κs =
@@ -89,7 +92,10 @@ returns-12 : tie.Need-returns-12
 returns-12 c = λ a. c .lend-target .ensures (c .before .before .before .args .line) a (c .before .before .match .keys12)
 
 returns-13 : tie.Need-returns-13
-returns-13 c =
+returns-13 c = λ a. asks-display (c .before .before .match .keys13) (c .display-at .ensures) refl
+
+returns-14 : tie.Need-returns-14
+returns-14 c =
     let p = c .before .before .before .before .before .args .p in
     let done = c .before .before .plain in
     λ a. plain (picked-so (λ k m. makes k p (c .answered .result) (done .result) m (c .answered .ensures)) (done .ensures)) refl
@@ -109,6 +115,7 @@ call-spec =
     busiest-requires
     share-requires
     lend-target-requires
+    display-at-requires
     plain-requires
     answered-requires
     returns
@@ -123,4 +130,5 @@ call-spec =
     returns-10
     returns-11
     returns-12
-    returns-13)
+    returns-13
+    returns-14)

@@ -1,5 +1,6 @@
 -- Each arm makes the call that the kind picks; the kinds that are left route an event.
 use mathlib.Core.Path.{_≡_, refl, subst}
+use Rattle.geom.specs.declared.Rect.{Rect}
 use Rattle.rules.specs.Calls as Call
 use Rattle.rules.specs.Calls.{Call}
 use Rattle.windows.specs.View.{Meets}
@@ -49,6 +50,12 @@ element-copy-out-set-layer c = search needs
 set-layer-requires : tie.Need-set-layer-requires
 set-layer-requires c κs = search needs
 
+rect-requires : tie.Need-rect-requires
+rect-requires c κs = search needs
+
+add-display-requires : tie.Need-add-display-requires
+add-display-requires c κs = search needs
+
 event-requires : tie.Need-event-requires
 event-requires c κs = (c .before .before .pre .1, routes-left _ _ (c .match .rest) (c .before .before .pre .2))
 
@@ -88,7 +95,13 @@ returns-8 : tie.Need-returns-8
 returns-8 c = by-id (c .before .before .match .keys8) _ (λ id. Call.SetLayer id (num (c .before .before .before .before .args .ns .now) 1)) refl (c .before .before .before .id .ensures) (c .set-layer .ensures)
 
 returns-9 : tie.Need-returns-9
-returns-9 c = record { call = Call.Route (c .before .event .result); is = c .before .event .ensures; so = c .route .ensures }
+returns-9 c =
+    let args = c .before .before .before .before .args in
+    plain-at (c .before .before .match .keys9) (args .ns .now) refl
+    (subst (λ (area : Rect). Meets (Call.AddDisplay area) (args .s) (c .add-display .result)) (c .before .rect .ensures) (c .add-display .ensures))
+
+returns-10 : tie.Need-returns-10
+returns-10 c = record { call = Call.Route (c .before .event .result); is = c .before .event .ensures; so = c .route .ensures }
 
 pub plain-spec : {M : Type 1} → statement M
 plain-spec =
@@ -107,6 +120,8 @@ plain-spec =
     dim-requires
     element-copy-out-set-layer
     set-layer-requires
+    rect-requires
+    add-display-requires
     event-requires
     route-requires
     returns
@@ -117,4 +132,5 @@ plain-spec =
     returns-6
     returns-7
     returns-8
-    returns-9)
+    returns-9
+    returns-10)

@@ -9,6 +9,9 @@ use Rattle.replay.proofs.lend.stored.Tie as tie
 lent-requires : tie.Need-lent-requires
 lent-requires c κs = search needs
 
+counts-requires : tie.Need-counts-requires
+counts-requires c κs = search needs
+
 wrote-requires : tie.Need-wrote-requires
 wrote-requires c κs = search needs
 
@@ -21,4 +24,4 @@ returns c =
     (made .ensures)
 
 pub stored-spec : {M : Type 1} → statement M
-stored-spec = tie.close (tie.spec lent-requires wrote-requires returns)
+stored-spec = tie.close (tie.spec lent-requires counts-requires wrote-requires returns)

@@ -1,7 +1,7 @@
 -- Each arm makes the call that the kind picks.
 use mathlib.Core.Path.{_≡_, refl, subst}
+use mathlib.Core.Logic.{⊎-elim, inl, inr}
 use native.Mathlib.Omega.{arith}
-use Rattle.script.specs.Kind as Kind
 use Rattle.rules.specs.Calls as Call
 use Rattle.rules.specs.Calls.{Call}
 use Rattle.windows.specs.View.{done, MeetsStore}
@@ -27,7 +27,10 @@ part-requires : tie.Need-part-requires
 part-requires c κs = (c .before .before .before .before .pre .0, c .before .before .before .before .pre .1 .blit (c .before .before .match .keys2), search needs)
 
 resize-requires : tie.Need-resize-requires
-resize-requires c κs = search needs
+resize-requires c κs =
+    let start = c .before .before .before in
+    let rest = c .before .match .rest in
+    (start .pre .0, ⊎-elim (λ h. inl (omega (arith, h .0, h .1, rest .0 .1, rest .1))) inr (start .pre .2))
 
 same-length : tie.Need-same-length
 same-length c = search needs
@@ -54,10 +57,7 @@ same-length-3 c = search needs
 
 returns-3 : tie.Need-returns-3
 returns-3 c =
-    let start = c .before .before .before .before .before .before in
-    let args = start .args in
-    let left : args .line .kind ≡ Kind.resize = omega (arith, start .pre .2, start .pre .3, c .before .before .before .before .match .rest) in
-    store-at left (args .line .count) (args .ns .now) (args .store .now) refl (c .before .before .resize .ensures)
+    c .before .before .before .resize .ensures
 
 pub write-spec : {M : Type 1} → statement M
 write-spec =

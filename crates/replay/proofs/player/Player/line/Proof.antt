@@ -17,9 +17,6 @@ visible-requires c κs = search needs
 hits-requires : tie.Need-hits-requires
 hits-requires c κs = search needs
 
-stored-requires : tie.Need-stored-requires
-stored-requires c κs = search needs
-
 shown-requires : tie.Need-shown-requires
 shown-requires c κs = search needs
 
@@ -29,6 +26,12 @@ look-requires c κs =
     let p = t .before .before .before .before .before .before .before .pre in
     (p .0, on-target _ (t .before .if5 .left) (t .if6 .taken))
 
+stored-requires : tie.Need-stored-requires
+stored-requires c κs =
+    let t = c .before .before .before in
+    let p = t .before .before .before .pre in
+    (p .0, p .1, ⊎-elim (λ w. inl (t .before .if1 .left, omega (arith, w .taken))) (λ w. inr (w .5 .left, omega (arith, w .6 .taken))) (t .if2 .came))
+
 call-requires : tie.Need-call-requires
 call-requires c κs =
     let start = c .before .before .before .before in
@@ -37,10 +40,11 @@ call-requires c κs =
     let apart = not-lent k (left .0 .0 .1) (left .0 .1) (left .1) in (
       start .pre .0,
       start .pre .1,
-      ⊎-elim (λ w. apart (no-target k (inl (omega (arith, w .taken)))) (λ h. omega (arith, w .taken)) (λ h. omega (arith, w .taken)))
-          (⊎-elim (λ w. apart (no-target k (inl (omega (arith, w .2 .taken)))) (λ h. w .1 .left) (λ h. omega (arith, w .2 .taken)))
-          (⊎-elim (λ w. apart (no-target k (inl (omega (arith, w .4 .taken)))) (λ h. omega (arith, w .3 .left)) (λ h. w .3 .left))
-          (λ w. apart (no-target k (inr (w .5 .left))) (λ h. omega (arith, w .3 .left)) (λ h. w .3 .left))))
+      ⊎-elim (λ w. apart (no-target k (inl (omega (arith, w .taken)))) (λ h. omega (arith, w .taken)) (λ h. omega (arith, w .taken)) (λ h. omega (arith, w .taken)))
+          (⊎-elim (λ w. apart (no-target k (inl (omega (arith, w .2 .taken)))) (λ h. w .1 .left) (λ h. omega (arith, w .2 .taken)) (λ h. omega (arith, w .2 .taken)))
+          (⊎-elim (λ w. apart (no-target k (inl (omega (arith, w .4 .taken)))) (λ h. omega (arith, w .3 .left)) (λ h. w .3 .left) (λ h. omega (arith, w .4 .taken)))
+          (⊎-elim (λ w. apart (no-target k (inr (w .5 .left))) (λ h. omega (arith, w .3 .left)) (λ h. w .3 .left) (λ h. omega (arith, w .6 .taken)))
+          (λ w. apart (no-target k (inr (w .5 .left))) (λ h. omega (arith, w .3 .left)) (λ h. w .3 .left) (λ h. w .7 .left)))))
           (c .before .before .if1 .came),
     )
 
@@ -54,15 +58,15 @@ returns-3 : tie.Need-returns-3
 returns-3 c = asks-hits (c .before .before .before .before .match .keys3) (c .hits .ensures) refl
 
 returns-4 : tie.Need-returns-4
-returns-4 c = stores (c .stored .ensures) refl
+returns-4 c = shows (c .before .before .before .before .before .before .if3 .left) (omega (arith, c .before .before .before .before .before .if4 .taken)) (c .shown .ensures) refl
 
 returns-5 : tie.Need-returns-5
-returns-5 c = shows (c .before .before .before .before .before .before .if3 .left) (omega (arith, c .before .before .before .before .before .if4 .taken)) (c .shown .ensures) refl
-
-returns-6 : tie.Need-returns-6
-returns-6 c =
+returns-5 c =
     let args = c .before .before .before .before .before .before .before .before .before .before .before .args in
     c .look .ensures (pixels (args .store .now) (args .screen .now))
+
+returns-6 : tie.Need-returns-6
+returns-6 c = stores (c .stored .ensures) refl
 
 returns-7 : tie.Need-returns-7
 returns-7 c =
@@ -76,9 +80,9 @@ line-spec =
     redraw-requires
     visible-requires
     hits-requires
-    stored-requires
     shown-requires
     look-requires
+    stored-requires
     call-requires
     returns
     returns-2

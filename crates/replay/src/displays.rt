@@ -1,0 +1,59 @@
+// The line that asks which display a position is on.
+ghost use mathlib.Core.Path.{_≡_};
+ghost use Prim.Native.Nat.{_≤_};
+ghost use Rattle.windows.specs.View.{group, Given, Locates};
+ghost use Rattle.replay.specs.Numbers.{num};
+ghost use Rattle.replay.specs.Ready.{Ready, Next};
+use crate::geometry;
+use crate::numbers;
+use crate::player::Player;
+use crate::text;
+use display::Located;
+use windows::ForPos;
+use windows::Session;
+
+fn asked(s: Session, ns: &[u32; 4200]) -> ForPos
+    requires { ⌜ Given s ⌝ }
+    ensures { λ r. ⌜ Locates (group s) (num (now (ns .entry)) 0) (num (now (ns .entry)) 1) r ⌝ }
+{
+    s.get_display_for_pos(numbers::pos(ns, 0))
+}
+
+fn put_located(located: Located, out: &mut [u8; 65536], at: usize) -> usize
+    requires { ⌜ at ≤ 65536 ⌝ }
+    ensures { λ r. ⌜ r ≤ 65536 ⌝ }
+{
+    match located {
+        Located::On(r) => {
+            let to = text::word(out, at, b"on");
+            geometry::put_rect(r, out, to)
+        }
+        Located::Closest(r) => {
+            let to = text::word(out, at, b"closest");
+            geometry::put_rect(r, out, to)
+        }
+    }
+}
+
+fn put(found: ForPos, out: &mut [u8; 65536], at: usize) -> usize
+    requires { ⌜ at ≤ 65536 ⌝ }
+    ensures { λ r. ⌜ r ≤ 65536 ⌝ }
+{
+    if found.answer == 0 {
+        let located = found.located;
+        let to = text::number(out, at, 0);
+        let then = put_located(located, out, to);
+        return text::end(out, then);
+    }
+    text::answer(out, at, found.answer)
+}
+
+pub fn display_at(mut p: Player, ns: &[u32; 4200], out: &mut [u8; 65536]) -> Player
+    requires { ⌜ Ready p ⌝ }
+    ensures { λ r. ⌜ Next p (p .session) r ⌝ }
+{
+    let s = p.session;
+    let found = asked(s, ns);
+    p.at = put(found, out, p.at);
+    p
+}
