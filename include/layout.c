@@ -9,13 +9,14 @@ SIZE(RoqPos, 8);
 SIZE(RoqDims, 8);
 SIZE(RoqRect, 16);
 SIZE(RoqEvent, 20);
-SIZE(RoqSession, 5656);
+SIZE(RoqSession, 5744);
 SIZE(RoqCreated, 8);
 SIZE(RoqPopped, 24);
 SIZE(RoqAltered, 16);
 SIZE(RoqListing, 16);
 SIZE(RoqShare, 12);
 SIZE(RoqLook, 32);
+SIZE(RoqDisplay, 24);
 SIZE(RoqPlaced, 20);
 SIZE(RoqTested, 8);
 SIZE(RoqIntersection, 24);
@@ -78,7 +79,7 @@ static void dims(void) {
     EXPECT(screen[0] == 0x80ff8001 && roq_resize(s, 7, 0, 0, store, 16 * C) == 0);
 }
 
-/* The layers, a byte for each id in the last two words; a change owes a full redraw, the focus stays, and what is set stays set. */
+/* The layers, a byte for each id in two words; a change owes a full redraw, the focus stays, and what is set stays set. */
 static void layers(void) {
     EXPECT(roq_redraw(s, false, 8, 8, store, 16 * C, screen, 64) == 0 && roq_set_layer(s, 7, 0) == 0);
     EXPECT((s->words[704] & 0xff) == 0 && s->words[705] == 0 && s->words[706] == 0);
@@ -89,6 +90,27 @@ static void layers(void) {
     EXPECT(roq_create(s).id == LAST && s->words[706] == 0);
     EXPECT(roq_resize(s, LAST, 200, 150, store, 16 * C) == 0 && roq_move(s, LAST, 3000, 4000) == 0 && roq_show(s, LAST) == 0);
     EXPECT(roq_redraw(s, false, 8, 8, store, 16 * C, screen, 64) == 0);
+}
+
+/* A display in the word of its number, and their count in the last; the flags, a byte for each id in two words before them. A maximised window
+ * takes the display that it is on, a refused update_dims changes nothing, and a move clears the flag. */
+static void displays(void) {
+    RoqDisplay none = roq_display_at(s, 5, 6);
+    EXPECT(none.answer == 0 && !none.on && is_rect(none.rect, 0, 0, 0, 0) && (s->words[717] & 0xff) == 0 && s->words[707] == 0 && s->words[708] == 0);
+    EXPECT(roq_add_display(s, rect(1, 2, 3, 32768)) == 5 && roq_add_display(s, rect(1, 2, 0, 4)) == 15 && (s->words[717] & 0xff) == 0);
+    EXPECT(roq_add_display(s, rect(100, 200, 30, 40)) == 0 && s->words[709] == (UINT64_C(40) << 48 | UINT64_C(30) << 32 | 200 << 16 | 100));
+    for (uint32_t i = 1; i < 8; i++)
+        EXPECT(roq_add_display(s, rect(1000 * i, 1, 8, 1)) == 0 && (s->words[717] & 0xff) == i + 1);
+    EXPECT(roq_add_display(s, rect(0, 0, 1, 1)) == 16 && s->words[716] == (UINT64_C(1) << 48 | UINT64_C(8) << 32 | 1 << 16 | 7000));
+    RoqDisplay on = roq_display_at(s, 129, 239), near = roq_display_at(s, 130, 239);
+    EXPECT(on.answer == 0 && on.on && is_rect(on.rect, 100, 200, 30, 40) && roq_display_at(s, 32768, 0).answer == 5);
+    EXPECT(near.answer == 0 && !near.on && is_rect(near.rect, 100, 200, 30, 40));
+    EXPECT(roq_move(s, 7, 110, 210) == 0 && roq_maximise(s, 7, store, 16 * C - 1) == 1 && roq_maximise(s, 16, store, 16 * C) == 3);
+    EXPECT(roq_maximise(s, 7, store, 16 * C) == 0 && is_rect(roq_rect_of(s, 7).rect, 100, 200, 30, 40) && s->words[707] >> 56 == 1);
+    EXPECT(roq_pop(s, 7).event.kind == ROQ_RESIZE && roq_update_dims(s, store, 16 * C - 1) == 1 && roq_update_dims(s, store, 16 * C) == 0);
+    EXPECT(is_rect(roq_rect_of(s, LAST).rect, 3000, 1, 200, 150) && s->words[707] >> 56 == 1 && s->words[708] == 0);
+    EXPECT(roq_resize(s, 7, 0, 0, store, 16 * C) == 0 && s->words[707] == 0 && roq_move(s, 7, 0, 0) == 0);
+    EXPECT(roq_move(s, LAST, 3000, 4000) == 0 && roq_redraw(s, false, 8, 8, store, 16 * C, screen, 64) == 0);
 }
 
 static RoqEvent mouse(uint8_t kind, uint32_t x, uint32_t y, uint8_t button, uint8_t count) {
@@ -145,7 +167,7 @@ static void looks(void) {
 }
 
 /* A session as large as the library's: its last words hold C, the focus, dimming and the window of the last MouseDown, the walk's next place,
- * whether it is on and full, the debt, and the layers; nothing is written beyond. */
+ * whether it is on and full, the debt, the layers, the flags and the displays; nothing is written beyond. */
 static void session(void) {
     EXPECT(roq_start(s, C) == 0 && (uint32_t)s->words[701] == C);
     for (int id = 0; id < 16; id++) {
@@ -162,6 +184,7 @@ static void session(void) {
     walk();
     dims();
     layers();
+    displays();
     RoqAltered filled = roq_fill(s, LAST, rect(9, 5, 7, 3), 6, store, 16 * C);
     EXPECT(filled.answer == 0 && filled.altered == 21);
     filled = roq_fill(s, LAST, rect(9, 5, 7, 3), 6, store, 16 * C - 1);

@@ -10,6 +10,8 @@
  *    5  coordinates and sizes are at most 32,767      12  its queue has a free place
  *    6  w x h is at most C                            13  the part lies in the pixels
  *    7  the stride is at least 1                      14  x + w and y + h are at most 4,294,967,295
+ *                                                     15  the display has pixels, its x + w and y + h are at most 32,767
+ *                                                     16  fewer than eight displays are present
  *                                                     17  the layer is at most 1
  *                                                     20  a walk was begun, and is neither over nor dropped
  *                                                     21  the event is no KeyFire, asked before every other
@@ -33,7 +35,14 @@
  * is marked after its last write (roq_fill, roq_blit): what is written and not marked may stay undrawn. Every redraw and portion is lent the
  * same screen, at one size, since it writes only what it has to; told `true` it writes all that is seen. Nobody else writes store or screen: a
  * copy of the session that makes calls of its own is somebody else. A pixel under no shown window keeps its old value, also in a full redraw, so
- * keep a window of the screen's size lowest, such as the plan.
+ * keep a window of the screen's size lowest, such as the plan. A full redraw is owed, which draws everything, in a new session; after each
+ * move, resize, maximise and update_dims that is accepted; and after each show, hide, change of a shown window's layer and switch of dimming that
+ * changes something.
+ *
+ * Displays. Yard and station screens are rectangles of the one screen, up to eight of them in one session; they may overlap, and a position on
+ * several is on the first that was added. A display is only where windows go when they are maximised or updated: a redraw draws on the whole
+ * screen, beside displays too. None is ever taken away; to begin anew is a roq_start. A window fills one display, so C is at least the pixels
+ * of the largest one. After displays were added, roq_update_dims brings the windows back that lie where nobody sees them.
  *
  * Order of events. Each window has a queue of 16 events, and beside it one MouseMove that is not read yet, which a later one replaces. A pop
  * gives what is queued, oldest first, and only then the move, whichever came first: where that order matters, pop after each route. Each new
@@ -103,9 +112,9 @@ typedef struct RoqEvent {
 
 /* ---- A session ---- */
 
-/* 5,656 bytes. */
+/* 5,744 bytes. */
 typedef struct RoqSession {
-    uint64_t words[707];
+    uint64_t words[718];
 } RoqSession;
 
 /* Begins a session without windows, whose windows will have room for c pixels each. Asks 2; on a no it begins one all the same, with
@@ -121,7 +130,7 @@ typedef struct RoqCreated {
     uint16_t id;
 } RoqCreated;
 
-/* A window with the smallest unused id, at (0,0), of size (0,0), hidden, on layer 0. Asks 4. */
+/* A window with the smallest unused id, at (0,0), of size (0,0), hidden, on layer 0, not maximised. Asks 4. */
 RoqCreated roq_create(RoqSession *s);
 
 /* Puts a window on top of its layer and gives it the focus; does nothing where it is shown. Asks 3. */
@@ -137,7 +146,7 @@ uint32_t roq_drop(RoqSession *s, uint16_t id);
 /* Has the next redraw draw a window's damage, or all that is seen of it where it has none. Asks 3. */
 uint32_t roq_mark(RoqSession *s, uint16_t id);
 
-/* Places a window's top left corner. Asks 3, 5. */
+/* Places a window's top left corner; it is not maximised then. Asks 3, 5. */
 uint32_t roq_move(RoqSession *s, uint16_t id, uint32_t x, uint32_t y);
 
 /* Puts a window on layer 0 or 1. The shown windows of layer 1 stand above all of layer 0, so that none of layer 0 covers them or takes a press
@@ -145,9 +154,34 @@ uint32_t roq_move(RoqSession *s, uint16_t id, uint32_t x, uint32_t y);
  * 3, 17. */
 uint32_t roq_set_layer(RoqSession *s, uint16_t id, uint32_t layer);
 
-/* Gives a window another size: the pixels of both sizes stay, all others of its C become 0. Queues a Resize for it, if there is room.
- * Writes the store. Asks 1, 3, 5, 6. */
+/* Gives a window another size: the pixels of both sizes stay, all others of its C become 0. Queues a Resize for it, if there is room. It is
+ * not maximised then. Writes the store. Asks 1, 3, 5, 6. */
 uint32_t roq_resize(RoqSession *s, uint16_t id, uint32_t w, uint32_t h, uint32_t *store, size_t store_len);
+
+/* Adds a display, which is a rectangle of the one screen; displays may overlap. There are up to eight, in order of adding, and none is taken
+ * away. Asks 5, 15, 16. */
+uint32_t roq_add_display(RoqSession *s, RoqRect region);
+
+/* A display: the one that a position is on, where `on` is true, else the closest one; with no display, and on a no, (0,0,0,0). */
+typedef struct RoqDisplay {
+    uint32_t answer;
+    bool on;
+    RoqRect rect;
+} RoqDisplay;
+
+/* The first display that contains the position; if none does, the display with the pixel nearest in a straight line, the first on ties.
+ * Asks 5. */
+RoqDisplay roq_display_at(const RoqSession *s, uint32_t x, uint32_t y);
+
+/* A window takes the display that its position is on, corner and size, as by roq_resize, or (0,0,0,0) if it is on none. It is maximised until a
+ * roq_move or roq_resize of it is accepted. Question 6 is of the size that it takes. Writes the store. Asks 1, 3, 6. */
+uint32_t roq_maximise(RoqSession *s, uint16_t id, uint32_t *store, size_t store_len);
+
+/* Puts all windows where displays are, hidden ones too. A maximised one takes the display that its position is on, or else the closest, as by
+ * roq_resize, and stays maximised. Another on no display comes to the closest: its corner at most to 20 pixels before the right and bottom end,
+ * and not before the left and top one; it gets no event. One on a display stays. Question 6 is asked of every maximised window before any
+ * window is changed. Writes the store. Asks 1, 6. */
+uint32_t roq_update_dims(RoqSession *s, uint32_t *store, size_t store_len);
 
 /* What a call that writes pixels gives: how many of them have another value than before. On a no 0. */
 typedef struct RoqAltered {
@@ -181,19 +215,18 @@ typedef struct RoqPopped {
 /* The oldest event of a window's queue, or else its unread MouseMove. Asks 3, 10. */
 RoqPopped roq_pop(RoqSession *s, uint16_t id);
 
-/* Draws the shown windows on the screen, lowest first: everything where `told` or where a show, hide, move, resize, change of layer or switch
- * of dimming came before, else the marked windows. Reads the store, writes the screen. Asks 1, 8. */
+/* Draws the shown windows on the screen, lowest first: everything where `told` or where a full redraw is owed, else the marked windows. Reads
+ * the store, writes the screen. Asks 1, 8. */
 uint32_t roq_redraw(RoqSession *s, bool told, uint32_t width, uint32_t height, const uint32_t *store, size_t store_len,
                     uint32_t *screen, size_t screen_len);
 
-/* Begins a walk, which is a redraw window by window: everything where `told` or where a show, hide, move, resize, change of layer or switch of
- * dimming came before, else the marked windows. Drops the walk that is on; so does roq_redraw. With no window shown the walk is over at once.
- * Asks nothing. */
+/* Begins a walk, which is a redraw window by window: everything where `told` or where a full redraw is owed, else the marked windows. Drops the
+ * walk that is on; so does roq_redraw. With no window shown the walk is over at once. Asks nothing. */
 uint32_t roq_begin(RoqSession *s, bool told);
 
-/* Draws the walk's next window, lowest first; after the last one the walk is over. Any calls may come between two portions: a show, hide,
- * move, resize, change of layer or switch of dimming sends the walk back to the lowest window, to draw everything; what is written to a window
- * after its portion is damage for the next redraw. Reads the store, writes the screen. Asks 1, 8, 20. */
+/* Draws the walk's next window, lowest first; after the last one the walk is over. Any calls may come between two portions: one that owes a full
+ * redraw sends the walk back to the lowest window, to draw everything; what is written to a window after its portion is damage for the next
+ * redraw. Reads the store, writes the screen. Asks 1, 8, 20. */
 uint32_t roq_portion(RoqSession *s, uint32_t width, uint32_t height, const uint32_t *store, size_t store_len, uint32_t *screen,
                      size_t screen_len);
 

@@ -136,6 +136,25 @@ static void keep_on_top(void) {
     redraw();
 }
 
+static void display(uint32_t w, uint32_t h) {
+    RoqRect region = {{0, 0}, {w, h}};
+    say(roq_add_display(&s, region));
+}
+
+/* The panel fills a display. */
+static void maximise(void) {
+    display(WIDTH, 0);
+    display(WIDTH, HEIGHT);
+    RoqDisplay at = roq_display_at(&s, 20, 3);
+    RoqRect r = at.rect;
+    printf("%u %s %u %u", (unsigned)at.answer, at.on ? "on" : "closest", (unsigned)r.pos.x, (unsigned)r.pos.y);
+    printf(" %u %u\n", (unsigned)r.dims.w, (unsigned)r.dims.h);
+    say(roq_maximise(&s, 1, store, STORE));
+    say(roq_update_dims(&s, store, STORE));
+    redraw();
+    pop(1);
+}
+
 int main(void) {
     draw_panels();
     press_panels();
@@ -143,6 +162,7 @@ int main(void) {
     say(roq_mark(&s, 1));
     redraw();
     keep_on_top();
+    maximise();
     say(roq_drop(&s, 1));
     redraw();
     pop(1);

@@ -1,5 +1,5 @@
 //! The calls of panels.calls, made from Rust. Writes what the program `replay` writes for that script.
-use roqshyn::{Error, Event, Pos, Rect, Session, MOST_RECTS, WINDOWS};
+use roqshyn::{Error, Event, Located, Pos, Rect, Session, MOST_RECTS, WINDOWS};
 
 const C: u32 = 72;
 const WIDTH: u32 = 12;
@@ -126,6 +126,20 @@ impl Panels {
         done(self.session.show(PLAN.into()));
         self.redraw();
     }
+
+    /// The panel fills a display.
+    fn maximise(&mut self) {
+        done(self.session.add_display(Rect::new(0, 0, WIDTH, 0)));
+        done(self.session.add_display(Rect::new(0, 0, WIDTH, HEIGHT)));
+        say(self.session.display_at(Pos::new(20, 3)).map(|at| match at {
+            Located::On(r) => format!(" on{}", rect(&r)),
+            Located::Closest(r) => format!(" closest{}", rect(&r)),
+        }));
+        done(self.session.maximise(PANEL.into(), &mut self.store));
+        done(self.session.update_dims(&mut self.store));
+        self.redraw();
+        self.pop(PANEL);
+    }
 }
 
 fn main() -> Result<(), Error> {
@@ -140,6 +154,7 @@ fn main() -> Result<(), Error> {
     done(panels.session.mark(PANEL.into()));
     panels.redraw();
     panels.keep_on_top();
+    panels.maximise();
     done(panels.session.drop(PANEL.into()));
     panels.redraw();
     panels.pop(PANEL);

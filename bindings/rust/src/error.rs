@@ -51,6 +51,8 @@ questions! {
     12 QueueFull "its queue has a free place"
     13 OutsidePixels "the part lies in the pixels"
     14 EdgeTooLarge "x + w and y + h are at most 4,294,967,295"
+    15 DisplaySize "the display has pixels, its x + w and y + h are at most 32,767"
+    16 TooManyDisplays "fewer than eight displays are present"
     17 Layer "the layer is at most 1"
     20 NoWalk "a walk was begun, and is neither over nor dropped"
     21 KeyFire "the event is no KeyFire, asked before every other"

@@ -60,5 +60,5 @@ pub use event::Event;
 pub use id::Id;
 pub use pixels::{fill_scanline, region, region_mut, scanline, scanline_mut, set_scanline};
 pub use rect::{Dims, Pieces, Pos, Rect};
-pub use session::{Hit, Look, Session, Share, Zoom, MOST_POINTS, MOST_RECTS, WINDOWS};
+pub use session::{Hit, Located, Look, Session, Share, Zoom, MOST_DISPLAYS, MOST_POINTS, MOST_RECTS, WINDOWS};
 pub use times::{busiest, Second};

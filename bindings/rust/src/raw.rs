@@ -17,7 +17,7 @@ pub struct Event {
 
 #[repr(C)]
 pub struct Session {
-    pub words: [u64; 707],
+    pub words: [u64; 718],
 }
 
 impl Session {
@@ -28,6 +28,13 @@ impl Session {
 pub struct Created {
     pub answer: u32,
     pub id: u16,
+}
+
+#[repr(C)]
+pub struct Display {
+    pub answer: u32,
+    pub on: bool,
+    pub rect: Rect,
 }
 
 #[repr(C)]
@@ -125,6 +132,10 @@ extern "C" {
     pub fn roq_move(s: *mut Session, id: u16, x: u32, y: u32) -> u32;
     pub fn roq_set_layer(s: *mut Session, id: u16, layer: u32) -> u32;
     pub fn roq_resize(s: *mut Session, id: u16, w: u32, h: u32, store: *mut u32, store_len: usize) -> u32;
+    pub fn roq_add_display(s: *mut Session, region: Rect) -> u32;
+    pub fn roq_display_at(s: *const Session, x: u32, y: u32) -> Display;
+    pub fn roq_maximise(s: *mut Session, id: u16, store: *mut u32, store_len: usize) -> u32;
+    pub fn roq_update_dims(s: *mut Session, store: *mut u32, store_len: usize) -> u32;
     pub fn roq_fill(s: *mut Session, id: u16, area: Rect, colour: u32, store: *mut u32, store_len: usize) -> Altered;
     pub fn roq_blit(s: *mut Session, id: u16, area: Rect, stride: usize, data: *const u32, data_len: usize, store: *mut u32, store_len: usize) -> Altered;
     pub fn roq_route(s: *mut Session, e: Event) -> u32;

@@ -10,6 +10,8 @@ pub const WINDOWS: usize = 16;
 pub const MOST_RECTS: usize = 496;
 /// So many points [`Session::hits`] takes at most.
 pub const MOST_POINTS: usize = 32;
+/// So many displays there may be.
+pub const MOST_DISPLAYS: usize = 8;
 
 /// A session. It is begun by `start`, and only its own calls change it, which is all that the library asks of a caller.
 ///
@@ -69,6 +71,13 @@ impl Look {
         };
         raw::Look { x: self.x, y: self.y, factor, fit }
     }
+}
+
+/// The display that a position is on, or else the closest one, which is (0,0,0,0) where there is none.
+#[derive(Clone, Copy, Debug, PartialEq, Eq)]
+pub enum Located {
+    On(Rect),
+    Closest(Rect),
 }
 
 #[inline]
@@ -132,6 +141,32 @@ impl Session {
     #[inline]
     pub fn resize(&mut self, id: Id, w: u32, h: u32, store: &mut [u32]) -> Result<(), Error> {
         Error::checked(unsafe { raw::roq_resize(&mut self.0, id.0, w, h, store.as_mut_ptr(), store.len()) })
+    }
+
+    /// Adds a display, a rectangle of the one screen, behind those that are there.
+    #[inline]
+    pub fn add_display(&mut self, region: Rect) -> Result<(), Error> {
+        Error::checked(unsafe { raw::roq_add_display(&mut self.0, region) })
+    }
+
+    /// The first display that has the position, or else the one with the pixel nearest to it in a straight line, the first of several.
+    #[inline]
+    pub fn display_at(&self, at: Pos) -> Result<Located, Error> {
+        let display = unsafe { raw::roq_display_at(&self.0, at.x, at.y) };
+        Error::checked(display.answer)?;
+        Ok(if display.on { Located::On(display.rect) } else { Located::Closest(display.rect) })
+    }
+
+    /// A window takes the display that it is on, corner and size; it is maximised until it is moved or resized.
+    #[inline]
+    pub fn maximise(&mut self, id: Id, store: &mut [u32]) -> Result<(), Error> {
+        Error::checked(unsafe { raw::roq_maximise(&mut self.0, id.0, store.as_mut_ptr(), store.len()) })
+    }
+
+    /// Every maximised window takes its display again, or the closest one, and every other that is on none comes to the closest.
+    #[inline]
+    pub fn update_dims(&mut self, store: &mut [u32]) -> Result<(), Error> {
+        Error::checked(unsafe { raw::roq_update_dims(&mut self.0, store.as_mut_ptr(), store.len()) })
     }
 
     /// Fills the part of the area that lies in the window, and counts the pixels that have another value then.

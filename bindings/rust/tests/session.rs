@@ -92,6 +92,41 @@ fn a_panel_stays_on_top() {
 }
 
 #[test]
+fn displays() {
+    let Station { mut session, mut store, plan, panel, .. } = station();
+    let (left, right) = (Rect::new(0, 0, 8, 8), Rect::new(20, 20, 10, 6));
+    assert_eq!(session.display_at(Pos::new(1, 1)), Ok(Located::Closest(Rect::default())));
+    assert_eq!(session.add_display(Rect::new(0, 0, 0, 8)), Err(Error::DisplaySize));
+    assert_eq!((session.add_display(left), session.add_display(right)), (Ok(()), Ok(())));
+    assert_eq!(session.display_at(Pos::new(7, 7)), Ok(Located::On(left)));
+    assert_eq!(session.display_at(Pos::new(14, 14)), Ok(Located::Closest(right)));
+    assert_eq!(session.display_at(Pos::new(0, 32_768)), Err(Error::TooLarge));
+
+    // The panel lies on the left display and fills it; the plan, moved off both, comes to the right one.
+    assert_eq!(session.maximise(panel, &mut store[1..]), Err(Error::StoreLength));
+    assert_eq!((session.maximise(panel, &mut store), session.rect_of(panel)), (Ok(()), Ok(left)));
+    assert_eq!((session.pop(panel), session.pop(panel)), (Ok(Event::Resize), Ok(Event::Resize)));
+    assert_eq!((session.move_window(plan, 90, 25), session.update_dims(&mut store)), (Ok(()), Ok(())));
+    assert_eq!(session.rect_of(plan), Ok(Rect::new(20, 20, 8, 8)));
+    // Still maximised, until it is moved.
+    assert_eq!((session.pop(panel), session.pop(panel)), (Ok(Event::Resize), Err(Error::NoEvent)));
+    assert_eq!((session.move_window(panel, 1, 1), session.update_dims(&mut store)), (Ok(()), Ok(())));
+    assert_eq!((session.pop(panel), session.rect_of(panel)), (Err(Error::NoEvent), Ok(Rect::new(1, 1, 8, 8))));
+
+    // The third display has more pixels than a window may: nothing changes.
+    assert_eq!(session.add_display(Rect::new(40, 0, 9, 8)), Ok(()));
+    assert_eq!(
+        (session.move_window(panel, 44, 3), session.maximise(panel, &mut store)),
+        (Ok(()), Err(Error::WindowSize))
+    );
+    assert_eq!(session.rect_of(panel), Ok(Rect::new(44, 3, 8, 8)));
+    for _ in 3..MOST_DISPLAYS {
+        assert_eq!(session.add_display(left), Ok(()));
+    }
+    assert_eq!(session.add_display(left), Err(Error::TooManyDisplays));
+}
+
+#[test]
 fn events_there_and_back() {
     let Station { mut session, plan, panel, .. } = station();
     let at = Pos::new(3, 4);
