@@ -7,7 +7,7 @@ pub fn corner(random: &mut Random) -> f64 {
     if random.chance(100) {
         return random.pick(&[0.0, -0.0]);
     }
-    let (least, most) = random.weighted(&[(60, (0, 40)), (25, (0, 300)), (10, (0, 131_068)), (5, (131_060, 131_068))]);
+    let (least, most) = random.weighted(&[(75, (0, 40)), (19, (0, 200)), (3, (0, 131_068)), (3, (131_060, 131_068))]);
     f64::from(random.from_to(least, most)) / 4.0
 }
 

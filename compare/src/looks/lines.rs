@@ -19,7 +19,7 @@ pub fn random(random: &mut Random, looks: u64) -> Vec<String> {
 
 /// A window with pixels of which few are alike, shown or hidden; some have no pixels, or one row or column.
 fn window(random: &mut Random, id: u32, lines: &mut Vec<String>) {
-    let side = |random: &mut Random| random.weighted(&[(3, 0), (10, 1), (87, 2)]);
+    let side = |random: &mut Random| random.weighted(&[(2, 0), (5, 1), (93, 2)]);
     let size = |random: &mut Random| match side(random) {
         2 => random.from_to(2, 64),
         few => few,
@@ -30,8 +30,9 @@ fn window(random: &mut Random, id: u32, lines: &mut Vec<String>) {
         let data: String = (0..w * h).map(|_| format!(" {}", random.from_to(1, 999))).collect();
         lines.push(format!("blit {id} 0 0 {w} {h} {w}{data}"));
     }
+    // Where the original draws right: no two windows overlap.
     if random.chance(500) {
-        lines.extend([format!("move {id} {} {}", random.from_to(0, 90), random.from_to(0, 90)), format!("show {id}")]);
+        lines.extend([format!("move {id} {} {}", 100 * id, random.from_to(0, 90)), format!("show {id}")]);
     }
 }
 

@@ -25,7 +25,7 @@ pub fn run(replay: &Replay, looks: u64, seed: u64) -> io::Result<bool> {
     while done < looks {
         let chunk = CHUNK.min(looks - done);
         let lines = lines::random(&mut random, chunk);
-        let (rule, ours) = (ruled(&lines), replay.play(text_of(&lines))?);
+        let (rule, ours) = (ruled(&lines)?, replay.play(text_of(&lines))?);
         if first_difference(&rule, &ours).is_some() {
             println!(
                 "a difference, seed {seed}, looks {} to {}; the smallest list found that differs:",
@@ -44,22 +44,23 @@ pub fn run(replay: &Replay, looks: u64, seed: u64) -> io::Result<bool> {
 }
 
 /// What the rule writes, on the windows of the original.
-fn ruled(lines: &[String]) -> Vec<u8> {
+fn ruled(lines: &[String]) -> io::Result<Vec<u8>> {
     let mut player = Player::new(Mode::Common);
     let mut out = Text::default();
     for line in lines {
-        let played = player.line(line.as_bytes(), &mut out);
-        assert!(!matches!(played, Played::Outside(_)), "outside the common ground: {line}");
+        if let Played::Outside(entry) = player.line(line.as_bytes(), &mut out) {
+            return Err(io::Error::other(format!("{line}: not in the common ground: {}", entry.text())));
+        }
     }
-    out.0
+    Ok(out.0)
 }
 
 fn differs(replay: &Replay, lines: &[String]) -> io::Result<bool> {
-    Ok(first_difference(&ruled(lines), &replay.play(text_of(lines))?).is_some())
+    Ok(first_difference(&ruled(lines)?, &replay.play(text_of(lines))?).is_some())
 }
 
 fn print(replay: &Replay, lines: &[String]) -> io::Result<()> {
-    let (rule, ours) = (ruled(lines), replay.play(text_of(lines))?);
+    let (rule, ours) = (ruled(lines)?, replay.play(text_of(lines))?);
     let (rule, ours) = (String::from_utf8_lossy(&rule), String::from_utf8_lossy(&ours));
     let mut ours = ours.lines();
     for (line, rule) in lines.iter().zip(rule.lines()) {
