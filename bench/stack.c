@@ -17,6 +17,7 @@ static uint32_t store[16 * C], screen[C], list[1984], data[64];
 static RoqSession *const s = &session;
 static const RoqRect area = {{10, 20}, {8, 8}}, other = {{12, 14}, {3, 30}};
 static const RoqLook fitting = {0, 0, 0, true};
+static const RoqRect area = {{10, 20}, {8, 8}}, other = {{12, 14}, {3, 30}}, whole = {{0, 0}, {WIDTH, HEIGHT}};
 static const RoqPos point = {11, 21};
 static const RoqEvent press = {25, 25, 0, 0, 0, ROQ_MOUSE_DOWN, 1, 0};
 
@@ -31,6 +32,10 @@ static const RoqEvent press = {25, 25, 0, 0, 0, ROQ_MOUSE_DOWN, 1, 0};
     CALL(roq_move, (s, 3, 5, 5))                                                       \
     CALL(roq_set_layer, (s, 3, 1))                                                     \
     CALL(roq_resize, (s, 0, 300, 300, store, 16 * C))                                  \
+    CALL(roq_add_display, (s, area))                                                   \
+    CALL(roq_display_at, (s, 999, 999))                                                \
+    CALL(roq_maximise, (s, 0, store, 16 * C))                                          \
+    CALL(roq_update_dims, (s, store, 16 * C))                                          \
     CALL(roq_fill, (s, 0, area, 7, store, 16 * C))                                     \
     CALL(roq_blit, (s, 0, area, 8, data, 64, store, 16 * C))                           \
     CALL(roq_route, (s, press))                                                        \
@@ -61,7 +66,8 @@ static void nothing(void) {}
 #define RUN(name, arguments) static void run_##name(void) { (void)name arguments; }
 CALLS(RUN)
 
-/* The windows; all have events, the plan damage and the next portion; dimming is on. The last id is left unused where a create is to find one. */
+/* The windows on a display as large as the plan, which is maximised; all have events, the plan damage and the next portion; dimming is on. The last
+ * id is left unused where a create is to find one. */
 static void scene(int windows) {
     memset(&session, 0, sizeof session);
     roq_start(s, C);
@@ -76,6 +82,8 @@ static void scene(int windows) {
             roq_resize(s, (uint16_t)k, 20, HEIGHT, store, 16 * C), roq_move(s, (uint16_t)k, at, 0);
         roq_show(s, (uint16_t)k);
     }
+    roq_add_display(s, whole);
+    roq_maximise(s, 0, store, 16 * C);
     roq_fill(s, 0, area, 6, store, 16 * C);
     roq_fill(s, 0, other, 6, store, 16 * C);
     roq_dim(s, true);

@@ -15,6 +15,10 @@ pub enum Call {
     Move(u16, u32, u32),
     Layer(u16, u32),
     Resize(u16, u32, u32),
+    Display(Area),
+    DisplayAt(u32, u32),
+    Maximise(u16),
+    UpdateDims,
     Fill(u16, Area, u32),
     /// The data have the area's width as their stride.
     Blit(u16, Area, Vec<u32>),
@@ -47,6 +51,10 @@ impl Call {
             Call::Move(..) => "roq_move",
             Call::Layer(..) => "roq_set_layer",
             Call::Resize(..) => "roq_resize",
+            Call::Display(_) => "roq_add_display",
+            Call::DisplayAt(..) => "roq_display_at",
+            Call::Maximise(_) => "roq_maximise",
+            Call::UpdateDims => "roq_update_dims",
             Call::Fill(..) => "roq_fill",
             Call::Blit(..) => "roq_blit",
             Call::Press(..) | Call::Release(..) | Call::Point(..) => "roq_route",
@@ -82,6 +90,8 @@ pub enum Reply {
     Event(Option<Popped>),
     /// How many rectangles a visible list has.
     Count(usize),
+    /// Whether a position is on the display, or it is the closest.
+    Display(bool, Area),
     Share(Result<Share, Error>),
     Second(Result<Second, Error>),
 }

@@ -2,6 +2,7 @@
 use crate::call::{Area, Call};
 use crate::class::{Beside, Class, Limit};
 use crate::dims;
+use crate::displays;
 use crate::looks;
 use crate::mix::Drag;
 use crate::pixman;
@@ -15,11 +16,11 @@ use crate::scene::{
 use crate::seconds;
 use crate::shares;
 
-const LISTS: &str =
+pub const LISTS: &str =
     "the original makes its visible lists here, we make them when a redraw or a visible list needs them";
 const LAYERS: &str = "the original has no layers: it hides the window and shows it again, and makes its visible lists";
 const KEPT: &str = "the original kept it at the last show, hide, move or resize";
-const CLEARED: &str = "document 01 has us clear the rest of the window's C pixels; the limit is `memset` of C";
+pub const CLEARED: &str = "document 01 has us clear the rest of the window's C pixels; the limit is `memset` of C";
 const OTHER: &str = "the original draws something else (docs/DIFFERENCES.md)";
 
 /// What a station does, on one display and on eight.
@@ -50,6 +51,7 @@ pub fn table() -> Vec<Class> {
     all.extend(shares::classes());
     all.extend(points::classes());
     all.extend(looks::classes());
+    all.extend(displays::classes());
     all
 }
 

@@ -1,17 +1,20 @@
-//! Archives of earlier commits, which have no walks, no dimming, no layers, no busiest second, no share, no answer for many points or no look: there
-//! these functions answer 20, 20, 17, 26, 24, 25 and 22. Where an archive has its own, those are linked.
+//! Archives of earlier commits, which have no walks, no dimming, no layers, no displays, no busiest second, no share, no answer for many points or no
+//! look: there these functions answer 20, 20, 17, 16, 26, 24, 25 and 22. Where an archive has its own, those are linked.
 use crate::call::Call;
 use crate::class::{Beside, Class};
-use roqshyn::{busiest, Error, Id, Look, Session};
+use roqshyn::{busiest, Error, Id, Look, Rect, Session};
 
 std::arch::global_asm!(".weak roq_begin", "roq_begin:", ".weak roq_portion", "roq_portion:", "mov eax, 20", "ret");
 std::arch::global_asm!(".weak roq_hits", "roq_hits:", "mov eax, 25", "ret");
 std::arch::global_asm!(".weak roq_dim", "roq_dim:", "mov eax, 20", "ret");
 std::arch::global_asm!(".weak roq_set_layer", "roq_set_layer:", "mov eax, 17", "ret");
 std::arch::global_asm!(".weak roq_look", "roq_look:", "mov eax, 22", "ret");
+std::arch::global_asm!(".weak roq_add_display", "roq_add_display:", ".weak roq_maximise", "roq_maximise:");
+std::arch::global_asm!(".weak roq_update_dims", "roq_update_dims:", "mov eax, 16", "ret");
 // The struct goes back in two registers.
 std::arch::global_asm!(".weak roq_share", "roq_share:", "mov eax, 24", "xor edx, edx", "ret");
 // The caller hands over where the struct goes.
+std::arch::global_asm!(".weak roq_display_at", "roq_display_at:", "mov rax, rdi", "mov dword ptr [rdi], 16", "ret");
 std::arch::global_asm!(
     ".weak roq_busiest",
     "roq_busiest:",
@@ -22,6 +25,11 @@ std::arch::global_asm!(
     "ret"
 );
 
+/// Whether the archive has displays.
+pub fn has_displays() -> bool {
+    Session::start(1).expect("C is 1").add_display(Rect::new(0, 0, 1, 1)).is_ok()
+}
+
 /// Whether the archive has the calls of a class.
 pub fn has(class: &Class) -> bool {
     let mut session = Session::start(1).expect("C is 1");
@@ -30,6 +38,9 @@ pub fn has(class: &Class) -> bool {
     }
     if let [Call::Layer(..), ..] = class.timed[..] {
         return session.set_layer(Id::from(0_u16), 0) == Err(Error::UnknownId);
+    }
+    if let [Call::Maximise(_) | Call::UpdateDims | Call::DisplayAt(..), ..] = class.timed[..] {
+        return has_displays();
     }
     if let [Call::Hits(_)] = class.timed[..] {
         return session.hits(&[], &mut []).is_ok();

@@ -8,6 +8,7 @@ mod check;
 mod class;
 mod classes;
 mod dims;
+mod displays;
 mod earlier;
 mod looks;
 mod loops;

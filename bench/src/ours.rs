@@ -4,7 +4,9 @@ use crate::class::Class;
 use crate::dims;
 use crate::plain::{Piece, Plain};
 use crate::shares;
-use roqshyn::{busiest, Error, Event, Hit, Id, Look, Pos, Rect, Session, Share, Zoom, MOST_POINTS, MOST_RECTS};
+use roqshyn::{
+    busiest, Error, Event, Hit, Id, Located, Look, Pos, Rect, Session, Share, Zoom, MOST_POINTS, MOST_RECTS,
+};
 use std::arch::x86_64::{_mm_clflush, _mm_mfence};
 
 pub struct Ours {
@@ -97,7 +99,7 @@ impl Ours {
 
     fn visible(&mut self, id: u16) -> Vec<Area> {
         let seen = self.session.visible(Id::from(id), &mut self.list).unwrap_or_default();
-        seen.iter().map(|r| Area(r.pos.x, r.pos.y, r.dims.w, r.dims.h)).collect()
+        seen.iter().map(area).collect()
     }
 
     /// Hands on what a look at window 0 is lent: the window's pixels, its width and height, the target and its width.
@@ -128,6 +130,10 @@ fn rect(a: Area) -> Rect {
     Rect::new(a.0, a.1, a.2, a.3)
 }
 
+fn area(r: &Rect) -> Area {
+    Area(r.pos.x, r.pos.y, r.dims.w, r.dims.h)
+}
+
 fn answer<T>(done: Result<T, Error>) -> u32 {
     done.map_or_else(Error::number, |_| 0)
 }
@@ -156,6 +162,15 @@ impl Side for Ours {
             Call::Move(id, x, y) => answer(s.move_window(Id::from(id), x, y)),
             Call::Layer(id, layer) => answer(s.set_layer(Id::from(id), layer)),
             Call::Resize(id, w, h) => answer(s.resize(Id::from(id), w, h, &mut self.store)),
+            Call::Display(area) => answer(s.add_display(rect(area))),
+            Call::DisplayAt(x, y) => {
+                return match s.display_at(Pos::new(x, y)).expect("display_at") {
+                    Located::On(r) => Reply::Display(true, area(&r)),
+                    Located::Closest(r) => Reply::Display(false, area(&r)),
+                }
+            }
+            Call::Maximise(id) => answer(s.maximise(Id::from(id), &mut self.store)),
+            Call::UpdateDims => answer(s.update_dims(&mut self.store)),
             Call::Fill(id, area, colour) => answer(s.fill(Id::from(id), rect(area), colour, &mut self.store)),
             Call::Blit(id, area, ref data) => {
                 answer(s.blit(Id::from(id), rect(area), area.2 as usize, data, &mut self.store))

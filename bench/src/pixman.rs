@@ -133,6 +133,7 @@ struct Window {
 pub struct Pixman {
     /// In the order of their ids, in which they are shown.
     windows: Vec<Window>,
+    displays: Vec<Area>,
     screen: Picture,
     /// Whether a visible list makes one region of the windows above, and subtracts that.
     at_once: bool,
@@ -144,7 +145,7 @@ fn corners(a: Area) -> Box32 {
 
 impl Pixman {
     pub fn new(width: u32, height: u32, at_once: bool) -> Pixman {
-        Pixman { windows: Vec::new(), screen: Picture::new(width, height), at_once }
+        Pixman { windows: Vec::new(), displays: Vec::new(), screen: Picture::new(width, height), at_once }
     }
 
     /// A window without those above it.
@@ -202,6 +203,14 @@ impl Side for Pixman {
             }
             Call::Resize(id, w, h) => {
                 self.windows[usize::from(id)] = Window { at: Area(0, 0, w, h), picture: Picture::new(w, h) };
+            }
+            Call::Display(region) => self.displays.push(region),
+            Call::Maximise(id) => {
+                let at = self.windows[usize::from(id)].at;
+                let has = |d: &&Area| (d.0..d.0 + d.2).contains(&at.0) && (d.1..d.1 + d.3).contains(&at.1);
+                let display = *self.displays.iter().find(has).expect("a display");
+                let picture = Picture::new(display.2, display.3);
+                self.windows[usize::from(id)] = Window { at: display, picture };
             }
             Call::Pop(_) => return Reply::Event(Some(Popped::Resize)),
             Call::Fill(id, area, colour) => self.windows[usize::from(id)].picture.fill(area, colour),

@@ -3,6 +3,7 @@
 //! The original loses parts of a window where a higher one meets some entries of its visible list and misses others. In the scenes
 //! without `free` in their name no window does, so both sides draw the same.
 use crate::call::{Area, Call};
+use crate::earlier;
 use crate::mix::Drag;
 
 /// The screen of a station.
@@ -22,17 +23,31 @@ pub struct Scene {
 
 /// Windows at these places, the first one lowest, painted in two colours each, drawn, and their events read.
 fn scene(width: u32, height: u32, places: &[Area]) -> Scene {
+    placed(width, height, places, resized)
+}
+
+/// The same, brought to their places by these calls, of which one queues an event.
+fn placed(width: u32, height: u32, places: &[Area], come: impl Fn(u16, Area) -> [Call; 2]) -> Scene {
     let mut setup = Vec::new();
-    for (id, &Area(x, y, w, h)) in (0u16..).zip(places) {
-        let colour = 0x0020_3040 + 0x000f_0b07 * u32::from(id);
-        setup.extend([Call::Create, Call::Resize(id, w, h), Call::Pop(id)]);
-        setup.push(Call::Fill(id, Area(0, 0, w, h), colour));
-        setup.push(Call::Fill(id, Area(w / 3, h / 4, w / 2, h / 2), !colour));
-        setup.extend([Call::Move(id, x, y), Call::Show(id)]);
+    for (id, &place) in (0u16..).zip(places) {
+        let (colour, Area(_, _, w, h)) = (0x0020_3040 + 0x000f_0b07 * u32::from(id), place);
+        setup.push(Call::Create);
+        setup.extend(come(id, place));
+        setup.extend([Call::Pop(id), Call::Fill(id, Area(0, 0, w, h), colour)]);
+        setup.extend([Call::Fill(id, Area(w / 3, h / 4, w / 2, h / 2), !colour), Call::Show(id)]);
     }
     setup.push(Call::Redraw(true));
     let c = places.iter().map(|a| a.2 * a.3).max().unwrap_or(1);
     Scene { width, height, c, setup, common: true }
+}
+
+fn resized(id: u16, Area(x, y, w, h): Area) -> [Call; 2] {
+    [Call::Resize(id, w, h), Call::Move(id, x, y)]
+}
+
+/// The place is a display.
+fn maximised(id: u16, Area(x, y, ..): Area) -> [Call; 2] {
+    [Call::Move(id, x + 100, y + 50), Call::Maximise(id)]
 }
 
 /// No window.
@@ -102,13 +117,29 @@ pub fn plans(width: u32) -> Scene {
 /// The panel of the last of eight displays; it stays on that display.
 pub const DRAGGED_OF_EIGHT: Drag = Drag { id: 15, start: (7 * WIDTH + 3, 45), step: (4, 2) };
 
-/// Eight displays side by side as one screen, on each a plan with a panel.
+/// Eight displays side by side as one screen, on each a plan that is maximised there, and a panel, as in examples/c/displays.c.
 pub fn eight() -> Scene {
+    spread(true)
+}
+
+/// The same, and no plan is maximised.
+pub fn eight_not_maximised() -> Scene {
+    spread(false)
+}
+
+/// With an archive that has no displays the plans come there as the panels do.
+fn spread(are_maximised: bool) -> Scene {
     let (x, y) = DRAGGED_OF_EIGHT.start;
-    let plans = (0..8).map(|k| Area(k * WIDTH, 0, WIDTH, HEIGHT));
+    let displays = || (0..8).map(|k| Area(k * WIDTH, 0, WIDTH, HEIGHT));
     let panels = (0..7).map(|k| Area(k * WIDTH + 100, 100, 300, 200));
-    let places: Vec<Area> = plans.chain(panels).chain([Area(x, y, 300, 200)]).collect();
-    scene(8 * WIDTH, HEIGHT, &places)
+    let places: Vec<Area> = displays().chain(panels).chain([Area(x, y, 300, 200)]).collect();
+    if !earlier::has_displays() {
+        return scene(8 * WIDTH, HEIGHT, &places);
+    }
+    let come = |id, place| if are_maximised && id < 8 { maximised(id, place) } else { resized(id, place) };
+    let mut scene = placed(8 * WIDTH, HEIGHT, &places, come);
+    scene.setup.splice(0..0, displays().map(Call::Display));
+    scene
 }
 
 /// The same screen with as few plans as it takes, since a window has at most 1,048,576 pixels: three, and 13 panels over them.

@@ -2,6 +2,7 @@
 use crate::class::{Beside, Class};
 use crate::classes::{LAYER, MIX};
 use crate::dims::DIMMED;
+use crate::displays::{DISPLAY_AT, MAXIMISE, UPDATE};
 use crate::looks::LOOK;
 use crate::measure::Measured;
 use crate::pixman;
@@ -39,7 +40,7 @@ const WIDE_FILLS: &[&str] = &["fill 300 by", "fill 800 by", "fill 4000 by", "fil
 const NARROW_BLITS: &[&str] = &["blit 8 by", "blit 16 by", "blit 32 by", "blit 64 by", "blit 100 by"];
 const WIDE_BLITS: &[&str] = &["blit 300 by", "blit 800 by", "blit 4000 by", "blit 32767 by"];
 
-const TARGETS: [Target; 26] = [
+const TARGETS: [Target; 29] = [
     target("mark", Beside::Original, &["mark"], Time(1.0)),
     target("move", Beside::Original, &["move, "], Time(1.0)),
     target("show, hide", Beside::Original, &["hide or show"], Time(1.0)),
@@ -56,6 +57,9 @@ const TARGETS: [Target; 26] = [
     target("all portions of a full redraw", Beside::Undivided, &["all portions"], Time(1.1)),
     target("the station's mix", Beside::Original, &[MIX], Time(0.93)),
     target("resize", Beside::Original, &["resize"], Cleared(0.95)),
+    target("maximise", Beside::Original, &[MAXIMISE], Cleared(0.95)),
+    target("update of windows on eight displays", Beside::Original, &[UPDATE], Time(1.0)),
+    target("display at a position", Beside::Original, &[DISPLAY_AT], Time(1.0)),
     target("visible list", Beside::Pixman, &["visible list"], Time(1.0)),
     target("fill, narrower than 300", Beside::Loops, NARROW_FILLS, Time(1.0)),
     target("fill, 300 and wider", Beside::Loops, WIDE_FILLS, Time(1.15)),

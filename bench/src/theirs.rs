@@ -1,15 +1,20 @@
-//! The original's side: its window group, with a lent screen as its only display.
+//! The original's side: its window group, with a lent screen as its only display, or the displays that it is asked for.
 use crate::call::{Area, Call, Popped, Reply, Side, State};
 use original::input::Event;
-use original::metadevs::video::lent::{lend_screen, Pixels};
+use original::metadevs::video::get_display_for_pos;
+use original::metadevs::video::lent::{lend_screen, put_displays, Pixels};
 use original::sync::mutex::Mutex;
 use original::windows::group::{Group, Routed};
-use original::Rect;
+use original::{Pos, Rect};
 use std::sync::Arc;
 
 pub struct Theirs {
     group: Group,
     screen: Pixels,
+    size: (u32, u32),
+    displays: Vec<Rect>,
+    /// Whether these are where the original keeps its displays, and not the screen.
+    is_spread: bool,
     /// A full redraw is owed: the original leaves this note to its caller.
     owed: bool,
     points: Vec<Option<(u32, u32)>>,
@@ -20,7 +25,28 @@ impl Theirs {
     pub fn new(width: u32, height: u32) -> Theirs {
         let screen = Arc::new(Mutex::new(vec![0; (width * height) as usize]));
         lend_screen(&screen, width, height);
-        Theirs { group: Group::new(), screen, owed: true, points: Vec::new() }
+        let (size, displays) = ((width, height), Vec::new());
+        Theirs { group: Group::new(), screen, size, displays, is_spread: false, owed: true, points: Vec::new() }
+    }
+
+    /// A redraw goes to the screen; other calls look for displays.
+    fn spread(&mut self, is_spread: bool) {
+        if self.is_spread == is_spread {
+            return;
+        }
+        self.is_spread = is_spread;
+        match is_spread {
+            true => put_displays(&self.displays),
+            false => lend_screen(&self.screen, self.size.0, self.size.1),
+        }
+    }
+
+    fn display_at(&mut self, x: u32, y: u32) -> Reply {
+        self.spread(true);
+        match get_display_for_pos(Pos::new(x, y)) {
+            Ok(region) => Reply::Display(true, area(&region)),
+            Err(region) => Reply::Display(false, area(&region)),
+        }
     }
 
     fn route(&mut self, event: Event) -> u32 {
@@ -59,11 +85,17 @@ fn popped(event: Event) -> Popped {
 
 impl Side for Theirs {
     fn call(&mut self, call: &Call) -> Reply {
+        match call {
+            Call::Maximise(_) | Call::UpdateDims => self.spread(true),
+            Call::Redraw(_) => self.spread(false),
+            _ => {}
+        }
         let g = &mut self.group;
         match *call {
             Call::Create => return Reply::Id(g.create() as u32),
             Call::Pop(id) => return Reply::Event(g.pop(u32::from(id)).map(popped)),
             Call::Visible(id) => return Reply::Count(g.visible(u32::from(id)).len()),
+            Call::DisplayAt(x, y) => return self.display_at(x, y),
             Call::Press(x, y) => return Reply::Answer(self.route(Event::MouseDown(x, y, 1))),
             Call::Release(x, y) => return Reply::Answer(self.route(Event::MouseUp(x, y, 1))),
             Call::Point(x, y) => return Reply::Answer(self.route(Event::MouseMove(x, y, 0, 0))),
@@ -78,6 +110,9 @@ impl Side for Theirs {
                 g.show(u32::from(id));
             }
             Call::Resize(id, w, h) => g.resize(u32::from(id), w, h),
+            Call::Display(region) => self.displays.push(rect(region)),
+            Call::Maximise(id) => g.maximise(u32::from(id)),
+            Call::UpdateDims => g.update_dims(),
             Call::Fill(id, a, colour) => g.fill(u32::from(id), rect(a), colour),
             Call::Blit(id, a, ref data) => g.blit(u32::from(id), rect(a), data, a.2 as usize),
             Call::Redraw(told) => g.redraw(told || self.owed),
@@ -93,6 +128,7 @@ impl Side for Theirs {
             Call::Redraw(_) => self.owed = false,
             // A drop is none of these: the lists drop hidden windows only.
             Call::Show(_) | Call::Hide(_) | Call::Move(..) | Call::Layer(..) | Call::Resize(..) => self.owed = true,
+            Call::Maximise(_) | Call::UpdateDims => self.owed = true,
             _ => {}
         }
         Reply::Answer(0)
