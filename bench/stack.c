@@ -15,7 +15,6 @@ static ucontext_t here, there;
 static RoqSession session;
 static uint32_t store[16 * C], screen[C], list[1984], data[64];
 static RoqSession *const s = &session;
-static const RoqRect area = {{10, 20}, {8, 8}}, other = {{12, 14}, {3, 30}};
 static const RoqLook fitting = {0, 0, 0, true};
 static const RoqRect area = {{10, 20}, {8, 8}}, other = {{12, 14}, {3, 30}}, whole = {{0, 0}, {WIDTH, HEIGHT}};
 static const RoqPos point = {11, 21};
