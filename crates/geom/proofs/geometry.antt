@@ -1,4 +1,4 @@
--- Rectangles: which pixels lists of them have, that no pixel is in two, how many there are, and which is nearest to a point.
+-- Rectangles: which pixels lists of them have, that no pixel is in two, how many there are, which is nearest to a point; and their numbers.
 pub mod Facts
 pub mod Sides
 pub mod Four
@@ -11,3 +11,4 @@ pub mod Remains
 pub mod Areas
 pub mod Nearest
 pub mod Displays
+pub mod Numbers

@@ -3,6 +3,7 @@ use Prim.Native.Nat.{ℕ, _+_, _-_, _*_}
 use mathlib.Core.Bool.{Bool, false, cond, _||_}
 use mathlib.Core.List.{List, [], _∷_, _++_}
 use lib.Dec.{T}
+use lib.ListN.{getD}
 use Rattle.geom.specs.declared.Rect.{Rect}
 use Rattle.geom.specs.Geom.{rect, left, top, width, height, contains, meets, common, pieces}
 
@@ -33,6 +34,10 @@ relative to r = rect (left r - left to) (top r - top to) (width r) (height r)
 abbrev pub numbers : List Rect → List ℕ
 numbers [] = []
 numbers (r ∷ rs) = left r ∷ top r ∷ width r ∷ height r ∷ numbers rs
+
+-- the i-th rectangle of such numbers
+abbrev pub rectAt : List ℕ → ℕ → Rect
+rectAt l i = rect (getD l (4 * i) 0) (getD l (4 * i + 1) 0) (getD l (4 * i + 2) 0) (getD l (4 * i + 3) 0)
 
 -- What demand 3 says of a list ------------------------------------------------------------------------------------------
 

@@ -7,6 +7,7 @@ ghost use Rattle.geom.specs.Nearest.{nearestX, nearestY, apart, distance
 ghost use Rattle.geom.specs.Inner.{Fits};
 ghost use Rattle.geom.specs.Bare.{edgesFit, bothFit};
 
+pub mod numbers;
 pub mod pieces;
 
 use crate::Pos;

@@ -1,18 +1,18 @@
--- Rectangles lent as numbers: the one at a place, those behind it, and the four numbers of one.
+-- Rectangles lent as numbers: the one at a place, and those behind it.
 use Prim.Native.Nat.{ℕ, zero, suc, _+_, _-_, _*_, _≤_, _<_}
 use mathlib.Core.Path.{_≡_, refl, ap, sym, _∙_}
 use mathlib.Core.List.{List, [], _∷_}
 use native.Mathlib.Omega.{arith}
 use native.Mathlib.Numerals.{add-one}
 use native.Mathlib.Nat.{le-refl, not-suc-le-zero}
-use lib.ListN.{length, take, drop, getD, set, length-drop}
-use lib.Seq.{sets, drop-cons, drop-drop, getD-drop, take-all}
+use lib.ListN.{length, take, drop, getD, length-drop}
+use lib.Seq.{drop-cons, drop-drop, getD-drop, take-all}
 use Rattle.geom.specs.declared.Rect.{Rect}
 use Rattle.geom.specs.Geom.{rect}
 use Rattle.geom.specs.Inner.{Fits}
-use Rattle.geom.specs.Lists.{numbers}
+use Rattle.geom.specs.Lists.{rectAt}
 use Rattle.rules.specs.Visible.{rectsOf}
-use Rattle.rules.specs.Lent.{rectAt, AllFit, Lent}
+use Rattle.rules.specs.Lent.{AllFit, Lent}
 
 -- The one at a place -------------------------------------------------------------------------------------------------
 
@@ -94,14 +94,3 @@ module _ (n : ℕ) (l : List ℕ) (k : ℕ) (h : k < n) where
     room = rw (behind-all k l, length-drop) (omega (arith, lent .room));
     fit = (rw rects-split at (fit-drop k (rectsOf n l) (lent .fit))) .1;
   }
-
--- One that is written -------------------------------------------------------------------------------------------------
-
--- the four numbers of one rectangle
-pub four-set : (l : List ℕ) (i : ℕ) (r : Rect)
-    → set (set (set (set l i (r .pos .x)) (i + 1) (r .pos .y)) (i + 2) (r .dims .w)) (i + 3) (r .dims .h) ≡ sets l i (numbers (r ∷ []))
-four-set l i r =
-    let e1 : i + 1 ≡ suc i = omega arith in
-    let e2 : i + 2 ≡ suc (suc i) = omega arith in
-    let e3 : i + 3 ≡ suc (suc (suc i)) = omega arith in
-    rw (e1, e2, e3) refl

@@ -1,16 +1,10 @@
 -- Rectangles lent as numbers, four for each: x, y, w, h.
-use Prim.Native.Nat.{ℕ, _+_, _*_, _≤_}
-use mathlib.Core.Path.{_≡_}
+use Prim.Native.Nat.{ℕ, _*_, _≤_}
 use mathlib.Core.List.{List, [], _∷_}
-use lib.ListN.{length, getD}
+use lib.ListN.{length}
 use Rattle.geom.specs.declared.Rect.{Rect}
-use Rattle.geom.specs.Geom.{rect}
 use Rattle.geom.specs.Inner.{Fits}
 use Rattle.rules.specs.Visible.{rectsOf}
-
--- the i-th rectangle
-abbrev pub rectAt : List ℕ → ℕ → Rect
-rectAt l i = rect (getD l (4 * i) 0) (getD l (4 * i + 1) 0) (getD l (4 * i + 2) 0) (getD l (4 * i + 3) 0)
 
 -- the sides of each rectangle are numbers of 32 bits
 unfoldable pub AllFit : List Rect → Type 0

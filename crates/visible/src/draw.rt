@@ -17,6 +17,7 @@ use crate::region::View;
 use crate::region::draw_region;
 use geom::Rect;
 use geom::inner;
+use geom::inner::numbers;
 
 // Draws what a region has in common with a dirty entry.
 fn draw_common(view: View, r: Rect, entry: Rect, store: &[u32], screen: &mut [u32])
@@ -35,7 +36,7 @@ fn draw_dirty(view: View, r: Rect, dirty: &[u32], m: usize, store: &[u32], scree
 {
     let mut i: usize = 0;
     while i < m {
-        draw_common(view, r, rects::rect_at(dirty, i), store, screen);
+        draw_common(view, r, numbers::rect_at(dirty, i), store, screen);
         i += 1;
     }
 }
@@ -77,7 +78,7 @@ fn draw_seen(
         draw_part(view, part, dirty, m, store, screen);
         return;
     }
-    let both = inner::common(part, rects::rect_at(above, k));
+    let both = inner::common(part, numbers::rect_at(above, k));
     let next = k + 1;
     let a = around::above(part, both);
     draw_piece(view, a, above, next, n, dirty, m, store, screen);

@@ -17,6 +17,7 @@ use crate::around;
 use crate::rects;
 use geom::Rect;
 use geom::inner;
+use geom::inner::numbers;
 
 // What a part counts for: one, or the pixels that it has.
 fn amount(part: Rect, in_pixels: bool) -> usize
@@ -38,7 +39,7 @@ fn count_seen(part: Rect, above: &[u32], i: usize, n: usize, in_pixels: bool) ->
     if k == n {
         return amount(part, in_pixels);
     }
-    let both = inner::common(part, rects::rect_at(above, k));
+    let both = inner::common(part, numbers::rect_at(above, k));
     let next = k + 1;
     let a = count_piece(around::above(part, both), above, next, n, in_pixels);
     let l = count_piece(around::left(part, both), above, next, n, in_pixels);
@@ -94,18 +95,6 @@ pub fn has_room(at: Rect, above: &[u32], n: usize, len: usize) -> bool
     count(at, above, n) <= places
 }
 
-// Writes the four numbers of a rectangle.
-fn put(out: &mut [u32], place: usize, r: Rect)
-    requires { ⌜ 4 * (place + 1) ≤ length (now out) ⌝ }
-    ensures { λ _. ⌜ now (out .exit) ≡ sets (now (out .entry)) (4 * place) (numbers (r ∷ [])) ⌝ }
-{
-    let at = 4 * place;
-    out[at] = r.pos.x;
-    out[at + 1] = r.pos.y;
-    out[at + 2] = r.dims.w;
-    out[at + 3] = r.dims.h;
-}
-
 // Writes what the rectangles from the i-th of the n on leave of `part`, a part of the window at `at`, from the given place of the
 // list on; returns the place after it. A place holds four numbers.
 fn write(
@@ -124,10 +113,10 @@ fn write(
 {
     let k = rects::first_met(part, above, i, n);
     if k == n {
-        put(out, place, rects::relative(at, part));
+        numbers::put(out, place, rects::relative(at, part));
         return place + 1;
     }
-    let both = inner::common(part, rects::rect_at(above, k));
+    let both = inner::common(part, numbers::rect_at(above, k));
     let next = k + 1;
     let mut to = write_piece(around::above(part, both), at, above, next, n, out, place);
     to = write_piece(around::left(part, both), at, above, next, n, out, to);

@@ -6,19 +6,12 @@ ghost use lib.ListN.{length};
 ghost use Rattle.geom.specs.Geom.{left, top, meets};
 ghost use Rattle.geom.specs.Inner.{Fits};
 ghost use Rattle.geom.specs.Lists as rule;
-ghost use Rattle.rules.specs.Lent.{rectAt, Lent};
+ghost use Rattle.geom.specs.Lists.{rectAt};
+ghost use Rattle.rules.specs.Lent.{Lent};
 ghost use Rattle.visible.specs.Seen.{Missed};
 use geom::Rect;
 use geom::inner;
-
-// The i-th rectangle.
-pub fn rect_at(list: &[u32], i: usize) -> Rect
-    requires { ⌜ 4 * (i + 1) ≤ length (now list) ⌝ }
-    ensures { λ r. ⌜ r ≡ rectAt (now (list .entry)) i ⌝ }
-{
-    let at = 4 * i;
-    Rect::new(list[at], list[at + 1], list[at + 2], list[at + 3])
-}
+use geom::inner::numbers;
 
 // Have the two a pixel in common? Side by side, since of many that are apart the first question or the second says so.
 fn overlap(a: Rect, b: Rect) -> bool
@@ -54,7 +47,7 @@ pub fn first_met(r: Rect, list: &[u32], i: usize, n: usize) -> usize
 {
     let mut k = i;
     while k < n {
-        if overlap(r, rect_at(list, k)) {
+        if overlap(r, numbers::rect_at(list, k)) {
             return k;
         }
         k += 1;

@@ -8,13 +8,14 @@ use lib.ListN.{length, getD, set, take, drop, length-append}
 use lib.Seq.{sets, length-sets, getD-drop, take-suc, take-all}
 use Rattle.geom.specs.declared.Rect.{Rect}
 use Rattle.geom.specs.Geom.{rect}
-use Rattle.geom.specs.Lists.{numbers}
+use Rattle.geom.specs.Lists.{numbers, rectAt}
 use Rattle.geom.specs.Inner.{Fits}
+use Rattle.geom.proofs.geometry.Numbers.{four-set}
 use Rattle.scanline.proofs.rows.Rows.{sets-on, sets-off}
 use Rattle.window.specs.Held.{Low}
 use Rattle.rules.specs.Visible.{rectsOf}
-use Rattle.rules.specs.Lent.{rectAt, AllFit, Lent}
-use Rattle.rules.proofs.Lent.{rect-later, four-set}
+use Rattle.rules.specs.Lent.{AllFit, Lent}
+use Rattle.rules.proofs.Lent.{rect-later}
 use Rattle.order.specs.declared.rects.Rects.{Rects}
 use Rattle.order.specs.Rects.{Holds, listed, Added, fullRect}
 

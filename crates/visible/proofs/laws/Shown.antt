@@ -9,7 +9,7 @@ use lib.ListN.{length, drop, drop-of-length-le}
 use Rattle.geom.specs.declared.Rect.{Rect}
 use Rattle.geom.specs.Geom.{rect, left, top, width, height, bottom, meets, common}
 use Rattle.geom.specs.Inner.{Fits, Within}
-use Rattle.geom.specs.Lists.{relative, meetsOf}
+use Rattle.geom.specs.Lists.{relative, meetsOf, rectAt}
 use Rattle.geom.proofs.basics.Tests.{cond-yes, cond-no}
 use Rattle.geom.proofs.geometry.Facts.{says-meet, common-within}
 use Rattle.scanline.specs.Pixels.{writeRows, part}
@@ -18,7 +18,6 @@ use Rattle.shade.specs.Shade.{tone}
 use Rattle.scanline.proofs.rows.Written.{rows-same}
 use Rattle.rules.specs.Redraw.{drawRegion}
 use Rattle.rules.specs.Visible.{rectsOf}
-use Rattle.rules.specs.Lent.{rectAt}
 use Rattle.rules.proofs.Lent.{length-rects, rects-next}
 use Rattle.visible.specs.declared.region.View.{View}
 use Rattle.visible.specs.Seen.{Drawable, own, drawn, regions}

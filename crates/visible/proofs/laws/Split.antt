@@ -10,17 +10,17 @@ use lib.Seq.{sets, sets-eq}
 use Rattle.geom.specs.declared.Rect.{Rect}
 use Rattle.geom.specs.Geom.{isEmpty, meets, common, ifAny, pieceAbove, pieceLeft, pieceRight, pieceBelow, around}
 use Rattle.geom.specs.Inner.{Within}
-use Rattle.geom.specs.Lists.{outsideAll, relative, numbers}
+use Rattle.geom.specs.Lists.{outsideAll, relative, numbers, rectAt}
 use Rattle.geom.proofs.geometry.Facts.{says-meet, common-within}
+use Rattle.geom.proofs.geometry.Numbers.{length-numbers}
 use Rattle.rules.specs.Visible.{rectsOf}
-use Rattle.rules.specs.Lent.{rectAt}
 use Rattle.rules.proofs.Lent.{length-rects, rects-next}
 use Rattle.visible.specs.declared.region.View.{View}
 use Rattle.visible.specs.Seen.{Missed, seen, amount, regions, drawn}
 use Rattle.visible.proofs.laws.Depth.{outsideAll-append, outsideAll-end, outsideAll-miss, outsideAll-met, four}
 use Rattle.visible.proofs.laws.Parts.{above-within, left-within, right-within, below-within}
 use Rattle.visible.proofs.laws.Regions.{seen-append, seen-end, length-seen, regions-same, regions-append}
-use Rattle.visible.proofs.laws.Turns.{length-numbers, length-four, amount-four, Written, written-both, drawn-both}
+use Rattle.visible.proofs.laws.Turns.{length-four, amount-four, Written, written-both, drawn-both}
 
 -- Rectangles that are missed -------------------------------------------------------------------------------------------
 

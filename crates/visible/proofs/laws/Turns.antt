@@ -1,12 +1,12 @@
 -- One piece after the other: counted, written and drawn they give the same as the pieces together.
-use Prim.Native.Nat.{ℕ, suc, _+_, _-_, _*_, _/_, _≤_}
+use Prim.Native.Nat.{ℕ, _+_, _-_, _*_, _/_, _≤_}
 use mathlib.Core.Path.{_≡_, refl, sym, ap, _∙_}
 use mathlib.Core.Bool.{Bool, true, false}
 use mathlib.Core.List.{List, [], _∷_, _++_}
 use native.Mathlib.Omega.{arith}
-use native.Mathlib.Nat.{mul-le-mul, mul-le-mul-left, le-trans, add-zero, add-suc, suc-add}
+use native.Mathlib.Nat.{mul-le-mul, mul-le-mul-left, le-trans}
 use lib.Dec.{leb}
-use lib.ListN.{length, drop, set, length-append, length-drop}
+use lib.ListN.{length, drop, length-append, length-drop}
 use lib.Seq.{sets}
 use Rattle.geom.specs.declared.Rect.{Rect}
 use Rattle.geom.specs.Geom.{width, height}
@@ -16,6 +16,7 @@ use Rattle.geom.specs.Lists.{outsideAll, numbers, most}
 use Rattle.geom.proofs.basics.Tests.{says-le, passes, same}
 use Rattle.geom.proofs.geometry.Bound.{outsideAll-few}
 use Rattle.geom.proofs.geometry.Areas.{remains-most}
+use Rattle.geom.proofs.geometry.Numbers.{written-append}
 use Rattle.rules.specs.Visible.{rectsOf}
 use Rattle.rules.proofs.Lent.{length-rects}
 use Rattle.visible.specs.declared.region.View.{View}
@@ -67,29 +68,6 @@ places n len = same (says-le n (len / 4)) (says-le (4 * n) len) (λ h. omega ari
 pub places-most : (a : Rect) (n : ℕ) (l : List ℕ) (m len : ℕ) → m ≡ most n → m ≤ len / 4
     → true ≡ leb (4 * length (outsideAll (a ∷ []) (rectsOf n l))) len
 places-most a n l m len e h = passes (says-le (4 * length (outsideAll (a ∷ []) (rectsOf n l))) len) (omega (arith, at-most a n l))
-
--- Numbers ------------------------------------------------------------------------------------------------------------
-
-sets-append : (xs ys l : List ℕ) (i : ℕ) → sets l i (xs ++ ys) ≡ sets (sets l i xs) (i + length xs) ys
-sets-append [] ys l i = rw add-zero refl
-sets-append (x ∷ xs) ys l i = rw (sets-append xs ys (set l i x) (suc i), add-suc, suc-add) refl
-
-numbers-append : (xs ys : List Rect) → numbers (xs ++ ys) ≡ numbers xs ++ numbers ys
-numbers-append [] ys = refl
-numbers-append (x ∷ xs) ys = rw (numbers-append xs ys) refl
-
-pub length-numbers : (rs : List Rect) → length (numbers rs) ≡ 4 * length rs
-length-numbers [] = refl
-length-numbers (r ∷ rs) = rw (length-numbers rs) (omega arith)
-
--- the numbers of rectangles from the k-th on, and then of more
-written-append : (xs ys : List Rect) (l : List ℕ) (k : ℕ)
-    → sets l (4 * k) (numbers (xs ++ ys)) ≡ sets (sets l (4 * k) (numbers xs)) (4 * (k + length xs)) (numbers ys)
-written-append xs ys l k =
-    let e : 4 * k + length (numbers xs) ≡ 4 * (k + length xs) = omega (arith, length-numbers xs) in
-    ap (sets l (4 * k)) (numbers-append xs ys)
-    ∙ sets-append (numbers xs) (numbers ys) l (4 * k)
-    ∙ ap (λ (j : ℕ). sets (sets l (4 * k) (numbers xs)) j (numbers ys)) e
 
 -- room for one rectangle
 pub room-one : (i n room : ℕ) → n ≡ 1 → 4 * (i + n) ≤ room → 4 * (i + 1) ≤ room

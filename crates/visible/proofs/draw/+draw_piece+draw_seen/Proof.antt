@@ -34,7 +34,7 @@ use Rattle.visible.proofs.around.left.Reads as left-reads
 use Rattle.visible.proofs.around.right.Reads as right-reads
 use Rattle.visible.proofs.draw.draw_part.Reads as draw-part-reads
 use Rattle.visible.proofs.rects.first_met.Reads as first-met-reads
-use Rattle.visible.proofs.rects.rect_at.Reads as rect-at-reads
+use Rattle.geom.proofs.inner.numbers.rect_at.Reads as rect-at-reads
 use Rattle.visible.proofs.draw.+draw_piece+draw_seen.{statement}
 use Rattle.visible.proofs.draw.+draw_piece+draw_seen.Tie.{close}
 

@@ -49,9 +49,9 @@ use Rattle.visible.proofs.around.above.Reads as above-reads
 use Rattle.visible.proofs.around.below.Reads as below-reads
 use Rattle.visible.proofs.around.left.Reads as left-reads
 use Rattle.visible.proofs.around.right.Reads as right-reads
-use Rattle.visible.proofs.list.put.Reads as put-reads
+use Rattle.geom.proofs.inner.numbers.put.Reads as put-reads
 use Rattle.visible.proofs.rects.first_met.Reads as first-met-reads
-use Rattle.visible.proofs.rects.rect_at.Reads as rect-at-reads
+use Rattle.geom.proofs.inner.numbers.rect_at.Reads as rect-at-reads
 use Rattle.visible.proofs.rects.relative.Reads as relative-reads
 use Rattle.visible.proofs.list.+write+write_piece.{statement}
 use Rattle.visible.proofs.list.+write+write_piece.Tie.{close}
