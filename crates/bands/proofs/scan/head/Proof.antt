@@ -1,0 +1,55 @@
+-- Three stores.
+use native.Mathlib.Omega.{arith}
+use lib.ListN.{length-set}
+use borrow.Author.Needs.{needs}
+use Rattle.bands.proofs.scan.head.Statement.{statement}
+use Rattle.bands.proofs.scan.head.Tie as tie
+
+mul-nums : tie.Need-mul-nums
+mul-nums c = search needs
+
+slice-write-nums : tie.Need-slice-write-nums
+slice-write-nums c = search needs
+
+add-nums : tie.Need-add-nums
+add-nums c = search needs
+
+mul-nums-2 : tie.Need-mul-nums-2
+mul-nums-2 c = search needs
+
+slice-write-nums-2 : tie.Need-slice-write-nums-2
+slice-write-nums-2 c = simp length-set (omega arith)
+
+cast-nums : tie.Need-cast-nums
+cast-nums c = search needs
+
+add-nums-2 : tie.Need-add-nums-2
+add-nums-2 c = search needs
+
+mul-nums-3 : tie.Need-mul-nums-3
+mul-nums-3 c = search needs
+
+slice-write-nums-3 : tie.Need-slice-write-nums-3
+slice-write-nums-3 c = simp length-set (omega arith)
+
+same-length : tie.Need-same-length
+same-length c = search needs
+
+returns : tie.Need-returns
+returns c = search needs
+
+pub head-spec : {M : Type 1} → statement M
+head-spec =
+    tie.close
+    (tie.spec
+    mul-nums
+    slice-write-nums
+    add-nums
+    mul-nums-2
+    slice-write-nums-2
+    cast-nums
+    add-nums-2
+    mul-nums-3
+    slice-write-nums-3
+    same-length
+    returns)

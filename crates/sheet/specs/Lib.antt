@@ -1,0 +1,12 @@
+-- What everybody must believe of region sheets.
+pub mod Sheet
+pub mod Bytes
+pub mod Cursor
+pub mod Reader
+pub mod Checks
+pub mod Numbers
+pub mod Writer
+pub mod Canon
+pub mod Size
+pub mod Promises
+pub mod Examples
