@@ -4,7 +4,7 @@
 // Before `roq_start` the memory holds zeros or a session; before any other call, a session that `roq_start` and later calls left.
 ghost use mathlib.Core.Path.{_≡_};
 ghost use Rattle.rules.specs.Calls.{Call};
-ghost use Rattle.windows.specs.View.{group, done, written, Given, Meets, MeetsStore, MeetsAltered, MeetsScreen, Starts, Lists, Shares, Hits, Looks, placed};
+ghost use Rattle.windows.specs.View.{group, done, written, Given, Meets, MeetsStore, MeetsAltered, MeetsScreen, Starts, Lists, Prints, Shares, Hits, Looks, placed};
 ghost use Rattle.rules.specs.DisplayAt.{displayAt};
 ghost use Rattle.station.specs.Answers.{Creates, Pops, displayed};
 ghost use Rattle.station.specs.Events.{eventOf, Routes};
@@ -18,6 +18,7 @@ use crate::values::RoqDisplay;
 use crate::values::RoqPopped;
 use geom::Rect;
 use order::WinId;
+use sheet::Count;
 use winbuf::Altered;
 use windows::InView;
 use windows::Listing;
@@ -339,6 +340,14 @@ pub extern "C" fn roq_visible(s: &Session, id: WinId, list: &mut [u32]) -> Listi
     ensures { λ r. ⌜ Lists (group (now (s .entry))) (id .0) (now (list .entry)) r (now (list .exit)) ⌝ }
 {
     (*s).visible(id, list)
+}
+
+#[no_mangle]
+pub extern "C" fn roq_sheet(s: &Session, id: WinId, bytes: &mut [u8]) -> Count
+    requires { ⌜ Given (now s) ⌝ }
+    ensures { λ r. ⌜ Prints (group (now (s .entry))) (id .0) (now (bytes .entry)) r (now (bytes .exit)) ⌝ }
+{
+    (*s).sheet(id, bytes)
 }
 
 #[no_mangle]

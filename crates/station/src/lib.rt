@@ -7,5 +7,6 @@ mod events;
 mod looks;
 mod pixels;
 mod rects;
+mod sheets;
 mod times;
 mod values;

@@ -16,6 +16,7 @@ pub mod Dims
 pub mod Updated
 pub mod Listed
 pub mod InView
+pub mod Printed
 pub mod Hits
 pub mod Looked
 pub mod Full

@@ -8,6 +8,7 @@ use lib.ListN.{length, getD}
 use Rattle.geom.specs.Questions.{_is_, asked}
 use Rattle.geom.specs.Geom.{rect}
 use Rattle.winbuf.specs.declared.Altered.{Altered}
+use Rattle.sheet.specs.declared.Count.{Count}
 use Rattle.look.specs.declared.Look.{Look}
 use Rattle.window.specs.declared.Window.{Window}
 use Rattle.window.specs.declared.Event.{Event}
@@ -20,6 +21,7 @@ use Rattle.rules.specs.Hits.{hits}
 use Rattle.rules.specs.Look.{look}
 use Rattle.rules.specs.DisplayAt.{displayAt}
 use Rattle.rules.specs.Visible.{visibleList}
+use Rattle.rules.specs.Sheets.{sheet}
 use Rattle.rules.specs.Calls.{Call, does, after}
 use Rattle.order.specs.declared.due.Walk.{Walk}
 use Rattle.order.specs.Ids.{ids, heldOf}
@@ -164,6 +166,12 @@ pub record Shares (g : Group) (id : ℕ) (r : InView) : Type 0 where
   pub answer : r .answer ≡ share g id .answer
   pub percent : r .percent ≡ share g id .percent
   pub remainder : r .remainder ≡ share g id .remainder
+
+-- the sheet of the visible part: answer, byte count and the lent buffer are the rule's
+pub record Prints (g : Group) (id : ℕ) (lent : List ℕ) (r : Count) (after : List ℕ) : Type 0 where
+  pub answer : r .answer ≡ sheet g id lent .answer
+  pub count : r .count ≡ sheet g id lent .count
+  pub bytes : after ≡ sheet g id lent .bytes
 
 -- many points: the answer and the lent list are the rule's
 pub record Hits (g : Group) (points before : List ℕ) (a : ℕ) (after : List ℕ) : Type 0 where

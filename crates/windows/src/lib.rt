@@ -32,6 +32,7 @@ pub mod one;
 pub mod portion;
 pub mod redraw;
 mod share;
+mod sheets;
 mod small;
 pub mod store;
 mod zoom;

@@ -14,6 +14,8 @@ use Rattle.geom.proofs.Rect as Rect
 use Rattle.geom.proofs.Rect.Laws as Rect′
 use Rattle.winbuf.proofs.Altered as Altered
 use Rattle.winbuf.proofs.Altered.Laws as Altered′
+use Rattle.sheet.proofs.Count as Count
+use Rattle.sheet.proofs.Count.Laws as Count′
 use Rattle.window.proofs.Window as Window
 use Rattle.window.proofs.Window.Laws as Window′
 use Rattle.display.proofs.Displays as Displays
@@ -108,6 +110,9 @@ altered = ofStruct Altered.the-type Altered′.the-laws Altered′.the-plain Alt
 
 abbrev pub listing : Plain
 listing = ofStruct Listing.the-type Listing′.the-laws Listing′.the-plain Listing′.mir refl
+
+abbrev pub count : Plain
+count = ofStruct Count.the-type Count′.the-laws Count′.the-plain Count′.mir refl
 
 abbrev pub inView : Plain
 inView = ofStruct InView.the-type InView′.the-laws InView′.the-plain InView′.mir refl

@@ -1,0 +1,88 @@
+-- Question 3, then the sheet of a window that has a place; a hidden window has the sheet without bands.
+use mathlib.Core.Path.{refl, sym, ap, _∙_}
+use native.Mathlib.Omega.{arith}
+use Rattle.sheet.specs.Numbers.{bandsIn, endIn}
+use Rattle.order.specs.Order.{idxOf}
+use Rattle.windows.proofs.laws.Session.{used-at, used-past}
+use Rattle.windows.proofs.laws.Printed.{hidden-prints, no-sheet}
+use borrow.Author.Needs.{needs}
+use Rattle.windows.proofs.Session.sheet.Statement.{statement}
+use Rattle.windows.proofs.Session.sheet.Tie as tie
+
+cast-at : tie.Need-cast-at
+cast-at c = search needs
+
+frames-requires : tie.Need-frames-requires
+frames-requires c κs = search needs
+
+array-read-if2 : tie.Need-array-read-if2
+array-read-if2 c = search needs
+
+get-render-idx-requires : tie.Need-get-render-idx-requires
+get-render-idx-requires c κs = search needs
+
+enum-known-idx : tie.Need-enum-known-idx
+enum-known-idx c = search needs
+
+sheet-shown-requires : tie.Need-sheet-shown-requires
+sheet-shown-requires c κs =
+    let i = c .before .before .before .before in
+    (i .before .before .before .before .before .before .before .pre, sym (ap idxOf (c .before .before .idx .given .1)) ∙ i .get-render-idx .ensures)
+
+same-length : tie.Need-same-length
+same-length c = search needs
+
+returns : tie.Need-returns
+returns c = search needs
+
+enum-told : tie.Need-enum-told
+enum-told c = search needs
+
+slice-aggregate-write : tie.Need-slice-aggregate-write
+slice-aggregate-write c = search needs
+
+write-requires : tie.Need-write-requires
+unfolding endIn
+write-requires c κs = (omega arith, refl, omega arith, omega arith)
+
+same-length-2 : tie.Need-same-length-2
+same-length-2 c = search needs
+
+returns-2 : tie.Need-returns-2
+unfolding bandsIn
+returns-2 c =
+    let w = c .before .before in
+    let e = w .before .before .before in
+    let i = e .before .before in
+    let u = i .before .before in
+    let f = u .before .before in
+    let s = f .before .before .before in
+    hidden-prints _ _ _ _ _ (s .pre) (sym (f .frames .ensures .used _ (f .before .if1 .taken)) ∙ u .if2 .taken) (sym (ap idxOf (e .enum-told .given .1)) ∙ i .get-render-idx .ensures) (w .write .ensures)
+
+returns-3 : tie.Need-returns-3
+returns-3 c =
+    let f = c .before .before in
+    no-sheet _ _ _ (used-at _ _ ∙ sym (f .frames .ensures .used _ (f .before .if1 .taken)) ∙ c .if2 .left)
+
+returns-4 : tie.Need-returns-4
+returns-4 c = no-sheet _ _ _ (used-past _ _ (c .before .before .pre .rep) (c .if1 .left))
+
+pub sheet-spec : {M : Type 1} → statement M
+sheet-spec =
+    tie.close
+    (tie.spec
+    cast-at
+    frames-requires
+    array-read-if2
+    get-render-idx-requires
+    enum-known-idx
+    sheet-shown-requires
+    same-length
+    returns
+    enum-told
+    slice-aggregate-write
+    write-requires
+    same-length-2
+    returns-2
+    returns-3
+    returns-4)
