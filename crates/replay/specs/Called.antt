@@ -123,4 +123,4 @@ OnTarget k = (k ≡ Kind.look) ⊎ (k ≡ Kind.look-fit)
 abbrev pub isLent : ℕ → Bool
 isLent k =
     within Kind.resize Kind.blit k
-    || (eqb k Kind.redraw || (eqb k Kind.portion || (eqb k Kind.visible || (eqb k Kind.hits || (eqb k Kind.look || (eqb k Kind.look-fit || (within Kind.screen Kind.region k || within Kind.maximise Kind.update-dims k)))))))
+    || (eqb k Kind.redraw || (eqb k Kind.portion || (eqb k Kind.visible || (eqb k Kind.hits || (eqb k Kind.look || (eqb k Kind.look-fit || (eqb k Kind.read-sheet || (within Kind.screen Kind.region k || within Kind.maximise Kind.update-dims k))))))))

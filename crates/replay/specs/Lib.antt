@@ -3,4 +3,5 @@ pub mod Numbers
 pub mod Called
 pub mod Ready
 pub mod Looks
+pub mod Sheets
 pub mod Played

@@ -21,7 +21,7 @@ use Rattle.windows.specs.View.{group, Meets}
 use Rattle.replay.specs.declared.player.Player.{Player}
 use Rattle.replay.specs.Numbers.{num, idOf}
 use Rattle.replay.specs.Called.{Picked, plainCall, storeCall, OnScreen, screenCall, OnTarget}
-use Rattle.replay.specs.Ready.{Next, lendStore, lendScreen, unset, lendList, unlisted, lendTarget, untargeted, counted}
+use Rattle.replay.specs.Ready.{Next, lendStore, lendScreen, unset, lendList, unlisted, lendTarget, untargeted, lendSheet, unsheeted, counted}
 use Rattle.replay.specs.Looks.{targetLen}
 
 -- "The program owns one store, one screen"
@@ -86,15 +86,17 @@ pub record Draws (k : ℕ) (ns : List ℕ) (len : ℕ) (p : Player) (store scree
 
 -- "A `start` whose C document 01 accepts but whose store the program cannot lend (C from 65,537 on), a `lend`, `lend-screen` or
 -- `lend-list` above those limits, and a `redraw` or `portion` (with no `lend-screen` pending) … of more than 384,000 pixels are answered by
--- `!`, and nothing is called." The same holds of a `look` of more than 65,536 pixels and of a `lend-target` above that
+-- `!`, and nothing is called." The same holds of a `look` of more than 65,536 pixels, of a `lend-target` above that
+-- and of a `lend-sheet` above 2,048
 pub data Beyond (k : ℕ) (ns : List ℕ) (p : Player) : Type 0 where
   no-start : k ≡ Kind.start → 65536 < num ns 0 → num ns 0 ≤ 1048576 → Beyond k ns p
   no-redraw : OnScreen k → 384000 < screenLen p k ns → Beyond k ns p
   no-store : k ≡ Kind.lend → 1048576 < num ns 0 → Beyond k ns p
   no-screen : k ≡ Kind.lend-screen → 384000 < num ns 0 → Beyond k ns p
-  no-list : k ≡ Kind.lend-list → 1984 < num ns 0 → Beyond k ns p
+  no-list : k ≡ Kind.lend-list → 7812 < num ns 0 → Beyond k ns p
   no-look : OnTarget k → 65536 < targetLen p k ns → Beyond k ns p
   no-target : k ≡ Kind.lend-target → 65536 < num ns 0 → Beyond k ns p
+  no-sheet : k ≡ Kind.lend-sheet → 2048 < num ns 0 → Beyond k ns p
 
 -- the player p with the pixels a is r with the pixels b after the line l with the numbers ns
 pub data Plays (l : Line) (ns : List ℕ) (p : Player) (a : Pixels) (r : Player) (b : Pixels) : Type 0 where
@@ -117,7 +119,7 @@ pub data Plays (l : Line) (ns : List ℕ) (p : Player) (a : Pixels) (r : Player)
   -- "from here on lend a store of STORE pixels, until the next `start`"
   lends : l .kind ≡ Kind.lend → num ns 0 ≤ 1048576 → Next (lendStore (num ns 0) p) (p .session) r → b ≡ a → Plays l ns p a r b
   lends-screen : l .kind ≡ Kind.lend-screen → num ns 0 ≤ 384000 → Next (lendScreen (num ns 0) p) (p .session) r → b ≡ a → Plays l ns p a r b
-  lends-list : l .kind ≡ Kind.lend-list → num ns 0 ≤ 1984 → Next (lendList (num ns 0) p) (p .session) r → b ≡ a → Plays l ns p a r b
+  lends-list : l .kind ≡ Kind.lend-list → num ns 0 ≤ 7812 → Next (lendList (num ns 0) p) (p .session) r → b ≡ a → Plays l ns p a r b
   -- event times
   asks-busiest : l .kind ≡ Kind.busiest → Next p (p .session) r → b ≡ a → Plays l ns p a r b
   -- "the share of the window that no higher window covers"
@@ -127,6 +129,11 @@ pub data Plays (l : Line) (ns : List ℕ) (p : Player) (a : Pixels) (r : Player)
   -- "the target has TW × TH pixels", or as many as `lend-target` said, which it uses up
   asks-look : OnTarget (l .kind) → targetLen p (l .kind) ns ≤ 65536 → Next (untargeted p) (p .session) r → b ≡ a → Plays l ns p a r b
   lends-target : l .kind ≡ Kind.lend-target → num ns 0 ≤ 65536 → Next (lendTarget (num ns 0) p) (p .session) r → b ≡ a → Plays l ns p a r b
+  -- "the list lent has 7,812 numbers", or as many as `lend-list` said, which it uses up
+  reads-sheet : l .kind ≡ Kind.read-sheet → Next (unlisted p) (p .session) r → b ≡ a → Plays l ns p a r b
+  -- "the buffer lent has 2,048 bytes", or as many as `lend-sheet` said, which it uses up
+  asks-sheet : l .kind ≡ Kind.sheet → Next (unsheeted p) (p .session) r → b ≡ a → Plays l ns p a r b
+  lends-sheet : l .kind ≡ Kind.lend-sheet → num ns 0 ≤ 2048 → Next (lendSheet (num ns 0) p) (p .session) r → b ≡ a → Plays l ns p a r b
   -- "no call"; bare geometry and bare pixels
   shows : Kind.screen ≤ l .kind → l .kind ≤ Kind.region → Next p (p .session) r → b ≡ a → Plays l ns p a r b
 

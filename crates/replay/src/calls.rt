@@ -16,6 +16,7 @@ use crate::lend;
 use crate::numbers;
 use crate::player::Player;
 use crate::share;
+use crate::sheets;
 use crate::text;
 use crate::times;
 use script::Line;
@@ -66,6 +67,8 @@ pub fn call(p: Player, line: Line, ns: &[u32; 4200], out: &mut [u8; 65536]) -> P
         kind::SHARE => share::share(p, ns, out),
         kind::LEND_TARGET => lend::lend_target(p, ns, out),
         kind::DISPLAY_AT => displays::display_at(p, ns, out),
+        kind::SHEET => sheets::sheet(p, ns, out),
+        kind::LEND_SHEET => lend::lend_sheet(p, ns, out),
         _ => {
             let s = p.session;
             let done = plain(s, line, ns);

@@ -20,8 +20,8 @@ fn asked(s: Session, ns: &[u32], count: usize, list: &mut [u32], len: usize) -> 
     s.hits(&ns[..count], &mut list[0..len])
 }
 
-fn put(answer: u32, n: usize, list: &[u32; 1984], out: &mut [u8; 65536], at: usize) -> usize
-    requires { ⌜ (answer ≡ 0 → n ≤ 1984) × (at ≤ 65536) ⌝ }
+fn put(answer: u32, n: usize, list: &[u32; 7812], out: &mut [u8; 65536], at: usize) -> usize
+    requires { ⌜ (answer ≡ 0 → n ≤ 7812) × (at ≤ 65536) ⌝ }
     ensures { λ r. ⌜ r ≤ 65536 ⌝ }
 {
     if answer == 0 {
@@ -36,7 +36,7 @@ pub fn hits(
     mut p: Player,
     line: Line,
     ns: &[u32; 4200],
-    list: &mut [u32; 1984],
+    list: &mut [u32; 7812],
     out: &mut [u8; 65536],
 ) -> Player
     requires { ⌜ Ready p × Sound line (now ns) ⌝ }

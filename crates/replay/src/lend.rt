@@ -183,8 +183,8 @@ pub fn redraw(
 
 // How many numbers of the list a line is lent: what was said, or as many as else.
 pub fn list_len(p: Player, other: usize) -> usize
-    requires { ⌜ Ready p × (other ≤ 1984) ⌝ }
-    ensures { λ r. ⌜ (r ≡ listLen other p) × (r ≤ 1984) ⌝ }
+    requires { ⌜ Ready p × (other ≤ 7812) ⌝ }
+    ensures { λ r. ⌜ (r ≡ listLen other p) × (r ≤ 7812) ⌝ }
 {
     if p.has_list {
         return p.list;
@@ -206,23 +206,30 @@ pub fn put_list(list: &[u32], n: usize, out: &mut [u8; 65536], at: usize) -> usi
     text::all(out, at, &list[0..n])
 }
 
-fn put_listing(found: Listing, list: &[u32; 1984], out: &mut [u8; 65536], at: usize) -> usize
-    requires { ⌜ (4 * found .count ≤ 1984) × (at ≤ 65536) ⌝ }
+// A line of the answer and, where it is 0, how many rectangles there are and then these, which stand at the front of the list.
+pub fn put_rects(
+    answer: u32,
+    count: usize,
+    list: &[u32; 7812],
+    out: &mut [u8; 65536],
+    at: usize,
+) -> usize
+    requires { ⌜ (4 * count ≤ 7812) × (at ≤ 65536) ⌝ }
     ensures { λ r. ⌜ r ≤ 65536 ⌝ }
 {
-    if found.answer == 0 {
+    if answer == 0 {
         let to = text::number(out, at, 0);
-        let then = text::more(out, to, found.count as u32);
-        let last = put_list(list, 4 * found.count, out, then);
+        let then = text::count(out, to, count);
+        let last = put_list(list, 4 * count, out, then);
         return text::end(out, last);
     }
-    text::answer(out, at, found.answer)
+    text::answer(out, at, answer)
 }
 
 pub fn visible(
     mut p: Player,
     ns: &[u32; 4200],
-    list: &mut [u32; 1984],
+    list: &mut [u32; 7812],
     out: &mut [u8; 65536],
 ) -> Player
     requires { ⌜ Ready p ⌝ }
@@ -232,7 +239,7 @@ pub fn visible(
     let len = list_len(p, 1984);
     let found = listed(s, ns, list, len);
     p.has_list = false;
-    p.at = put_listing(found, list, out, p.at);
+    p.at = put_rects(found.answer, found.count, list, out, p.at);
     p
 }
 
@@ -267,7 +274,7 @@ pub fn lend_list(mut p: Player, ns: &[u32; 4200], out: &mut [u8; 65536]) -> Play
     ensures { λ r. ⌜ PlaysAt Kind.lend-list (now (ns .entry)) p r ⌝ }
 {
     let n = numbers::wide(ns[0]);
-    if n <= 1984 {
+    if n <= 7812 {
         p.has_list = true;
         p.list = n;
         return p.accepted(out);
@@ -283,6 +290,19 @@ pub fn lend_target(mut p: Player, ns: &[u32; 4200], out: &mut [u8; 65536]) -> Pl
     if n <= 65536 {
         p.has_target = true;
         p.target = n;
+        return p.accepted(out);
+    }
+    p.refused(out)
+}
+
+pub fn lend_sheet(mut p: Player, ns: &[u32; 4200], out: &mut [u8; 65536]) -> Player
+    requires { ⌜ Ready p ⌝ }
+    ensures { λ r. ⌜ PlaysAt Kind.lend-sheet (now (ns .entry)) p r ⌝ }
+{
+    let n = numbers::wide(ns[0]);
+    if n <= 2048 {
+        p.has_sheet = true;
+        p.sheet = n;
         return p.accepted(out);
     }
     p.refused(out)

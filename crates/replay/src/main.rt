@@ -14,6 +14,7 @@ mod picture;
 mod pixels;
 mod player;
 mod share;
+mod sheets;
 mod show;
 mod text;
 mod times;
@@ -27,8 +28,8 @@ fn screen_pixels() -> [u32; 384000] {
     [0u32; 384000]
 }
 
-fn list_numbers() -> [u32; 1984] {
-    [0u32; 1984]
+fn list_numbers() -> [u32; 7812] {
+    [0u32; 7812]
 }
 
 fn line_numbers() -> [u32; 4200] {

@@ -12,6 +12,7 @@ use crate::hits;
 use crate::lend;
 use crate::looks;
 use crate::pixels;
+use crate::sheets;
 use crate::show;
 use crate::text;
 use script::Line;
@@ -20,9 +21,9 @@ use windows::Done;
 use windows::Session;
 use windows::Written;
 
-// `lent` pixels of the store are lent. The next redraw or portion is lent `screen` pixels where `is_set`, the next visible list or hits `list`
-// numbers where `has_list`, and the next look `target` pixels where `has_target`. `at` bytes of the output wait to be written; `lines` lines have
-// been read.
+// `lent` pixels of the store are lent. The next redraw or portion is lent `screen` pixels where `is_set`, the next visible list, hits or
+// reader of a sheet `list` numbers where `has_list`, the next look `target` pixels where `has_target`, and the next sheet `sheet` bytes where
+// `has_sheet`. `at` bytes of the output wait to be written; `lines` lines have been read.
 pub struct Player {
     pub session: Session,
     pub lent: usize,
@@ -32,6 +33,8 @@ pub struct Player {
     pub list: usize,
     pub has_target: bool,
     pub target: usize,
+    pub has_sheet: bool,
+    pub sheet: usize,
     pub at: usize,
     pub lines: u64,
 }
@@ -52,6 +55,8 @@ impl Player {
             list: 0,
             has_target: false,
             target: 0,
+            has_sheet: false,
+            sheet: 0,
             at: 0,
             lines: 0,
         }
@@ -167,7 +172,7 @@ impl Player {
         name: &[u8; 64],
         store: &mut [u32; 1048576],
         screen: &mut [u32; 384000],
-        list: &mut [u32; 1984],
+        list: &mut [u32; 7812],
         out: &mut [u8; 65536],
     ) -> Player
         requires { ⌜ Ready self × Sound line (now ns) ⌝ }
@@ -181,6 +186,7 @@ impl Player {
             kind::REDRAW | kind::PORTION => lend::redraw(self, line, ns, store, screen, out),
             kind::VISIBLE => lend::visible(self, ns, list, out),
             kind::HITS => hits::hits(self, line, ns, list, out),
+            kind::READ_SHEET => sheets::read_sheet(self, line, ns, list, out),
             kind::LOOK | kind::LOOK_FIT => looks::look(self, line, ns, store, out),
             kind::SCREEN..=kind::REGION => self.shown(line, ns, name, store, screen, out),
             _ => calls::call(self, line, ns, out),

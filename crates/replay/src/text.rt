@@ -126,6 +126,26 @@ pub fn all(out: &mut [u8; 65536], at: usize, list: &[u32]) -> usize
     to
 }
 
+fn wide(b: u8) -> u32
+    ensures { λ r. ⌜ r ≡ b ⌝ }
+{
+    b as u32
+}
+
+// The same of bytes.
+pub fn bytes(out: &mut [u8; 65536], at: usize, list: &[u8]) -> usize
+    requires { ⌜ at ≤ 65536 ⌝ }
+    ensures { λ r. ⌜ r ≤ 65536 ⌝ }
+{
+    let mut to = at;
+    let mut i: usize = 0;
+    while i < list.len() {
+        to = more(out, to, wide(list[i]));
+        i += 1;
+    }
+    to
+}
+
 // A line of an answer alone.
 pub fn answer(out: &mut [u8; 65536], at: usize, answer: u32) -> usize
     requires { ⌜ at ≤ 65536 ⌝ }

@@ -26,8 +26,9 @@ pub calls : ("start 4294967295" means call Kind.start (4294967295 ∷ []) [])
     × ("hits 8 2 9" means call Kind.hits (8 ∷ 2 ∷ 9 ∷ []) [])
     × ("dim 0" means call Kind.dim (0 ∷ []) [])
     × ("layer 3 2" means call Kind.layer (3 ∷ 2 ∷ []) [])
+    × ("read-sheet 4 255" means call Kind.read-sheet (4 ∷ 255 ∷ []) [])
 unfolding split words value number nameByte isName table kindOf counted ranged nameFits accepts withWord complete hears
-calls = (refl, refl, refl, refl, refl, refl, refl, refl, refl, refl, refl, refl, refl, refl, refl)
+calls = (refl, refl, refl, refl, refl, refl, refl, refl, refl, refl, refl, refl, refl, refl, refl, refl)
 
 pub no-calls : ("" means silent)
     × ("# start 1" means silent)
@@ -42,16 +43,19 @@ pub no-calls : ("" means silent)
     × ("begin 2" means malformed)
     × ("dim 2" means malformed)
     × ("layer 3" means malformed)
+    × ("read-sheet 4 256" means malformed)
     × ("set-scanline 2 2 0 0 1 2 7" means malformed)
     × ("picture 8 4 .ppm" means malformed)
     × ("picture 8 4" means malformed)
 unfolding split words value number nameByte isName table kindOf counted ranged nameFits accepts withWord complete hears
-no-calls = (refl, refl, refl, refl, refl, refl, refl, refl, refl, refl, refl, refl, refl, refl, refl, refl)
+no-calls = (refl, refl, refl, refl, refl, refl, refl, refl, refl, refl, refl, refl, refl, refl, refl, refl, refl)
 
 -- the most numbers of a line
 pub most : (counted Kind.blit 4102 ≡ true)
     × (counted Kind.blit 4103 ≡ false)
     × (counted Kind.busiest 4200 ≡ true)
     × (counted Kind.busiest 4201 ≡ false)
+    × (counted Kind.read-sheet 4096 ≡ true)
+    × (counted Kind.read-sheet 4097 ≡ false)
 unfolding table counted
-most = (refl, refl, refl, refl)
+most = (refl, refl, refl, refl, refl, refl)

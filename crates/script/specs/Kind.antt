@@ -166,6 +166,15 @@ maximise = 53
 abbrev pub update-dims : ℕ
 update-dims = 54
 
+abbrev pub sheet : ℕ
+sheet = 55
+
+abbrev pub read-sheet : ℕ
+read-sheet = 56
+
+abbrev pub lend-sheet : ℕ
+lend-sheet = 57
+
 -- the last of them
 abbrev pub last : ℕ
-last = update-dims
+last = lend-sheet

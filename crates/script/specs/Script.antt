@@ -1,5 +1,5 @@
 -- CALL-SCRIPT.md, "Lines": what the bytes of a line mean. A byte is a number: a space is 32, `#` is 35, the digits are 48 to 57.
-use Prim.Native.Nat.{ℕ, _+_, _*_, _-_, _≤_}
+use Prim.Native.Nat.{ℕ, _+_, _*_, _-_, _≤_, _<_}
 use Prim.Native.String.{String}
 use mathlib.Core.Bool.{Bool, true, false, cond, not, _&&_, _||_}
 use mathlib.Core.List.{List, [], _∷_, _++_, foldl}
@@ -44,10 +44,13 @@ words bs = closed (split bs .ended) (split bs .letters)
 abbrev pub isDigit : ℕ → Bool
 isDigit b = leb 48 b && leb b 57
 
--- every byte of a word passes a test
+-- every one of a list passes a test
 abbrev pub all : (ℕ → Bool) → List ℕ → Bool
 all p [] = true
 all p (b ∷ bs) = p b && all p bs
+
+abbrev pub isByte : ℕ → Bool
+isByte n = leb n 255
 
 -- what the digits of a word say
 unfoldable pub value : List ℕ → ℕ
@@ -73,7 +76,7 @@ isName w = leb (length w) 64 && (noDotFirst w && all nameByte w)
 
 -- Kinds ---------------------------------------------------------------------------------------------------------------
 
--- a row of the tables: the word that a line begins with, the line's kind, how many numbers it has, PIXELS, DATA, points and times not counted,
+-- a row of the tables: the word that a line begins with, the line's kind, how many numbers it has, PIXELS, DATA, points, bytes and times not counted,
 -- and how many of these may follow
 pub record Row : Type 0 where
   pub word : List ℕ
@@ -84,7 +87,8 @@ pub record Row : Type 0 where
 abbrev pub row : String → ℕ → ℕ → Row
 row w k n = record { word = bytes w; kind = k; numbers = n; more = 0 }
 
--- "DATA is 0 to 4,096 numbers"; "PIXELS and DATA are at most 4,096 numbers together"; "0 to 4,096 numbers, x and y in turn"
+-- "DATA is 0 to 4,096 numbers"; "PIXELS and DATA are at most 4,096 numbers together"; "0 to 4,096 numbers, x and y in turn"; "0 to 4,096
+-- numbers, each 0 to 255"
 abbrev pub rowMore : String → ℕ → ℕ → Row
 rowMore w k n = record { word = bytes w; kind = k; numbers = n; more = 4096 }
 
@@ -147,6 +151,9 @@ table =
     ∷ row "display-at" Kind.display-at 2
     ∷ row "maximise" Kind.maximise 1
     ∷ row "update-dims" Kind.update-dims 0
+    ∷ row "sheet" Kind.sheet 1
+    ∷ rowMore "read-sheet" Kind.read-sheet 0
+    ∷ row "lend-sheet" Kind.lend-sheet 1
     ∷ []
 
 abbrev pub sameWord : List ℕ → List ℕ → Bool
@@ -177,7 +184,7 @@ unfoldable pub counted : ℕ → ℕ → Bool
 counted k n = countedBy (rowIn k table) n
 
 -- "B is 0 to 255, else malformed", "B and N are 0 to 255", "FULL is 0 or 1, else malformed", `dim`'s "B is 0 or 1, else malformed",
--- "N is how many DATA come"
+-- "N is how many DATA come"; "each 0 to 255, else malformed"
 unfoldable pub ranged : ℕ → ℕ → List ℕ → Bool
 ranged k n ns =
     cond (eqb k Kind.mousedown) (leb (getD ns 2 0) 255)
@@ -186,7 +193,8 @@ ranged k n ns =
     (cond (eqb k Kind.redraw) (leb (getD ns 0 0) 1)
     (cond (eqb k Kind.begin) (leb (getD ns 0 0) 1)
     (cond (eqb k Kind.dim) (leb (getD ns 0 0) 1)
-    (cond (eqb k Kind.set-scanline) (leb (6 + getD ns 5 0) n) true))))))
+    (cond (eqb k Kind.set-scanline) (leb (6 + getD ns 5 0) n)
+    (cond (eqb k Kind.read-sheet) (all isByte (take n ns)) true)))))))
 
 -- a `picture` has a name, and no other line has
 unfoldable pub nameFits : ℕ → ℕ → Bool
@@ -258,3 +266,4 @@ pub record Shaped (k n m : ℕ) (ns : List ℕ) : Type 0 where
   pub up : k ≡ Kind.mouseup → getD ns 2 0 ≤ 255
   pub click : k ≡ Kind.mouseclick → (getD ns 2 0 ≤ 255) × (getD ns 3 0 ≤ 255)
   pub told : k ≡ Kind.redraw → getD ns 0 0 ≤ 1
+  pub bytes : k ≡ Kind.read-sheet → (n ≤ 4096) × ((i : ℕ) → i < n → getD ns i 0 ≤ 255)

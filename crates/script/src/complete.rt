@@ -3,7 +3,7 @@ ghost use mathlib.Core.Path.{_≡_};
 ghost use mathlib.Core.Bool.{_&&_};
 ghost use lib.ListN.{length};
 ghost use Prim.Native.Nat.{_≤_, _<_, min};
-ghost use Rattle.script.specs.Script.{counted, ranged, nameFits};
+ghost use Rattle.script.specs.Script.{all, isByte, counted, ranged, nameFits};
 ghost use Rattle.script.specs.Machine.{noCall, Checked, Ended};
 use crate::Line;
 use crate::Reading;
@@ -17,6 +17,7 @@ use crate::kind::MOUSEDOWN;
 use crate::kind::MOUSEUP;
 use crate::kind::PASSED;
 use crate::kind::PICTURE;
+use crate::kind::READ_SHEET;
 use crate::kind::REDRAW;
 use crate::kind::SET_SCANLINE;
 use crate::number::MOST;
@@ -35,9 +36,23 @@ fn wide(n: u32) -> usize
     n as usize
 }
 
+// Is each of them a byte's?
+fn are_bytes(numbers: &[u32]) -> bool
+    ensures { λ r. ⌜ r ≡ all isByte (now (numbers .entry)) ⌝ }
+{
+    let mut i: usize = 0;
+    while i < numbers.len() {
+        if numbers[i] > 255 {
+            return false;
+        }
+        i += 1;
+    }
+    true
+}
+
 // Are the numbers of the line those that may stand there?
 fn is_ranged(kind: u8, count: usize, numbers: &[u32]) -> bool
-    requires { ⌜ length (now numbers) ≡ 4200 ⌝ }
+    requires { ⌜ (count ≤ 4200) × (length (now numbers) ≡ 4200) ⌝ }
     ensures { λ r. ⌜ r ≡ ranged kind count (now (numbers .entry)) ⌝ }
 {
     if kind == MOUSEDOWN {
@@ -64,6 +79,9 @@ fn is_ranged(kind: u8, count: usize, numbers: &[u32]) -> bool
     if kind == SET_SCANLINE {
         return 6 + wide(numbers[5]) <= count;
     }
+    if kind == READ_SHEET {
+        return are_bytes(&numbers[..count]);
+    }
     true
 }
 
@@ -89,7 +107,7 @@ fn no_call(kind: u8) -> Line
 
 // Are they, and has it a name if it must?
 fn is_right(kind: u8, count: usize, name: usize, numbers: &[u32]) -> bool
-    requires { ⌜ length (now numbers) ≡ 4200 ⌝ }
+    requires { ⌜ (count ≤ 4200) × (length (now numbers) ≡ 4200) ⌝ }
     ensures { λ r. ⌜ r ≡ ranged kind count (now (numbers .entry)) && nameFits kind name ⌝ }
 {
     if is_ranged(kind, count, numbers) {
@@ -99,7 +117,7 @@ fn is_right(kind: u8, count: usize, name: usize, numbers: &[u32]) -> bool
 }
 
 fn is_call(kind: u8, count: usize, name: usize, numbers: &[u32]) -> bool
-    requires { ⌜ length (now numbers) ≡ 4200 ⌝ }
+    requires { ⌜ (count ≤ 4200) × (length (now numbers) ≡ 4200) ⌝ }
     ensures { λ r. ⌜ r ≡ counted kind count && (ranged kind count (now (numbers .entry)) && nameFits kind name) ⌝ }
 {
     if count::is_counted(kind, count) {

@@ -116,13 +116,19 @@ pub const MAXIMISE: u8 = 53;
 
 pub const UPDATE_DIMS: u8 = 54;
 
+pub const SHEET: u8 = 55;
+
+pub const READ_SHEET: u8 = 56;
+
+pub const LEND_SHEET: u8 = 57;
+
 // The last of them.
-pub const LAST: u8 = UPDATE_DIMS;
+pub const LAST: u8 = LEND_SHEET;
 
 const WORDS: usize = LAST as usize - 1;
 
-// The bytes of a row of the table: how many letters the word has, how many numbers a line has at least, `+` where PIXELS, DATA or points may
-// follow or `*` where times may, and the word.
+// The bytes of a row of the table: how many letters the word has, how many numbers a line has at least, `+` where PIXELS, DATA, points or bytes
+// may follow or `*` where times may, and the word.
 pub const ROW: usize = 19;
 
 // The words in the order of their kinds.
@@ -180,6 +186,9 @@ pub const ROWS: [u8; WORDS * ROW] = *b"\
     \x0a\x02 display-at      \
     \x08\x01 maximise        \
     \x0b\x00 update-dims     \
+    \x05\x01 sheet           \
+    \x0a\x00+read-sheet      \
+    \x0a\x01 lend-sheet      \
     ";
 
 pub fn wide(b: u8) -> usize

@@ -73,9 +73,9 @@ no-target k (inl h) (inr e) = omega arith
 no-target k (inr h) (inl e) = omega arith
 no-target k (inr h) (inr e) = omega arith
 
-pub not-lent : (k : ℕ) → (OnScreen k → ⊥) → (k ≡ Kind.visible → ⊥) → (k ≡ Kind.hits → ⊥) → (OnTarget k → ⊥) → (Kind.resize ≤ k → Kind.blit < k) → (Kind.screen ≤ k → Kind.region < k)
+pub not-lent : (k : ℕ) → (OnScreen k → ⊥) → (k ≡ Kind.visible → ⊥) → (k ≡ Kind.hits → ⊥) → (k ≡ Kind.read-sheet → ⊥) → (OnTarget k → ⊥) → (Kind.resize ≤ k → Kind.blit < k) → (Kind.screen ≤ k → Kind.region < k)
     → (Kind.maximise ≤ k → Kind.update-dims < k) → isLent k ≡ false
-not-lent k o v q t w s m =
+not-lent k o v q d t w s m =
     rw (
       outside Kind.resize Kind.blit k w,
       ne-eqb k Kind.redraw (λ e. o (inl e)),
@@ -84,6 +84,7 @@ not-lent k o v q t w s m =
       ne-eqb k Kind.hits q,
       ne-eqb k Kind.look (λ e. t (inl e)),
       ne-eqb k Kind.look-fit (λ e. t (inr e)),
+      ne-eqb k Kind.read-sheet d,
       outside Kind.screen Kind.region k s,
       outside Kind.maximise Kind.update-dims k m,
     )
@@ -93,7 +94,7 @@ not-lent k o v q t w s m =
 -- the kinds that a function of their own plays, lent no pixels and no list
 abbrev pub own : List ℕ
 own =
-    Kind.passed ∷ Kind.malformed ∷ Kind.start ∷ Kind.create ∷ Kind.pop ∷ Kind.focus ∷ Kind.lend ∷ Kind.lend-screen ∷ Kind.lend-list ∷ Kind.busiest ∷ Kind.share ∷ Kind.lend-target ∷ Kind.display-at ∷ []
+    Kind.passed ∷ Kind.malformed ∷ Kind.start ∷ Kind.create ∷ Kind.pop ∷ Kind.focus ∷ Kind.lend ∷ Kind.lend-screen ∷ Kind.lend-list ∷ Kind.busiest ∷ Kind.share ∷ Kind.lend-target ∷ Kind.display-at ∷ Kind.sheet ∷ Kind.lend-sheet ∷ []
 
 -- the test passes below n
 abbrev below : (ℕ → Bool) → ℕ → Bool

@@ -7,6 +7,8 @@ use native.Mathlib.Omega.{arith}
 use lib.ListN.{length, take, drop}
 use lib.Seq.{length-take-le}
 use Rattle.look.specs.declared.Look.{Look}
+use Rattle.sheet.specs.declared.Count.{Count}
+use Rattle.sheet.specs.Reader.{Reads}
 use Rattle.script.specs.declared.shape.Line.{Line}
 use Rattle.rules.specs.Group.{Group, sessionC}
 use Rattle.rules.specs.Look.{look}
@@ -14,20 +16,21 @@ use Rattle.rules.specs.Calls.{Call}
 use Rattle.windows.specs.declared.Session.{Session}
 use Rattle.windows.specs.declared.Done.{Done}
 use Rattle.windows.specs.declared.Listing.{Listing}
-use Rattle.windows.specs.View.{group, Meets, MeetsStore, MeetsScreen, Starts, Lists, Hits, Looks}
+use Rattle.windows.specs.View.{group, Meets, MeetsStore, MeetsScreen, Starts, Lists, Hits, Looks, Prints}
 use Rattle.replay.specs.declared.player.Player.{Player}
 use Rattle.replay.specs.Ready.{Ready, Next, lendStore}
 use Rattle.replay.specs.Played.{Pixels, Makes, Begins, MeetsPart, DrawsPart, ListsPart, HitsPart, Plays}
 use Rattle.replay.specs.Called.{Picked, sizeAt}
 use Rattle.replay.specs.Numbers.{num, idOf}
 use Rattle.replay.specs.Looks.{lookOf, LooksPart}
-use Rattle.replay.proofs.laws.Sizes.{counted, hits-room}
+use Rattle.replay.specs.Sheets.{ReadsPart, PrintsPart}
+use Rattle.replay.proofs.laws.Sizes.{counted, hits-room, read-room, print-room}
 use Rattle.replay.proofs.laws.Picked.{picked-so}
-use Rattle.replay.specs.Played.{unread, beyond, starts, creates, plain, stores, pops, redraws, lists, asks-hits, asks-focus, lends, lends-screen, lends-list, asks-busiest, asks-share, asks-display, asks-look, lends-target, shows}
+use Rattle.replay.specs.Played.{unread, beyond, starts, creates, plain, stores, pops, redraws, lists, asks-hits, asks-focus, lends, lends-screen, lends-list, asks-busiest, asks-share, asks-display, asks-look, lends-target, reads-sheet, asks-sheet, lends-sheet, shows}
 
 -- the session that r has is the next
 own : {p : Player} {s : Session} {r : Player} → Next p s r → Next p (r .session) r
-own n = record { ready = n .ready; session = refl; lent = n .lent; set = n .set; screen = n .screen; has-list = n .has-list; list = n .list; has-target = n .has-target; target = n .target; lines = n .lines }
+own n = record { ready = n .ready; session = refl; lent = n .lent; set = n .set; screen = n .screen; has-list = n .has-list; list = n .list; has-target = n .has-target; target = n .target; has-sheet = n .has-sheet; sheet = n .sheet; lines = n .lines }
 
 pub makes : (k : Call) (p r : Player) (d : Done) → Meets k (p .session) d → Next p (d .session) r → Makes k p r
 makes k p r d m n =
@@ -40,7 +43,7 @@ c-of c d h = ap (λ (g : Group). g .c) (h .after)
 pub begins : (c : ℕ) (p r : Player) (d : Done) → Starts c d → Next (lendStore (16 * d .session .shared .c) p) (d .session) r → Begins c p r
 begins c p r d h n =
     record {
-      next = record { ready = n .ready; session = refl; lent = n .lent ∙ ap (λ (k : ℕ). 16 * k) (c-of c d h); set = n .set; screen = n .screen; has-list = n .has-list; list = n .list; has-target = n .has-target; target = n .target; lines = n .lines };
+      next = record { ready = n .ready; session = refl; lent = n .lent ∙ ap (λ (k : ℕ). 16 * k) (c-of c d h); set = n .set; screen = n .screen; has-list = n .has-list; list = n .list; has-target = n .has-target; target = n .target; has-sheet = n .has-sheet; sheet = n .sheet; lines = n .lines };
       after = ap group (n .session) ∙ h .after;
     }
 
@@ -94,6 +97,24 @@ look-part g k ns store lent lent′ id j tw th n m l target last a e i f z w t d
       shown = (λ x. h .target x ++ drop (sym d x) target) ∙ (λ x. look g (i x) (f x) (take (sym e x) store) (take (sym d x) target) (here x) (next x) .target ++ drop n target);
     }
 
+pub read-part : (bytes : List ℕ) (n m : ℕ) (list last : List ℕ) (r : Count) → n ≡ m → n ≤ length list
+    → Reads bytes (take m (drop 0 list)) r last → ReadsPart bytes n list r (take 0 list ++ (last ++ drop m (drop 0 list)))
+read-part bytes n m list last r e l h =
+    subst (λ (m : ℕ). Reads bytes (take m (drop 0 list)) r last → ReadsPart bytes n list r (take 0 list ++ (last ++ drop m (drop 0 list)))) e
+    (λ q. record { front = last; reads = q; listed = refl; room = omega (arith, read-room bytes (take n list) last r q, length-take-le n list l) }) h
+
+pub print-part : (g : Group) (id j n m : ℕ) (bytes last : List ℕ) (r : Count) → j ≡ id → n ≡ m → n ≤ length bytes
+    → Prints g j (take m (drop 0 bytes)) r last → PrintsPart g id n bytes r (take 0 bytes ++ (last ++ drop m (drop 0 bytes)))
+print-part g id j n m bytes last r i e l h =
+    subst (λ (m : ℕ). Prints g j (take m (drop 0 bytes)) r last → PrintsPart g id n bytes r (take 0 bytes ++ (last ++ drop m (drop 0 bytes)))) e
+    (subst (λ (k : ℕ). Prints g j (take n bytes) r last → PrintsPart g k n bytes r (last ++ drop n bytes)) i
+    (λ q. record {
+      answer = q .answer;
+      count = q .count;
+      printed = ap (λ (t : List ℕ). t ++ drop n bytes) (q .bytes);
+      room = omega (arith, print-room g j (take n bytes), length-take-le n bytes l, q .count);
+    })) h
+
 -- A line --------------------------------------------------------------------------------------------------------------
 
 -- whatever line was played, the player is ready for the next
@@ -117,4 +138,7 @@ ready-of (asks-share k n e) = n .ready
 ready-of (asks-display k n e) = n .ready
 ready-of (asks-look k j n e) = n .ready
 ready-of (lends-target k j n e) = n .ready
+ready-of (reads-sheet k n e) = n .ready
+ready-of (asks-sheet k n e) = n .ready
+ready-of (lends-sheet k j n e) = n .ready
 ready-of (shows k j n e) = n .ready

@@ -1,4 +1,4 @@
--- Sizes that the rules bound: a window's pixels in the store, the rectangles of a visible list, the answers of many points, and C after a start.
+-- Sizes that the rules bound: a window's pixels in the store, the rectangles of a visible list, the answers of many points, the rectangles and bytes of a sheet, and C after a start.
 use Prim.Native.Nat.{ℕ, suc, _+_, _*_, _/_, _≤_, _<_}
 use mathlib.Core.Path.{_≡_, refl, sym, ap, _∙_}
 use mathlib.Core.Bool.{Bool, true, false, cond}
@@ -12,9 +12,14 @@ use Rattle.geom.specs.Questions.{_is_, asked}
 use Rattle.geom.specs.Geom.{rect}
 use Rattle.geom.proofs.basics.Questions.{asked₂}
 use Rattle.geom.proofs.basics.Tests.{snd, on-cond, on-test, says-le}
+use Rattle.sheet.specs.declared.Count.{Count}
+use Rattle.sheet.specs.Sheet.{rects}
+use Rattle.sheet.specs.Bytes.{encode}
+use Rattle.sheet.specs.Reader.{Reads, broken, short, whole}
 use Rattle.rules.specs.Group.{Group, used, win, allowedC, sessionC}
 use Rattle.rules.specs.Visible.{visible, visibleList}
 use Rattle.rules.specs.Hits.{allSmall, fit, hits}
+use Rattle.rules.specs.Sheets.{region, sheet}
 use Rattle.rules.proofs.group.Invariant.{used-small}
 use Rattle.windows.specs.declared.Session.{Session}
 use Rattle.windows.specs.declared.Done.{Done}
@@ -59,6 +64,24 @@ unfolding hits
 hits-room g points l e =
     let f = fit (length points) (length l) in
     fits-room (length points) (length l) (snd (allSmall points) f (sym (asked₂ 4 24 (allSmall points) f) ∙ eq-eqb _ 0 e)) .room
+
+-- A sheet that is read --------------------------------------------------------------------------------------------------
+
+-- its list holds four numbers for each rectangle
+pub read-room : (bytes list after : List ℕ) (r : Count) → Reads bytes list r after → 4 * r .count ≤ length list
+read-room bytes list after r (broken n e a) = let c : r .count ≡ 0 = ap (λ (k : Count). k .count) e in omega arith
+read-room bytes list after r (short s i l e a) = let c : r .count ≡ 0 = ap (λ (k : Count). k .count) e in omega arith
+read-room bytes list after r (whole s i l e a) = let c : r .count ≡ length (rects s) = ap (λ (k : Count). k .count) e in omega arith
+
+-- A sheet that is printed -----------------------------------------------------------------------------------------------
+
+fits : (u : Bool) (n m : ℕ) → cond (eqb (asked ((3 is u) ∷ (19 is leb n m) ∷ [])) 0) n 0 ≤ m
+fits u n m = on-test (λ (k : ℕ). k ≤ m) (asked₂ 2 18 u (leb n m)) n 0 (λ t. says-le n m .fact (snd u (leb n m) t)) (λ t. omega arith)
+
+-- its bytes have room in the buffer
+pub print-room : (g : Group) (id : ℕ) (l : List ℕ) → sheet g id l .count ≤ length l
+unfolding sheet
+print-room g id l = fits (used g id) (length (encode (region g id))) (length l)
 
 -- A start -------------------------------------------------------------------------------------------------------------
 

@@ -8,11 +8,12 @@ use native.Mathlib.Omega.{arith}
 use native.Mathlib.Numerals.{add-one}
 use lib.Dec.{leb, eqb}
 use lib.ListN.{length, take, getD}
-use lib.Seq.{getD-take, length-take-le, take-all, take-suc}
+use lib.Seq.{getD-take, length-take-le, take-all, take-suc, take-take}
 use borrow.Author.Tests.{eqb-true, ne-eqb, leb-true, leb-false, lt-ltb, le-ltb, le-leb, lt-leb}
 use Rattle.geom.proofs.basics.Tests.{fst, snd, clash}
 use Rattle.script.proofs.laws.Kinds.{row-of, no-row, at-row}
 use Rattle.script.proofs.laws.Stages.{at-stage}
+use Rattle.script.proofs.laws.Bytes.{bytes-at}
 use Rattle.script.specs.declared.Reading.{Reading}
 use Rattle.script.specs.declared.shape.Line.{Line}
 use Rattle.script.specs.Kind as Kind
@@ -99,7 +100,8 @@ module _ (k n : ℕ) (h : counted k n ≡ true) where
       (cond-same (eqb k Kind.redraw) (λ e. rw (getD-take n ns 0 0 (omega (arith, enough Kind.redraw (eqb-true k Kind.redraw e)))))
       (cond-same (eqb k Kind.begin) (λ e. rw (getD-take n ns 0 0 (omega (arith, enough Kind.begin (eqb-true k Kind.begin e)))))
       (cond-same (eqb k Kind.dim) (λ e. rw (getD-take n ns 0 0 (omega (arith, enough Kind.dim (eqb-true k Kind.dim e)))))
-      (cond-same (eqb k Kind.set-scanline) (λ e. rw (getD-take n ns 5 0 (omega (arith, enough Kind.set-scanline (eqb-true k Kind.set-scanline e))))) refl))))))
+      (cond-same (eqb k Kind.set-scanline) (λ e. rw (getD-take n ns 5 0 (omega (arith, enough Kind.set-scanline (eqb-true k Kind.set-scanline e)))))
+      (cond-same (eqb k Kind.read-sheet) (λ e. rw (take-take n n ns (omega arith))) refl)))))))
     where
       at : (i : ℕ) → suc i ≤ n → leb (getD (take n ns) i 0) 255 ≡ leb (getD ns i 0) 255
       at i g = rw (getD-take n ns i 0 g)
@@ -135,6 +137,7 @@ no-shape k ns h =
       up = λ e. omega arith;
       click = λ e. omega arith;
       told = λ e. omega arith;
+      bytes = λ e. omega arith;
     }
 
 module _ (k n m : ℕ) (ns : List ℕ) (few : n ≤ 4200) (long : m ≤ 64) (room : length ns ≡ 4200) where
@@ -170,6 +173,7 @@ module _ (k n m : ℕ) (ns : List ℕ) (few : n ≤ 4200) (long : m ≤ 64) (roo
               leb-true (getD ns 3 0) 255 (snd (leb (getD ns 2 0) 255) (leb (getD ns 3 0) 255) q),
             );
         told = λ e. leb-true (getD ns 0 0) 1 (subst (λ (x : ℕ). ranged x n ns ≡ true) e r);
+        bytes = λ e. (not-above k n h Kind.read-sheet e, λ i l. bytes-at ns n i (omega arith) (subst (λ (x : ℕ). ranged x n ns ≡ true) e r) l);
       }
 
   pub is-call : passes k n m ns ≡ true → Checked k n m ns (record { kind = k; count = n; name = m })

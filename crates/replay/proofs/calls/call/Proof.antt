@@ -1,7 +1,7 @@
 -- Each arm plays the line of its own kind; the kinds that are left are those of the plain calls.
 use mathlib.Core.Path.{refl}
 use native.Mathlib.Omega.{arith}
-use Rattle.replay.specs.Played.{unread, creates, pops, asks-focus, asks-busiest, asks-share, asks-display, plain}
+use Rattle.replay.specs.Played.{unread, creates, pops, asks-focus, asks-busiest, asks-share, asks-display, asks-sheet, plain}
 use Rattle.replay.proofs.laws.Arms.{plain-left}
 use Rattle.replay.proofs.laws.Picked.{picked-so}
 use Rattle.replay.proofs.laws.Made.{makes}
@@ -45,6 +45,12 @@ lend-target-requires c κs = search needs
 display-at-requires : tie.Need-display-at-requires
 display-at-requires c κs = search needs
 
+sheet-requires : tie.Need-sheet-requires
+sheet-requires c κs = search needs
+
+lend-sheet-requires : tie.Need-lend-sheet-requires
+lend-sheet-requires c κs = search needs
+
 plain-requires : tie.Need-plain-requires
 plain-requires c κs =
     let p = c .before .before .pre in
@@ -56,7 +62,7 @@ answered-requires c κs = search needs
 returns : tie.Need-returns
 returns c = λ a.
     unread (omega (arith, c .match .keys1))
-    (record { ready = c .before .pre .0; session = refl; lent = refl; set = refl; screen = refl; has-list = refl; list = refl; has-target = refl; target = refl; lines = refl }) refl
+    (record { ready = c .before .pre .0; session = refl; lent = refl; set = refl; screen = refl; has-list = refl; list = refl; has-target = refl; target = refl; has-sheet = refl; sheet = refl; lines = refl }) refl
 
 returns-2 : tie.Need-returns-2
 returns-2 c = λ a. unread (omega (arith, c .before .before .match .keys2)) (c .malformed .ensures) refl
@@ -95,7 +101,13 @@ returns-13 : tie.Need-returns-13
 returns-13 c = λ a. asks-display (c .before .before .match .keys13) (c .display-at .ensures) refl
 
 returns-14 : tie.Need-returns-14
-returns-14 c =
+returns-14 c = λ a. asks-sheet (c .before .before .match .keys14) (c .sheet .ensures) refl
+
+returns-15 : tie.Need-returns-15
+returns-15 c = λ a. c .lend-sheet .ensures (c .before .before .before .args .line) a (c .before .before .match .keys15)
+
+returns-16 : tie.Need-returns-16
+returns-16 c =
     let p = c .before .before .before .before .before .args .p in
     let done = c .before .before .plain in
     λ a. plain (picked-so (λ k m. makes k p (c .answered .result) (done .result) m (c .answered .ensures)) (done .ensures)) refl
@@ -116,6 +128,8 @@ call-spec =
     share-requires
     lend-target-requires
     display-at-requires
+    sheet-requires
+    lend-sheet-requires
     plain-requires
     answered-requires
     returns
@@ -131,4 +145,6 @@ call-spec =
     returns-11
     returns-12
     returns-13
-    returns-14)
+    returns-14
+    returns-15
+    returns-16)

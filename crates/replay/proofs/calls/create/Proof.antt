@@ -36,6 +36,8 @@ next c =
       list = args .p .list;
       «has_target» = args .p .«has_target»;
       target = args .p .target;
+      «has_sheet» = args .p .«has_sheet»;
+      sheet = args .p .sheet;
       at = c .end .result;
       lines = args .p .lines;
     }
@@ -48,7 +50,7 @@ returns c =
     let d = done (made .result .session) (made .result .answer) in
     makes Create (a .p) (next c) d (made .ensures .meets)
     (record {
-      ready = record { given = made .ensures .meets .given; lent = r .lent; screen = r .screen; list = r .list; target = r .target; at = c .end .ensures };
+      ready = record { given = made .ensures .meets .given; lent = r .lent; screen = r .screen; list = r .list; target = r .target; sheet = r .sheet; at = c .end .ensures };
       session = refl;
       lent = refl;
       set = refl;
@@ -57,6 +59,8 @@ returns c =
       list = refl;
       has-target = refl;
       target = refl;
+      has-sheet = refl;
+      sheet = refl;
       lines = refl;
     })
 

@@ -41,6 +41,8 @@ next c =
       list = args .p .list;
       «has_target» = args .p .«has_target»;
       target = args .p .target;
+      «has_sheet» = args .p .«has_sheet»;
+      sheet = args .p .sheet;
       at = c .end .result;
       lines = args .p .lines;
     }
@@ -53,7 +55,7 @@ returns c =
     let d = done (made .result .session) (made .result .answer) in
     makes (Pop (idOf (a .ns .now))) (a .p) (next c) d (subst (λ (i : ℕ). Meets (Pop i) (a .p .session) d) (c .before .before .before .before .before .before .before .before .before .id .ensures) (made .ensures .meets))
     (record {
-      ready = record { given = made .ensures .meets .given; lent = r .lent; screen = r .screen; list = r .list; target = r .target; at = c .end .ensures };
+      ready = record { given = made .ensures .meets .given; lent = r .lent; screen = r .screen; list = r .list; target = r .target; sheet = r .sheet; at = c .end .ensures };
       session = refl;
       lent = refl;
       set = refl;
@@ -62,6 +64,8 @@ returns c =
       list = refl;
       has-target = refl;
       target = refl;
+      has-sheet = refl;
+      sheet = refl;
       lines = refl;
     })
 

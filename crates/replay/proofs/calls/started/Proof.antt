@@ -23,6 +23,7 @@ answered-requires c κs =
         screen = r .screen;
         list = r .list;
         target = r .target;
+        sheet = r .sheet;
         at = r .at;
       },
       c .before .before .before .start .ensures .given,

@@ -1,4 +1,4 @@
--- An accepted call has three numbers for each of at most 32 points, in a list of at most 1,984.
+-- An accepted call has three numbers for each of at most 32 points, in a list of at most 7,812.
 use native.Mathlib.Omega.{arith}
 use lib.Seq.{length-take-le}
 use borrow.Author.Needs.{needs}

@@ -18,14 +18,14 @@ accepted-requires c κs = search needs
 
 returns : tie.Need-returns
 returns c = λ l a e.
-    lends-list e (subst (λ (n : ℕ). n ≤ 1984) (c .before .before .before .wide .ensures) (c .before .before .if1 .taken))
+    lends-list e (subst (λ (n : ℕ). n ≤ 7812) (c .before .before .before .wide .ensures) (c .before .before .if1 .taken))
     (subst (λ (n : ℕ). Next (lendList n (c .before .before .before .before .before .args .p)) (c .before .before .before .before .before .args .p .session) (c .accepted .result)) (c .before .before .before .wide .ensures) (c .accepted .ensures)) refl
 
 refused-requires : tie.Need-refused-requires
 refused-requires c κs = search needs
 
 returns-2 : tie.Need-returns-2
-returns-2 c = λ l a e. beyond (no-list e (subst (λ (n : ℕ). 1984 < n) (c .before .before .before .wide .ensures) (c .before .before .if1 .left))) (c .refused .ensures) refl
+returns-2 c = λ l a e. beyond (no-list e (subst (λ (n : ℕ). 7812 < n) (c .before .before .before .wide .ensures) (c .before .before .if1 .left))) (c .refused .ensures) refl
 
 pub lend-list-spec : {M : Type 1} → statement M
 lend-list-spec =

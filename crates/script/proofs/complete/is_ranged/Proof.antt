@@ -1,4 +1,6 @@
 -- One kind after the other.
+use mathlib.Core.Path.{sym}
+use lib.Seq.{length-take-le}
 use Rattle.script.specs.Kind as Kind
 use Rattle.script.specs.Script.{ranged}
 use borrow.Author.Tests.{ne-eqb, le-leb, lt-leb}
@@ -68,17 +70,30 @@ returns-8 : tie.Need-returns-8
 unfolding ranged
 returns-8 c = rw (c .before .before .if8 .taken, c .wide .ensures .0)
 
+slice-aggregate-are-bytes : tie.Need-slice-aggregate-are-bytes
+slice-aggregate-are-bytes c =
+    let p = c .before .before .before .before .before .before .before .before .before .before in
+    sym (length-take-le (p .args .count) (p .args .numbers .now) (search needs))
+
+are-bytes-requires : tie.Need-are-bytes-requires
+are-bytes-requires c κs = search needs
+
 returns-9 : tie.Need-returns-9
 unfolding ranged
-returns-9 c =
+returns-9 c = rw (c .before .before .if9 .taken) (c .are-bytes .ensures)
+
+returns-10 : tie.Need-returns-10
+unfolding ranged
+returns-10 c =
     rw (
-      ne-eqb _ Kind.mousedown (c .before .before .before .before .before .before .if1 .left),
-      ne-eqb _ Kind.mouseup (c .before .before .before .before .before .if2 .left),
-      ne-eqb _ Kind.mouseclick (c .before .before .before .before .if3 .left),
-      ne-eqb _ Kind.redraw (c .before .before .before .if5 .left),
-      ne-eqb _ Kind.begin (c .before .before .if6 .left),
-      ne-eqb _ Kind.dim (c .before .if7 .left),
-      ne-eqb _ Kind.set-scanline (c .if8 .left),
+      ne-eqb _ Kind.mousedown (c .before .before .before .before .before .before .before .if1 .left),
+      ne-eqb _ Kind.mouseup (c .before .before .before .before .before .before .if2 .left),
+      ne-eqb _ Kind.mouseclick (c .before .before .before .before .before .if3 .left),
+      ne-eqb _ Kind.redraw (c .before .before .before .before .if5 .left),
+      ne-eqb _ Kind.begin (c .before .before .before .if6 .left),
+      ne-eqb _ Kind.dim (c .before .before .if7 .left),
+      ne-eqb _ Kind.set-scanline (c .before .if8 .left),
+      ne-eqb _ Kind.read-sheet (c .if9 .left),
     )
 
 pub is-ranged-spec : {M : Type 1} → statement M
@@ -103,4 +118,7 @@ is-ranged-spec =
     wide-requires
     add-result
     returns-8
-    returns-9)
+    slice-aggregate-are-bytes
+    are-bytes-requires
+    returns-9
+    returns-10)

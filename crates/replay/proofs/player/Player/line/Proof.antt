@@ -3,7 +3,7 @@ use mathlib.Core.Path.{refl}
 use mathlib.Core.Logic.{⊎-elim, inl, inr}
 use native.Mathlib.Omega.{arith}
 use Rattle.replay.proofs.laws.Arms.{on-target, no-target, not-lent}
-use Rattle.replay.specs.Played.{pixels, lists, asks-hits, stores, shows}
+use Rattle.replay.specs.Played.{pixels, lists, asks-hits, reads-sheet, stores, shows}
 use borrow.Author.Needs.{needs}
 use Rattle.replay.proofs.player.Player.line.Statement.{statement}
 use Rattle.replay.proofs.player.Player.line.Tie as tie
@@ -16,6 +16,11 @@ visible-requires c κs = search needs
 
 hits-requires : tie.Need-hits-requires
 hits-requires c κs = search needs
+
+read-sheet-requires : tie.Need-read-sheet-requires
+read-sheet-requires c κs =
+    let m = c .before .before .before in
+    (m .before .pre .0, m .before .pre .1, m .match .keys4)
 
 shown-requires : tie.Need-shown-requires
 shown-requires c κs = search needs
@@ -37,7 +42,7 @@ call-requires c κs =
     let start = c .before .before .before .before in
     let left = c .before .before .before .match .rest in
     let k = start .args .line .kind in
-    let apart = not-lent k (left .0 .0 .1) (left .0 .1) (left .1) in (
+    let apart = not-lent k (left .0 .0 .0 .1) (left .0 .0 .1) (left .0 .1) (left .1) in (
       start .pre .0,
       start .pre .1,
       ⊎-elim (λ w. apart (no-target k (inl (omega (arith, w .taken)))) (λ h. omega (arith, w .taken)) (λ h. omega (arith, w .taken)) (λ h. omega (arith, w .taken)))
@@ -58,18 +63,21 @@ returns-3 : tie.Need-returns-3
 returns-3 c = asks-hits (c .before .before .before .before .match .keys3) (c .hits .ensures) refl
 
 returns-4 : tie.Need-returns-4
-returns-4 c = shows (c .before .before .before .before .before .before .if3 .left) (omega (arith, c .before .before .before .before .before .if4 .taken)) (c .shown .ensures) refl
+returns-4 c = reads-sheet (c .before .before .before .before .match .keys4) (c .read-sheet .ensures) refl
 
 returns-5 : tie.Need-returns-5
-returns-5 c =
+returns-5 c = shows (c .before .before .before .before .before .before .if3 .left) (omega (arith, c .before .before .before .before .before .if4 .taken)) (c .shown .ensures) refl
+
+returns-6 : tie.Need-returns-6
+returns-6 c =
     let args = c .before .before .before .before .before .before .before .before .before .before .before .args in
     c .look .ensures (pixels (args .store .now) (args .screen .now))
 
-returns-6 : tie.Need-returns-6
-returns-6 c = stores (c .stored .ensures) refl
-
 returns-7 : tie.Need-returns-7
-returns-7 c =
+returns-7 c = stores (c .stored .ensures) refl
+
+returns-8 : tie.Need-returns-8
+returns-8 c =
     let args = c .before .before .before .before .before .args in
     c .call .ensures (pixels (args .store .now) (args .screen .now))
 
@@ -80,6 +88,7 @@ line-spec =
     redraw-requires
     visible-requires
     hits-requires
+    read-sheet-requires
     shown-requires
     look-requires
     stored-requires
@@ -90,4 +99,5 @@ line-spec =
     returns-4
     returns-5
     returns-6
-    returns-7)
+    returns-7
+    returns-8)

@@ -1,0 +1,115 @@
+// The lines of region sheets.
+ghost use Prim.Native.Nat.{ℕ, _≤_, _<_};
+ghost use mathlib.Core.Path.{_≡_};
+ghost use lib.ListN.{length, take};
+ghost use Rattle.script.specs.Kind as Kind;
+ghost use Rattle.windows.specs.View.{group, Given};
+ghost use Rattle.replay.specs.Numbers.{num, idOf, Sound};
+ghost use Rattle.replay.specs.Ready.{Ready, Next, unlisted, unsheeted};
+ghost use Rattle.replay.specs.Sheets.{ReadsPart, sheetLen, PrintsPart};
+use crate::lend;
+use crate::numbers;
+use crate::player::Player;
+use crate::text;
+use script::Line;
+use sheet::Count;
+use windows::Session;
+
+// The numbers of the line as bytes, of which each is one.
+fn bytes_of(ns: &[u32], n: usize) -> [u8; 4096]
+    requires { ⌜ (n ≤ 4096) × (n ≤ length (now ns)) × ((i : ℕ) → i < n → num (now ns) i ≤ 255) ⌝ }
+    ensures { λ r. ⌜ take n r ≡ take n (now (ns .entry)) ⌝ }
+{
+    let mut bytes = [0u8; 4096];
+    let mut i: usize = 0;
+    while i < n {
+        bytes[i] = ns[i] as u8;
+        i += 1;
+    }
+    bytes
+}
+
+// The reader is lent the front of the list.
+fn read(bytes: &[u8], n: usize, list: &mut [u32], len: usize) -> Count
+    requires { ⌜ (n ≤ length (now bytes)) × (len ≤ length (now list)) ⌝ }
+    ensures { λ r. ⌜ ReadsPart (take n (now (bytes .entry))) len (now (list .entry)) r (now (list .exit)) ⌝ }
+{
+    sheet::read::read_sheet(&bytes[..n], &mut list[0..len])
+}
+
+// The bytes of the line are a sheet's.
+fn asked(ns: &[u32; 4200], n: usize, list: &mut [u32], len: usize) -> Count
+    requires { ⌜ (n ≤ 4096) × ((i : ℕ) → i < n → num (now ns) i ≤ 255) × (len ≤ length (now list)) ⌝ }
+    ensures { λ r. ⌜ ReadsPart (take n (now (ns .entry))) len (now (list .entry)) r (now (list .exit)) ⌝ }
+{
+    let bytes = bytes_of(ns, n);
+    read(&bytes, n, list, len)
+}
+
+pub fn read_sheet(
+    mut p: Player,
+    line: Line,
+    ns: &[u32; 4200],
+    list: &mut [u32; 7812],
+    out: &mut [u8; 65536],
+) -> Player
+    requires { ⌜ Ready p × Sound line (now ns) × (line .kind ≡ Kind.read-sheet) ⌝ }
+    ensures { λ r. ⌜ Next (unlisted p) (p .session) r ⌝ }
+{
+    let len = lend::list_len(p, 7812);
+    let found = asked(ns, line.count, list, len);
+    p.has_list = false;
+    p.at = lend::put_rects(found.answer, found.count, list, out, p.at);
+    p
+}
+
+// How many bytes the buffer of a sheet has: what was said, or as many as suffice for every window.
+fn sheet_len(p: Player) -> usize
+    requires { ⌜ Ready p ⌝ }
+    ensures { λ r. ⌜ (r ≡ sheetLen p) × (r ≤ 2048) ⌝ }
+{
+    if p.has_sheet {
+        return p.sheet;
+    }
+    2048
+}
+
+// The call is lent the front of the buffer.
+fn printed(s: Session, ns: &[u32; 4200], bytes: &mut [u8], len: usize) -> Count
+    requires { ⌜ Given s × (len ≤ length (now bytes)) ⌝ }
+    ensures { λ r. ⌜ PrintsPart (group s) (idOf (now (ns .entry))) len (now (bytes .entry)) r (now (bytes .exit)) ⌝ }
+{
+    s.sheet(numbers::id(ns), &mut bytes[0..len])
+}
+
+// A buffer before a sheet is printed: made apart, as the other arrays are.
+fn buffer() -> [u8; 2048] {
+    [0u8; 2048]
+}
+
+fn put(found: Count, bytes: &[u8], out: &mut [u8; 65536], at: usize) -> usize
+    requires { ⌜ (found .count ≤ length (now bytes)) × (at ≤ 65536) ⌝ }
+    ensures { λ r. ⌜ r ≤ 65536 ⌝ }
+{
+    if found.answer == 0 {
+        let to = text::number(out, at, 0);
+        let n = found.count;
+        let then = text::count(out, to, n);
+        let last = text::bytes(out, then, &bytes[0..n]);
+        return text::end(out, last);
+    }
+    text::answer(out, at, found.answer)
+}
+
+pub fn sheet(mut p: Player, ns: &[u32; 4200], out: &mut [u8; 65536]) -> Player
+    requires { ⌜ Ready p ⌝ }
+    ensures { λ r. ⌜ Next (unsheeted p) (p .session) r ⌝ }
+{
+    let mut bytes = buffer();
+    let s = p.session;
+    let len = sheet_len(p);
+    let found = printed(s, ns, &mut bytes, len);
+    p.has_sheet = false;
+    p.at = put(found, &bytes, out, p.at);
+    p
+}
