@@ -46,10 +46,13 @@ pub enum Call {
     Share(u32),
     Hits(Vec<u32>),
     Look(Look),
+    Sheet(u32),
+    ReadSheet(Vec<u8>),
     Lend(u32),
     LendScreen(u32),
     LendList(u32),
     LendTarget(u32),
+    LendSheet(u32),
     Screen(u32, u32),
     Pixels(u32),
     Picture(u32, u32, String),
@@ -66,7 +69,8 @@ pub enum Call {
     Busiest(Vec<u32>),
 }
 
-/// "DATA is 0 to 4,096 numbers"; "PIXELS and DATA are at most 4,096 numbers together"; "0 to 4,096 numbers, x and y in turn".
+/// "DATA is 0 to 4,096 numbers"; "PIXELS and DATA are at most 4,096 numbers together"; "0 to 4,096 numbers, x and y in turn"; "0 to 4,096
+/// numbers, each 0 to 255, else malformed".
 const MOST: usize = 4096;
 /// "T… is 0 to 4,200 times in milliseconds; more make the line malformed"
 const MOST_TIMES: usize = 4200;
@@ -94,6 +98,7 @@ fn call(line: &str) -> Option<Call> {
         .or_else(|| program(word, &numbers))
         .or_else(|| geometry(word, &numbers))
         .or_else(|| pixels(word, &numbers))
+        .or_else(|| read_sheet(word, &numbers))
         .or_else(|| times(word, numbers))
 }
 
@@ -143,6 +148,7 @@ fn session(word: &str, numbers: &[u32]) -> Option<Call> {
             Call::Look(Look { id, x: float(xh, xl), y: float(yh, yl), zoom: Zoom::Fit, width, height })
         }
         ("hits", points) if points.len() <= MOST => Call::Hits(points.to_vec()),
+        ("sheet", &[id]) => Call::Sheet(id),
         _ => return None,
     })
 }
@@ -174,6 +180,7 @@ fn program(word: &str, numbers: &[u32]) -> Option<Call> {
         ("lend-screen", &[pixels]) => Call::LendScreen(pixels),
         ("lend-list", &[numbers]) => Call::LendList(numbers),
         ("lend-target", &[pixels]) => Call::LendTarget(pixels),
+        ("lend-sheet", &[bytes]) => Call::LendSheet(bytes),
         ("screen", &[w, h]) => Call::Screen(w, h),
         ("pixels", &[id]) => Call::Pixels(id),
         _ => return None,
@@ -217,6 +224,12 @@ fn pixels(word: &str, numbers: &[u32]) -> Option<Call> {
         _ => return None,
     };
     Some(call)
+}
+
+fn read_sheet(word: &str, numbers: &[u32]) -> Option<Call> {
+    let is_sheet = word == "read-sheet" && numbers.len() <= MOST;
+    let bytes = numbers.iter().map(|&number| u8::try_from(number).ok());
+    is_sheet.then(|| bytes.collect::<Option<_>>()).flatten().map(Call::ReadSheet)
 }
 
 fn times(word: &str, numbers: Vec<u32>) -> Option<Call> {

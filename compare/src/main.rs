@@ -28,6 +28,8 @@ mod runs;
 mod script;
 mod shadow;
 mod share;
+mod sheet;
+mod sheets;
 mod shrink;
 mod sides;
 mod surfaces;
@@ -49,6 +51,7 @@ compare portions REPLAY LISTS SEED
 compare busiest REPLAY RUNS SEED
 compare panels REPLAY PAIRS SEED
 compare look REPLAY LOOKS SEED
+compare sheets REPLAY SHEETS SEED
 compare sides REPLAY all|unasked FILE
 compare record FIRST LAST… STDIN STDOUT
 compare play all|unasked";
@@ -74,6 +77,7 @@ fn command(words: &[&str]) -> io::Result<bool> {
         ["busiest", replay, runs, seed] => runs::run(&Replay(replay.into()), number(runs)?, number(seed)?),
         ["panels", replay, pairs, seed] => panels::run(&Replay(replay.into()), number(pairs)?, number(seed)?),
         ["look", replay, looks, seed] => looks::run(&Replay(replay.into()), number(looks)?, number(seed)?),
+        ["sheets", replay, sheets, seed] => sheets::run(&Replay(replay.into()), number(sheets)?, number(seed)?),
         ["sides", replay, word, file] => {
             let script = fs::read(file).map_err(|e| io::Error::other(format!("{file}: {e}")))?;
             sides::print(&Replay(replay.into()), &script, mode(word)?).map(|()| true)

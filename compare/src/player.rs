@@ -11,6 +11,7 @@ use crate::picture;
 use crate::questions::{answer, cannot, Lent, SCREEN};
 use crate::shadow::{Seen, Shadow};
 use crate::share;
+use crate::sheet;
 use crate::surfaces;
 use crate::text::Text;
 use original::input::Event;
@@ -61,7 +62,7 @@ impl Player {
             screen: Arc::new(Mutex::new(vec![0; SCREEN as usize])),
             displays: Vec::new(),
             lines: 0,
-            lent: Lent { c: 1, store: 16, screen: None, list: None, target: None },
+            lent: Lent { c: 1, store: 16, screen: None, list: None, target: None, sheet: None },
             shadow: Shadow::fresh(Seen::default()),
         }
     }
@@ -117,8 +118,9 @@ impl Player {
         }
         match call {
             Call::Redraw(..) | Call::Portion(..) => self.lent.screen = None,
-            Call::Visible(_) | Call::Hits(_) => self.lent.list = None,
+            Call::Visible(_) | Call::Hits(_) | Call::ReadSheet(_) => self.lent.list = None,
             Call::Look(_) => self.lent.target = None,
+            Call::Sheet(_) => self.lent.sheet = None,
             _ => {}
         }
     }
@@ -193,6 +195,7 @@ impl Player {
             Call::LendScreen(pixels) => self.lent.screen = Some(pixels),
             Call::LendList(numbers) => self.lent.list = Some(numbers),
             Call::LendTarget(pixels) => self.lent.target = Some(pixels),
+            Call::LendSheet(bytes) => self.lent.sheet = Some(bytes),
             _ => {}
         }
     }
@@ -228,8 +231,16 @@ impl Player {
             Call::Share(id) => out.numbers(&share::percent_and_remainder(&self.group, id)),
             Call::Look(ref look) => out.numbers(&look::target(&self.group, look)),
             Call::Hits(ref points) => out.numbers(&hits::answers(&self.group, points)),
+            Call::Sheet(id) => self.tell_sheet(id, out),
+            Call::ReadSheet(ref bytes) => tell_rects(bytes, out),
             _ => bare::make(call, out),
         }
+    }
+
+    fn tell_sheet(&self, id: u32, out: &mut Text) {
+        let bytes = sheet::bytes(&sheet::of_group(&self.group, id));
+        out.number(bytes.len() as u32);
+        bytes.iter().for_each(|&byte| out.number(byte.into()));
     }
 
     /// "the w × h pixels of window ID in the store, if at least 16 × C pixels are lent; of an unused id none"
@@ -239,4 +250,10 @@ impl Player {
         }
         Vec::new()
     }
+}
+
+fn tell_rects(bytes: &[u8], out: &mut Text) {
+    let rects = sheet::rects(&sheet::read(bytes).unwrap_or_default());
+    out.number(rects.len() as u32 / 4);
+    out.numbers(&rects);
 }

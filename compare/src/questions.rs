@@ -6,6 +6,7 @@ use crate::hits;
 use crate::look;
 use crate::shadow::Shadow;
 use crate::share;
+use crate::sheet;
 use original::input::Event;
 use original::windows::group::Group;
 use original::Rect;
@@ -14,17 +15,22 @@ use original::Rect;
 pub struct Lent {
     pub c: u32,
     pub store: u32,
-    /// The lengths for the next `redraw` or `portion`, the next `visible` or `hits`, and the next `look` or `look-fit`.
+    /// The lengths for the next `redraw` or `portion`, the next `visible`, `hits` or `read-sheet`, the next `look` or `look-fit`, and the next
+    /// `sheet`.
     pub screen: Option<u32>,
     pub list: Option<u32>,
     pub target: Option<u32>,
+    pub sheet: Option<u32>,
 }
 
 pub const STORE: u32 = 1_048_576;
 pub const SCREEN: u32 = 384_000;
-pub const LIST: u32 = 1_984;
+/// Also what a `read-sheet` is lent where no `lend-list` is pending.
+pub const LIST: u32 = 7_812;
 pub const TARGET: u32 = 65_536;
-/// What a `hits` is lent where no `lend-list` is pending.
+pub const SHEET: u32 = 2_048;
+/// What a `visible` and a `hits` are lent there.
+const VISIBLE: u32 = 1_984;
 const POINTS: u32 = 96;
 
 /// Must the program answer `!`?
@@ -37,6 +43,7 @@ pub fn cannot(call: &Call, lent: &Lent) -> bool {
         Call::LendScreen(pixels) => pixels > SCREEN,
         Call::LendList(numbers) => numbers > LIST,
         Call::LendTarget(pixels) => pixels > TARGET,
+        Call::LendSheet(bytes) => bytes > SHEET,
         Call::Look(look) => lent.target.is_none() && size(look.width, look.height) > u64::from(TARGET),
         Call::Redraw(_, w, h) | Call::Portion(w, h) => lent.screen.is_none() && large(w, h),
         Call::Screen(w, h) | Call::Picture(w, h, _) => large(w, h),
@@ -77,7 +84,7 @@ pub fn answer(call: &Call, group: &Group, lent: &Lent, shadow: &Shadow) -> u8 {
         Call::Portion(w, h) => first_no(&[store(), screen(*w, *h), (20, shadow.is_walking())]),
         Call::Visible(id) => {
             let needed = |id| 4 * group.visible(id).len() as u64;
-            let room = u64::from(lent.list.unwrap_or(LIST));
+            let room = u64::from(lent.list.unwrap_or(VISIBLE));
             first_no(&[used(*id), (9, needed(*id) <= room)])
         }
         Call::Share(id) => first_no(&[used(*id), (24, share::is_given(group, *id))]),
@@ -86,8 +93,20 @@ pub fn answer(call: &Call, group: &Group, lent: &Lent, shadow: &Shadow) -> u8 {
             first_no(&[store(), used(look.id), (22, look::is_allowed(look)), (23, look::is_target(look, length))])
         }
         Call::Hits(points) => first_no(&[small(points), (25, hits::fit(points, lent.list.unwrap_or(POINTS)))]),
+        Call::Sheet(id) => {
+            let length = || sheet::bytes(&sheet::of_group(group, *id)).len() as u32;
+            first_no(&[used(*id), (19, !used(*id).1 || length() <= lent.sheet.unwrap_or(SHEET))])
+        }
+        Call::ReadSheet(bytes) => read_sheet(bytes, lent.list.unwrap_or(LIST)),
         _ => bare(call),
     }
+}
+
+/// "19 when … the reader's list [is shorter] than its rectangles, asked after 18"
+fn read_sheet(bytes: &[u8], room: u32) -> u8 {
+    let read = sheet::read(bytes);
+    let holds = |bands: &Vec<sheet::Band>| sheet::rects(bands).len() as u32 <= room;
+    first_no(&[(18, read.is_some()), (19, read.as_ref().is_none_or(holds))])
 }
 
 fn bare(call: &Call) -> u8 {

@@ -17,7 +17,7 @@ pub fn percent_and_remainder(group: &Group, id: u32) -> [u32; 2] {
 }
 
 /// Nothing where the window is hidden or there is none.
-fn window_and_above(group: &Group, id: u32) -> Vec<Area> {
+pub fn window_and_above(group: &Group, id: u32) -> Vec<Area> {
     group.shown().iter().skip_while(|(shown, _)| *shown != id).map(|(_, rect)| Area::of(rect)).collect()
 }
 

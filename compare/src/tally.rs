@@ -12,6 +12,7 @@ pub struct Tally {
     shares: BTreeMap<String, u64>,
     writes: BTreeMap<String, u64>,
     points: BTreeMap<String, u64>,
+    sheets: BTreeMap<String, u64>,
     /// Calls in the common ground: accepted, or refused by 10, 11 or 12, and so made on both. A begin is nothing to the original.
     pub calls: u64,
     pub lists: u64,
@@ -23,11 +24,12 @@ pub struct Tally {
 const WRITES: [&str; 4] = ["fill", "blit", "fill-scanline", "set-scanline"];
 
 /// Lines that make no call of the original.
-const NO_CALL: [&str; 12] = [
+const NO_CALL: [&str; 15] = [
     "lend",
     "lend-screen",
     "lend-list",
     "lend-target",
+    "lend-sheet",
     "screen",
     "pixels",
     "picture",
@@ -36,6 +38,8 @@ const NO_CALL: [&str; 12] = [
     "hits",
     "look",
     "look-fit",
+    "sheet",
+    "read-sheet",
 ];
 
 impl Tally {
@@ -56,6 +60,9 @@ impl Tally {
         }
         if word == "hits" {
             self.points(&written);
+        }
+        if matches!(word, "sheet" | "read-sheet") {
+            add(&mut self.sheets, &format!("{word}, {}", listed(written.trim_end())));
         }
         if NO_CALL.contains(&word) {
             return;
@@ -113,6 +120,8 @@ impl Tally {
         self.writes.iter().for_each(|(how, count)| println!("  {how:14} {count:9}"));
         println!("points of `hits`, each a press of the original on a copy:");
         self.points.iter().for_each(|(whose, count)| println!("  {whose:14} {count:9}"));
+        println!("sheets written and read:");
+        self.sheets.iter().for_each(|(how, count)| println!("  {how:27} {count:9}"));
         println!("damage:");
         let seen = &self.seen;
         let damage = [("contained", seen.contained), ("merged right", seen.right), ("merged down", seen.down)];
@@ -151,6 +160,17 @@ fn how_much(written: &str) -> &'static str {
         "0 100 0" => "all",
         _ if written.ends_with(" 0") => "whole percent",
         _ => "with remainder",
+    }
+}
+
+/// What the answer to a `sheet` or `read-sheet` says.
+fn listed(written: &str) -> String {
+    match written {
+        "0 1 0" | "0 0" => "of no pixel".to_string(),
+        _ => match written.split_once(' ') {
+            Some(_) => "of pixels".to_string(),
+            None => format!("refused by {written}"),
+        },
     }
 }
 

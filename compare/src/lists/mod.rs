@@ -7,6 +7,7 @@ mod layouts;
 mod no_calls;
 mod paint;
 mod scene;
+mod sheets;
 mod state;
 mod walks;
 mod wrong;
@@ -95,6 +96,7 @@ impl<'a> Maker<'a> {
             (12, Maker::look),
             (5, Maker::share),
             (4, Maker::hits),
+            (4, Maker::sheet),
             (8, Maker::geometry),
             (6, Maker::bare_pixels),
             (3, Maker::wrong),

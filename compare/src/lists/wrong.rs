@@ -65,10 +65,13 @@ impl Maker<'_> {
 
     fn wrong_list(&mut self) -> Step {
         let id = self.id();
-        let room = self.random.pick(&[0, 1, 3, 4, 5, 7, 8, 12, 15, 16, 1_984, 1_985]);
+        let room = self.random.pick(&[0, 1, 3, 4, 5, 7, 8, 12, 15, 16, 1_984, 7_812, 7_813]);
         self.say(&format!("lend-list {room}"))?;
         if self.random.chance(300) {
             self.hits()?;
+        }
+        if self.random.chance(300) {
+            self.sheet()?;
         }
         self.say(&format!("visible {id}"))?;
         self.say(&format!("visible {id}"))
@@ -128,11 +131,12 @@ impl Maker<'_> {
         }
         let count = self.random.pick(&[4096, 4097]);
         let numbers = vec!["7"; count].join(" ");
-        match self.random.from_to(0, 4) {
+        match self.random.from_to(0, 5) {
             0 => self.say(&format!("scanline 64 64 63 0 64 {numbers}")),
             1 => self.say(&format!("region 0 0 64 64 64 {numbers}")),
             2 => self.say(&format!("set-scanline 64 63 0 0 64 64 {numbers}")),
             3 => self.say(&format!("hits {numbers}")),
+            4 => self.say(&format!("read-sheet {numbers}")),
             _ => self.say(&format!("blit 0 0 0 2 2 2 {numbers}")),
         }
     }
