@@ -3,6 +3,7 @@
 #include "roqshyn.h"
 
 #include <stdio.h>
+#include <string.h>
 
 #define SIZE(type, bytes) _Static_assert(sizeof(type) == (bytes), #type)
 SIZE(RoqPos, 8);
@@ -150,6 +151,23 @@ static void fingers(void) {
     EXPECT(roq_hits(s, points, 6, answers, 8) == 5 && answers[0] == LAST);
 }
 
+/* The sheet of the window below, of which one pixel is seen, and its rectangle; what lies behind both; a hidden window; and the refusals, which write
+ * nothing. */
+static void sheets(void) {
+    static const uint8_t one[9] = {4, 0, 0, 0, 16, 128, 0, 0, 2};
+    uint8_t bytes[11] = {9, 9, 9, 9, 9, 9, 9, 9, 9, 9, 9};
+    uint32_t list[5] = {9, 9, 9, 9, 9};
+    EXPECT(roq_sheet(s, 16, bytes, 8).answer == 3 && roq_sheet(s, 7, bytes, 8).answer == 19 && roq_sheet(s, 7, bytes, 8).count == 0 && bytes[0] == 9);
+    RoqListing sheet = roq_sheet(s, 7, bytes, 11), hidden = roq_sheet(s, 8, bytes + 10, 1);
+    EXPECT(sheet.answer == 0 && sheet.count == 9 && memcmp(bytes, one, 9) == 0 && bytes[9] == 9);
+    EXPECT(hidden.answer == 0 && hidden.count == 1 && bytes[10] == 0);
+    EXPECT(roq_read_sheet(bytes, 10, list, 3).answer == 18 && roq_read_sheet(bytes, 0, list, 5).answer == 18);
+    EXPECT(roq_read_sheet(bytes, 9, list, 3).answer == 19 && roq_read_sheet(bytes, 9, list, 3).count == 0 && list[0] == 9);
+    RoqListing read = roq_read_sheet(bytes, 9, list, 5), nothing = roq_read_sheet(bytes + 10, 1, list, 0);
+    EXPECT(read.answer == 0 && read.count == 1 && list[0] == 0 && list[1] == 0 && list[2] == 1 && list[3] == 1 && list[4] == 9);
+    EXPECT(nothing.answer == 0 && nothing.count == 0);
+}
+
 /* A look at the pixels that the fill and the blit wrote: the fields of the struct, what lies around the target, fit, which reads no other
  * field, and the refusals, which write nothing. */
 static void looks(void) {
@@ -196,6 +214,7 @@ static void session(void) {
     looks();
     shares();
     fingers();
+    sheets();
     RoqPlaced at = roq_rect_of(s, LAST);
     EXPECT(at.answer == 0 && is_rect(at.rect, 3000, 4000, 200, 150));
 }

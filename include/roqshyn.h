@@ -1,7 +1,7 @@
 /* The window group for programs in C and C++: link target/staticlib/libstation.a.
  *
  * Answers. Every call answers 0, or the number of the first question of document 01 that it answers with a no. Then it has changed no
- * session, store, list, screen or pixel; only a refused roq_start makes a session all the same. "Asks" below names the questions of a
+ * session, store, list, buffer, screen or pixel; only a refused roq_start makes a session all the same. "Asks" below names the questions of a
  * call, in their order:
  *    1  the lent store has exactly 16 x C pixels       8  the screen's width and height are 1 to 32,767, its length their product
  *    2  C is 1 to 1,048,576                            9  the lent list holds 4 numbers for each visible rectangle
@@ -13,6 +13,8 @@
  *                                                     15  the display has pixels, its x + w and y + h are at most 32,767
  *                                                     16  fewer than eight displays are present
  *                                                     17  the layer is at most 1
+ *                                                     18  the bytes are a valid sheet
+ *                                                     19  the buffer holds the sheet, or the list 4 numbers for each of its rectangles
  *                                                     20  a walk was begun, and is neither over nor dropped
  *                                                     21  the event is no KeyFire, asked before every other
  *                                                     22  the look fits, or its factor is 0.25, 0.5, 1, 2 or 4 and its corner in quarters, 0 to 32,767
@@ -25,7 +27,7 @@
  * Sessions. A session is one that roq_start, also a refused one, and these calls made, in the caller's memory; to keep to that is all
  * that a call asks of its caller. It may be copied and moved as a whole; nobody else writes it. One thread at a time uses it.
  *
- * Lent memory. A pointer and the number after it are an array of that many pixels or numbers. It is lent for the call alone: nothing
+ * Lent memory. A pointer and the number after it are an array of that many pixels, numbers or bytes. It is lent for the call alone: nothing
  * of it is kept. It is aligned and not null, also where its length is 0. No two arrays of a call overlap, nor do they overlap the
  * session, unless both are only read (const). A bool is 0 or 1.
  *
@@ -235,7 +237,7 @@ uint32_t roq_portion(RoqSession *s, uint32_t width, uint32_t height, const uint3
  * changes nothing. Asks nothing. */
 uint32_t roq_dim(RoqSession *s, bool on);
 
-/* How many rectangles a list has: on a no none. */
+/* How many rectangles a list has, or bytes a sheet: on a no none. */
 typedef struct RoqListing {
     uint32_t answer;
     size_t count;
@@ -271,6 +273,14 @@ typedef struct RoqLook {
  * given, NaNs too. Reads the store, writes every pixel of the target; what the window shows is not dimmed. Asks 1, 3, 22, 23. */
 uint32_t roq_look(const RoqSession *s, uint16_t id, RoqLook look, uint32_t tw, uint32_t th, const uint32_t *store, size_t store_len,
                   uint32_t *target, size_t target_len);
+
+/* The visible part of a window, relative to it, as a sheet for the plan printer: packed bits, most significant first. They are the count of bands
+ * in 6 bits; of each band its top and bottom, 15 bits each, and the count of its intervals in 5; of each interval its left and right, 15 bits each.
+ * A band has the rows from its top on, without its bottom, and an interval the columns likewise; neither is empty, and no band is without an
+ * interval. Bands go down and intervals rightward; no two intervals of a band touch, and bands that touch differ in their intervals, so that sheets
+ * are equal exactly where their pixels are. Zero bits fill the last byte. A window that is hidden, wholly covered or without pixels has one zero
+ * byte. Gives the count of bytes. Writes the front of the buffer; 2,048 bytes always suffice. Asks 3, 19. */
+RoqListing roq_sheet(const RoqSession *s, uint16_t id, uint8_t *bytes, size_t bytes_len);
 
 /* The window that has the focus; 0 where none is shown. Asks nothing. */
 uint16_t roq_focus(const RoqSession *s);
@@ -360,6 +370,13 @@ RoqAltered roq_set_scanline(uint32_t *pixels, size_t pixels_len, uint32_t width,
 /* The rows of (x,y,w,h) in a picture whose rows begin `stride` apart, with what lies between them: (h - 1) x stride + w pixels from
  * x + y x stride on. 13 unless h is at least 1, w at most the stride, and the last of them lies in the pixels. */
 RoqPart roq_region(const uint32_t *pixels, size_t pixels_len, size_t stride, uint32_t x, uint32_t y, uint32_t w, uint32_t h);
+
+/* ---- Sheets alone: these ask 18, 19 ---- */
+
+/* The rectangles of a sheet, one an interval, in its order, as x, y, w, h each. Any bytes may be read; 18 where they are not as roq_sheet says, to
+ * the last bit, and where there are none. Gives the count of rectangles. Writes the front of the list; 7,812 numbers always suffice, and 1,984 for
+ * what roq_sheet wrote. */
+RoqListing roq_read_sheet(const uint8_t *bytes, size_t bytes_len, uint32_t *list, size_t list_len);
 
 /* ---- Event times alone: these ask 26, 27 ---- */
 

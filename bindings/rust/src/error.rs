@@ -54,6 +54,8 @@ questions! {
     15 DisplaySize "the display has pixels, its x + w and y + h are at most 32,767"
     16 TooManyDisplays "fewer than eight displays are present"
     17 Layer "the layer is at most 1"
+    18 NoSheet "the bytes are a valid sheet"
+    19 SheetLength "the buffer holds the sheet, or the list 4 numbers for each of its rectangles"
     20 NoWalk "a walk was begun, and is neither over nor dropped"
     21 KeyFire "the event is no KeyFire, asked before every other"
     22 Look "the look fits, or its factor is 0.25, 0.5, 1, 2 or 4 and its corner in quarters, 0 to 32,767"

@@ -53,6 +53,7 @@ mod pixels;
 mod raw;
 mod rect;
 mod session;
+mod sheet;
 mod times;
 
 pub use error::Error;
@@ -60,5 +61,8 @@ pub use event::Event;
 pub use id::Id;
 pub use pixels::{fill_scanline, region, region_mut, scanline, scanline_mut, set_scanline};
 pub use rect::{Dims, Pieces, Pos, Rect};
-pub use session::{Hit, Located, Look, Session, Share, Zoom, MOST_DISPLAYS, MOST_POINTS, MOST_RECTS, WINDOWS};
+pub use session::{
+    Hit, Located, Look, Session, Share, Zoom, MOST_DISPLAYS, MOST_POINTS, MOST_RECTS, MOST_SHEET, WINDOWS,
+};
+pub use sheet::{read_sheet, MOST_READ};
 pub use times::{busiest, Second};

@@ -148,6 +148,7 @@ extern "C" {
     pub fn roq_share(s: *const Session, id: u16) -> Share;
     pub fn roq_hits(s: *const Session, points: *const u32, points_len: usize, answers: *mut u32, answers_len: usize) -> u32;
     pub fn roq_look(s: *const Session, id: u16, look: Look, tw: u32, th: u32, store: *const u32, store_len: usize, target: *mut u32, target_len: usize) -> u32;
+    pub fn roq_sheet(s: *const Session, id: u16, bytes: *mut u8, bytes_len: usize) -> Listing;
     pub fn roq_focus(s: *const Session) -> u16;
     pub fn roq_rect_of(s: *const Session, id: u16) -> Placed;
     pub fn roq_contains(r: Rect, pt: Pos) -> Tested;
@@ -160,5 +161,6 @@ extern "C" {
     pub fn roq_fill_scanline(pixels: *mut u32, pixels_len: usize, width: u32, height: u32, line: u32, ofs: u32, len: u32, value: u32) -> Altered;
     pub fn roq_set_scanline(pixels: *mut u32, pixels_len: usize, width: u32, height: u32, line: u32, ofs: u32, len: u32, data: *const u32, data_len: usize) -> Altered;
     pub fn roq_region(pixels: *const u32, pixels_len: usize, stride: usize, x: u32, y: u32, w: u32, h: u32) -> Part;
+    pub fn roq_read_sheet(bytes: *const u8, bytes_len: usize, list: *mut u32, list_len: usize) -> Listing;
     pub fn roq_busiest(times: *const u32, count: usize) -> Second;
 }

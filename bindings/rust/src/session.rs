@@ -10,6 +10,8 @@ pub const WINDOWS: usize = 16;
 pub const MOST_RECTS: usize = 496;
 /// So many points [`Session::hits`] takes at most.
 pub const MOST_POINTS: usize = 32;
+/// A buffer of so many bytes always suffices for [`Session::sheet`].
+pub const MOST_SHEET: usize = 2048;
 /// So many displays there may be.
 pub const MOST_DISPLAYS: usize = 8;
 
@@ -261,6 +263,13 @@ impl Session {
         Error::checked(unsafe {
             raw::roq_look(&self.0, id.0, look.raw(), tw, th, store.as_ptr(), store.len(), px, len)
         })
+    }
+
+    /// The visible part of a window, relative to it, as a sheet at the front of the bytes; one zero byte where nothing of it is seen.
+    #[inline]
+    pub fn sheet<'a>(&self, id: Id, bytes: &'a mut [u8]) -> Result<&'a [u8], Error> {
+        let listing = unsafe { raw::roq_sheet(&self.0, id.0, bytes.as_mut_ptr(), bytes.len()) };
+        Error::checked(listing.answer).map(|()| &bytes[..listing.count])
     }
 
     /// The window that has the focus; 0 where none is shown.

@@ -171,6 +171,46 @@ fn views() {
 }
 
 #[test]
+fn sheets() {
+    let Station { mut session, plan, panel, .. } = station();
+    let (mut bytes, mut list) = ([9; MOST_SHEET], [Rect::default(); MOST_RECTS]);
+    let seen = [Rect::new(0, 0, 8, 3), Rect::new(0, 3, 2, 3), Rect::new(6, 3, 2, 3), Rect::new(0, 6, 8, 2)];
+    let sheet = session.sheet(plan, &mut bytes).unwrap();
+    assert_eq!(sheet[..10], [12, 0, 0, 0, 48, 128, 0, 0, 16, 0]);
+    assert_eq!(read_sheet(sheet, &mut list), Ok(&seen[..]));
+    assert_eq!(read_sheet(sheet, &mut list[..3]), Err(Error::SheetLength));
+    assert_eq!(read_sheet(&sheet[1..], &mut list), Err(Error::NoSheet));
+    assert_eq!((sheet.len(), bytes[29]), (29, 9));
+    assert_eq!(session.sheet(plan, &mut bytes[..28]), Err(Error::SheetLength));
+    assert_eq!(session.sheet(Id::from(2_u8), &mut bytes), Err(Error::UnknownId));
+    assert_eq!((session.hide(panel), session.sheet(panel, &mut bytes)), (Ok(()), Ok(&[0][..])));
+    assert_eq!((read_sheet(&[0], &mut []), read_sheet(&[], &mut [])), (Ok(&[][..]), Err(Error::NoSheet)));
+}
+
+/// Numbers, each with its bits, most significant first.
+fn packed(numbers: &[(u32, u32)]) -> Vec<u8> {
+    let bits_of = |&(number, bits): &(u32, u32)| (0..bits).rev().map(move |place| (number >> place & 1) as u8);
+    let bits: Vec<u8> = numbers.iter().flat_map(bits_of).collect();
+    bits.chunks(8).map(|byte| byte.iter().enumerate().map(|(place, bit)| bit << (7 - place)).sum()).collect()
+}
+
+/// Bands of 31 intervals each, which do not touch.
+fn largest(bands: u32) -> Vec<u8> {
+    let sides = (0..62).map(|column| (32_767 - 61 + column, 15));
+    let band = |row: u32| [(2 * row, 15), (2 * row + 1, 15), (31, 5)].into_iter().chain(sides.clone());
+    packed(&[(bands, 6)].into_iter().chain((0..bands).flat_map(band)).collect::<Vec<_>>())
+}
+
+#[test]
+fn the_largest_sheet() {
+    let (bytes, mut list) = (largest(63), [Rect::default(); MOST_READ]);
+    let read = read_sheet(&bytes, &mut list).unwrap();
+    assert_eq!((bytes.len(), read.len(), read[MOST_READ - 1]), (7_601, MOST_READ, Rect::new(32_766, 124, 1, 1)));
+    assert_eq!(read_sheet(&bytes, &mut list[1..]), Err(Error::SheetLength));
+    assert_eq!(read_sheet(&bytes[..7_600], &mut list), Err(Error::NoSheet));
+}
+
+#[test]
 fn looks() {
     let Station { session, mut store, plan, .. } = station();
     store[..4].copy_from_slice(&[1, 2, 3, 4]);
