@@ -14,6 +14,8 @@ static ucontext_t here, there;
 
 static RoqSession session;
 static uint32_t store[16 * C], screen[C], list[1984], data[64];
+static uint8_t sheet[2048];
+static size_t sheet_len;
 static RoqSession *const s = &session;
 static const RoqLook fitting = {0, 0, 0, true};
 static const RoqRect area = {{10, 20}, {8, 8}}, other = {{12, 14}, {3, 30}}, whole = {{0, 0}, {WIDTH, HEIGHT}};
@@ -47,6 +49,7 @@ static const RoqEvent press = {25, 25, 0, 0, 0, ROQ_MOUSE_DOWN, 1, 0};
     CALL(roq_share, (s, 0))                                                            \
     CALL(roq_hits, (s, data, 64, list, 1984))                                          \
     CALL(roq_look, (s, 0, fitting, WIDTH, HEIGHT, store, 16 * C, screen, C))           \
+    CALL(roq_sheet, (s, 0, sheet, 2048))                                               \
     CALL(roq_focus, (s))                                                               \
     CALL(roq_rect_of, (s, 0))                                                          \
     CALL(roq_contains, (area, point))                                                  \
@@ -59,14 +62,15 @@ static const RoqEvent press = {25, 25, 0, 0, 0, ROQ_MOUSE_DOWN, 1, 0};
     CALL(roq_fill_scanline, (screen, C, WIDTH, HEIGHT, 3, 2, 100, 7))                  \
     CALL(roq_set_scanline, (screen, C, WIDTH, HEIGHT, 3, 2, 100, data, 64))            \
     CALL(roq_region, (screen, C, WIDTH, 1, 2, 3, 4))                                   \
+    CALL(roq_read_sheet, (sheet, sheet_len, list, 1984))                               \
     CALL(roq_busiest, (data, 64))
 
 static void nothing(void) {}
 #define RUN(name, arguments) static void run_##name(void) { (void)name arguments; }
 CALLS(RUN)
 
-/* The windows on a display as large as the plan, which is maximised; all have events, the plan damage and the next portion; dimming is on. The last
- * id is left unused where a create is to find one. */
+/* The windows on a display as large as the plan, which is maximised; all have events, the plan damage and the next portion; dimming is on; the plan's
+ * sheet is written. The last id is left unused where a create is to find one. */
 static void scene(int windows) {
     memset(&session, 0, sizeof session);
     roq_start(s, C);
@@ -87,6 +91,7 @@ static void scene(int windows) {
     roq_fill(s, 0, other, 6, store, 16 * C);
     roq_dim(s, true);
     roq_begin(s, true);
+    sheet_len = roq_sheet(s, 0, sheet, 2048).count;
 }
 
 /* How far down the paint is gone. */

@@ -36,6 +36,9 @@ pub enum Call {
     Hits(Vec<Pos>),
     /// At window 0, from a corner on: a factor, or none to fit. The screen is the target.
     Look(f64, f64, Option<f64>),
+    Sheet(u16),
+    /// The last sheet that was written.
+    ReadSheet,
     Busiest(Vec<u32>),
 }
 
@@ -67,6 +70,8 @@ impl Call {
             Call::Share(_) => "roq_share",
             Call::Hits(_) => "roq_hits",
             Call::Look(..) => "roq_look",
+            Call::Sheet(_) => "roq_sheet",
+            Call::ReadSheet => "roq_read_sheet",
             Call::Busiest(_) => "roq_busiest",
         }
     }
@@ -88,7 +93,7 @@ pub enum Reply {
     Answer(u32),
     Id(u32),
     Event(Option<Popped>),
-    /// How many rectangles a visible list has.
+    /// How many rectangles a visible list has, or a sheet that was read.
     Count(usize),
     /// Whether a position is on the display, or it is the closest.
     Display(bool, Area),
@@ -106,6 +111,8 @@ pub struct State {
     pub screen: Vec<u32>,
     /// Of the last points: where each lies in its window.
     pub points: Vec<Option<(u32, u32)>>,
+    /// Of the last sheet: a rectangle for each interval.
+    pub sheet: Vec<Area>,
 }
 
 /// One of the implementations, with a session, pixels and a screen.

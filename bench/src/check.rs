@@ -1,5 +1,5 @@
 //! Both sides must say and show the same before they are timed.
-use crate::call::{Area, Call, Reply, Side, State};
+use crate::call::{Area, Call, Side, State};
 use crate::class::Class;
 
 /// Plays the setup, and twice the calls of the class, so that the second time finds what the first has left.
@@ -16,7 +16,7 @@ pub fn same(class: &Class, ours: &mut impl Side, theirs: &mut impl Side) {
 fn one(class: &Class, call: &Call, ours: &mut impl Side, theirs: &mut impl Side) {
     let name = &class.name;
     let (a, b) = (ours.call(call), theirs.call(call));
-    let cut_differently = class.beside.is_pixman() && matches!(a, Reply::Count(_));
+    let cut_differently = class.beside.is_pixman() && matches!(call, Call::Visible(_));
     assert!(a == b || cut_differently, "{name}: {call:?}: ours {a:?}, the other side's {b:?}");
     if let Call::Redraw(_) = call {
         let same = ours.is_screen(&|ours| theirs.is_screen(&|theirs| ours == theirs));

@@ -15,6 +15,7 @@ use crate::scene::{
 };
 use crate::seconds;
 use crate::shares;
+use crate::sheets;
 
 pub const LISTS: &str =
     "the original makes its visible lists here, we make them when a redraw or a visible list needs them";
@@ -51,6 +52,7 @@ pub fn table() -> Vec<Class> {
     all.extend(shares::classes());
     all.extend(points::classes());
     all.extend(looks::classes());
+    all.extend(sheets::classes());
     all.extend(displays::classes());
     all
 }

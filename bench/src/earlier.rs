@@ -1,5 +1,5 @@
-//! Archives of earlier commits, which have no walks, no dimming, no layers, no displays, no busiest second, no share, no answer for many points or no
-//! look: there these functions answer 20, 20, 17, 16, 26, 24, 25 and 22. Where an archive has its own, those are linked.
+//! Archives of earlier commits, which have no walks, no dimming, no layers, no displays, no busiest second, no share, no answer for many points, no
+//! look or no sheets: there these functions answer 20, 20, 17, 16, 26, 24, 25, 22 and 19. Where an archive has its own, those are linked.
 use crate::call::Call;
 use crate::class::{Beside, Class};
 use roqshyn::{busiest, Error, Id, Look, Rect, Session};
@@ -11,8 +11,17 @@ std::arch::global_asm!(".weak roq_set_layer", "roq_set_layer:", "mov eax, 17", "
 std::arch::global_asm!(".weak roq_look", "roq_look:", "mov eax, 22", "ret");
 std::arch::global_asm!(".weak roq_add_display", "roq_add_display:", ".weak roq_maximise", "roq_maximise:");
 std::arch::global_asm!(".weak roq_update_dims", "roq_update_dims:", "mov eax, 16", "ret");
-// The struct goes back in two registers.
+// The struct goes back in two registers, here and in the next two.
 std::arch::global_asm!(".weak roq_share", "roq_share:", "mov eax, 24", "xor edx, edx", "ret");
+std::arch::global_asm!(
+    ".weak roq_sheet",
+    "roq_sheet:",
+    ".weak roq_read_sheet",
+    "roq_read_sheet:",
+    "mov eax, 19",
+    "xor edx, edx",
+    "ret"
+);
 // The caller hands over where the struct goes.
 std::arch::global_asm!(".weak roq_display_at", "roq_display_at:", "mov rax, rdi", "mov dword ptr [rdi], 16", "ret");
 std::arch::global_asm!(
@@ -35,6 +44,9 @@ pub fn has(class: &Class) -> bool {
     let mut session = Session::start(1).expect("C is 1");
     if let [Call::Share(_)] = class.timed[..] {
         return session.share(Id::from(0_u16)) == Err(Error::UnknownId);
+    }
+    if let [Call::Sheet(_) | Call::ReadSheet] = class.timed[..] {
+        return session.sheet(Id::from(0_u16), &mut []) == Err(Error::UnknownId);
     }
     if let [Call::Layer(..), ..] = class.timed[..] {
         return session.set_layer(Id::from(0_u16), 0) == Err(Error::UnknownId);

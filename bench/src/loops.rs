@@ -75,6 +75,13 @@ impl Side for Loops {
     fn state(&mut self) -> State {
         let mut pixels = vec![Vec::new(); 16];
         pixels[0] = self.pixels.clone();
-        State { focus: 0, visible: vec![Vec::new(); 16], pixels, screen: self.screen.clone(), points: Vec::new() }
+        State {
+            focus: 0,
+            visible: vec![Vec::new(); 16],
+            pixels,
+            screen: self.screen.clone(),
+            points: Vec::new(),
+            sheet: Vec::new(),
+        }
     }
 }

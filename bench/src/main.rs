@@ -25,6 +25,7 @@ mod rows;
 mod scene;
 mod seconds;
 mod shares;
+mod sheets;
 mod summary;
 mod targets;
 mod theirs;
@@ -75,6 +76,7 @@ fn tables(folder: &Path, copies: &str, stack: &str) {
         ("seconds", summary::seconds(&table, of_table)),
         ("dims", summary::dims(&table, of_table)),
         ("looks", summary::looks(&table, of_table)),
+        ("sheets", summary::sheets(&table, of_table)),
         ("calls", summary::calls(&table, of_table, &copies, &stack)),
     ];
     let long = tell(&table, of_table, &runs);

@@ -5,7 +5,8 @@ use crate::dims;
 use crate::plain::{Piece, Plain};
 use crate::shares;
 use roqshyn::{
-    busiest, Error, Event, Hit, Id, Located, Look, Pos, Rect, Session, Share, Zoom, MOST_POINTS, MOST_RECTS,
+    busiest, read_sheet, Error, Event, Hit, Id, Located, Look, Pos, Rect, Session, Share, Zoom, MOST_POINTS,
+    MOST_RECTS, MOST_SHEET,
 };
 use std::arch::x86_64::{_mm_clflush, _mm_mfence};
 
@@ -18,6 +19,9 @@ pub struct Ours {
     /// The answers to the last points, of which there were so many.
     answers: [Hit; MOST_POINTS],
     points: usize,
+    /// The bytes of the last sheet, of which there were so many.
+    bytes: [u8; MOST_SHEET],
+    sheet: usize,
     width: u32,
     height: u32,
 }
@@ -32,6 +36,8 @@ impl Ours {
             list: vec![Rect::default(); MOST_RECTS],
             answers: [Hit::default(); MOST_POINTS],
             points: 0,
+            bytes: [0; MOST_SHEET],
+            sheet: 0,
             width,
             height,
         }
@@ -102,6 +108,10 @@ impl Ours {
         seen.iter().map(area).collect()
     }
 
+    fn read(&mut self) -> Result<&[Rect], Error> {
+        read_sheet(&self.bytes[..self.sheet], &mut self.list)
+    }
+
     /// Hands on what a look at window 0 is lent: the window's pixels, its width and height, the target and its width.
     pub fn look_by(&mut self, look: impl FnOnce(&[u32], usize, usize, &mut [u32], usize)) {
         let size = self.session.rect_of(Id::from(0_u16)).unwrap_or_default().dims;
@@ -154,6 +164,12 @@ impl Side for Ours {
                 let look = Look { x, y, zoom: factor.map_or(Zoom::Fit, Zoom::Factor) };
                 answer(s.look(Id::from(0_u16), look, self.width, self.height, &self.store, &mut self.screen))
             }
+            Call::Sheet(id) => {
+                let sheet = s.sheet(Id::from(id), &mut self.bytes);
+                self.sheet = sheet.map_or(0, <[_]>::len);
+                answer(sheet)
+            }
+            Call::ReadSheet => return Reply::Count(self.read().map_or(0, <[_]>::len)),
             Call::Busiest(ref times) => return Reply::Second(busiest(times)),
             Call::Show(id) => answer(s.show(Id::from(id))),
             Call::Hide(id) => answer(s.hide(Id::from(id))),
@@ -196,6 +212,7 @@ impl Side for Ours {
             pixels: (0..16).map(|id| self.pixels(id)).collect(),
             screen: self.screen.clone(),
             points: self.answers[..self.points].iter().map(|hit| hit.id().map(|_| (hit.at.x, hit.at.y))).collect(),
+            sheet: self.read().unwrap_or_default().iter().map(area).collect(),
         }
     }
 }

@@ -1,5 +1,5 @@
 //! Pixman's side: a region for what is visible of a window, and clipped compositing of its pixels. It knows the calls of a scene's setup, full
-//! redraws, visible lists and shares.
+//! redraws, visible lists, shares and sheets, whose rectangles its regions have too.
 use crate::call::{Area, Call, Popped, Reply, Side, State};
 use crate::shares;
 use roqshyn::{Error, Share};
@@ -137,6 +137,8 @@ pub struct Pixman {
     screen: Picture,
     /// Whether a visible list makes one region of the windows above, and subtracts that.
     at_once: bool,
+    /// The window whose sheet was the last, and its region.
+    sheet: Option<(usize, Region)>,
 }
 
 fn corners(a: Area) -> Box32 {
@@ -145,7 +147,8 @@ fn corners(a: Area) -> Box32 {
 
 impl Pixman {
     pub fn new(width: u32, height: u32, at_once: bool) -> Pixman {
-        Pixman { windows: Vec::new(), displays: Vec::new(), screen: Picture::new(width, height), at_once }
+        let screen = Picture::new(width, height);
+        Pixman { windows: Vec::new(), displays: Vec::new(), screen, at_once, sheet: None }
     }
 
     /// A window without those above it.
@@ -187,10 +190,11 @@ impl Pixman {
         shares::share(self.seen(id).rectangles().iter().map(area).sum(), w * h)
     }
 
-    fn visible(&self, id: usize) -> Vec<Area> {
+    /// The rectangles of a region, relative to a window.
+    fn relative(&self, id: usize, region: &Region) -> Vec<Area> {
         let Area(x, y, ..) = self.windows[id].at;
-        let area = |b: &Box32| (b.x1 as u32 - x, b.y1 as u32 - y, (b.x2 - b.x1) as u32, (b.y2 - b.y1) as u32);
-        self.seen(id).rectangles().iter().map(area).map(|(x, y, w, h)| Area(x, y, w, h)).collect()
+        let area = |b: &Box32| Area(b.x1 as u32 - x, b.y1 as u32 - y, (b.x2 - b.x1) as u32, (b.y2 - b.y1) as u32);
+        region.rectangles().iter().map(area).collect()
     }
 }
 
@@ -222,6 +226,11 @@ impl Side for Pixman {
             Call::Redraw(true) => self.redraw(),
             Call::Visible(id) => return Reply::Count(self.seen(usize::from(id)).rectangles().len()),
             Call::Share(id) => return Reply::Share(self.share(usize::from(id))),
+            Call::Sheet(id) => self.sheet = Some((usize::from(id), self.seen(usize::from(id)))),
+            Call::ReadSheet => {
+                let (id, _) = self.sheet.as_ref().expect("a sheet");
+                return Reply::Count(self.seen(*id).rectangles().len());
+            }
             _ => unreachable!("{call:?}"),
         }
         Reply::Answer(0)
@@ -233,10 +242,11 @@ impl Side for Pixman {
 
     fn state(&mut self) -> State {
         let mut pixels: Vec<Vec<u32>> = self.windows.iter().map(|window| window.picture.pixels.clone()).collect();
-        let mut visible: Vec<Vec<Area>> = (0..self.windows.len()).map(|id| self.visible(id)).collect();
+        let mut visible: Vec<Vec<Area>> = (0..self.windows.len()).map(|id| self.relative(id, &self.seen(id))).collect();
         pixels.resize(16, Vec::new());
         visible.resize(16, Vec::new());
         let (focus, screen) = (self.windows.len() as u16 - 1, self.screen.pixels.clone());
-        State { focus, visible, pixels, screen, points: Vec::new() }
+        let sheet = self.sheet.as_ref().map_or(Vec::new(), |(id, region)| self.relative(*id, region));
+        State { focus, visible, pixels, screen, points: Vec::new(), sheet }
     }
 }

@@ -107,6 +107,15 @@ pub fn free_crossing(n: u32) -> Scene {
     Scene { common: false, ..scene(WIDTH, HEIGHT, &places) }
 }
 
+/// A plan, and over it eight bars and seven upright ones that cross them, each beginning lower than the last: its sheet has 144 intervals in 646 bytes.
+pub fn free_bars() -> Scene {
+    let plan = [Area(0, 0, WIDTH, HEIGHT)];
+    let bars = (0..8).map(|k| Area(360, 20 + 50 * k, 240, 20));
+    let upright = (0..7).map(|k| Area(20 + 110 * k, 5 + 10 * k, 20, 475 - 10 * k));
+    let places: Vec<Area> = plan.into_iter().chain(bars).chain(upright).collect();
+    Scene { common: false, ..scene(WIDTH, HEIGHT, &places) }
+}
+
 /// Plans side by side, as wide as a station's screen or as the screen, whichever is less.
 pub fn plans(width: u32) -> Scene {
     let one = width.min(WIDTH);

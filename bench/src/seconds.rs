@@ -117,6 +117,6 @@ impl Side for InRust {
 
     fn state(&mut self) -> State {
         let (visible, pixels) = (vec![Vec::new(); 16], vec![Vec::new(); 16]);
-        State { focus: 0, visible, pixels, screen: vec![0], points: Vec::new() }
+        State { focus: 0, visible, pixels, screen: vec![0], points: Vec::new(), sheet: Vec::new() }
     }
 }

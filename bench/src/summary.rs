@@ -5,9 +5,11 @@ use crate::dims;
 use crate::dims::DIMMED;
 use crate::looks;
 use crate::measure::Measured;
-use crate::report::{nanoseconds, whole};
+use crate::pixman;
+use crate::report::{nanoseconds, whole, NO_PIXMAN};
 use crate::scene::{HEIGHT, WIDTH};
 use crate::seconds::{BUSIEST, EVENTS, KINDS, SQUARE};
+use crate::sheets::{self, AT_ONCE, READ, WRITTEN};
 use std::collections::{BTreeMap, BTreeSet};
 
 /// A number for each exported function, from lines `function number`.
@@ -150,6 +152,24 @@ pub fn looks(classes: &[Class], results: &[Measured]) -> String {
     format!(
         "| factor | target | ours, ns a pixel | the loop in f64 in Rust | ratio | `memcpy` of the rows |\n\
          |---|---|---:|---:|---:|---:|\n{rows}"
+    )
+}
+
+/// The sheet of a plan under 15 bars, beside pixman's region of it.
+pub fn sheets(classes: &[Class], results: &[Measured]) -> String {
+    if !pixman::INSTALLED {
+        return NO_PIXMAN.to_string();
+    }
+    let row = |what: &&str| {
+        let one = named(classes, results, &sheets::name(what, ""));
+        let at_once = named(classes, results, &sheets::name(what, AT_ONCE));
+        let (ours, theirs, region) = (nanoseconds(one.ours), nanoseconds(one.theirs), nanoseconds(at_once.theirs));
+        format!("| {what} | {ours} | {theirs} | {:.2} | {region} | {:.2} |\n", one.ratio, at_once.ratio)
+    };
+    let rows: String = [WRITTEN, READ].iter().map(row).collect();
+    format!(
+        "| 144 intervals, 646 bytes | ours, ns | pixman, one by one | ratio | pixman, at once | ratio |\n\
+         |---|---:|---:|---:|---:|---:|\n{rows}"
     )
 }
 

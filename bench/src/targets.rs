@@ -10,6 +10,7 @@ use crate::points::POINTS;
 use crate::report::{range, NO_PIXMAN};
 use crate::seconds::BUSIEST;
 use crate::shares::SHARE;
+use crate::sheets::{READ, WRITTEN};
 
 #[derive(Clone, Copy)]
 enum Bound {
@@ -40,7 +41,7 @@ const WIDE_FILLS: &[&str] = &["fill 300 by", "fill 800 by", "fill 4000 by", "fil
 const NARROW_BLITS: &[&str] = &["blit 8 by", "blit 16 by", "blit 32 by", "blit 64 by", "blit 100 by"];
 const WIDE_BLITS: &[&str] = &["blit 300 by", "blit 800 by", "blit 4000 by", "blit 32767 by"];
 
-const TARGETS: [Target; 29] = [
+const TARGETS: [Target; 31] = [
     target("mark", Beside::Original, &["mark"], Time(1.0)),
     target("move", Beside::Original, &["move, "], Time(1.0)),
     target("show, hide", Beside::Original, &["hide or show"], Time(1.0)),
@@ -69,6 +70,8 @@ const TARGETS: [Target; 29] = [
     target("share in view", Beside::Pixman, &[SHARE], Time(1.0)),
     target("share in view", Beside::Listed, &[SHARE], Time(1.0)),
     target("32 points together", Beside::Original, &[POINTS], Time(1.0)),
+    target("region sheet, written", Beside::Pixman, &[WRITTEN], Time(1.0)),
+    target("region sheet, read", Beside::Pixman, &[READ], Time(1.0)),
     target("a closer look", Beside::Floats, &[LOOK], Time(0.7)),
     target("busiest second of 4,096 events", Beside::OnePass, &[BUSIEST], Time(1.1)),
 ];

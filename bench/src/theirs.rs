@@ -120,7 +120,8 @@ impl Side for Theirs {
                 self.points.clear();
                 self.points.extend(points.iter().map(|point| g.at(point.x, point.y)));
             }
-            Call::Begin(_) | Call::Portion | Call::Dim(_) | Call::Share(_) | Call::Look(..) | Call::Busiest(_) => {
+            Call::Begin(_) | Call::Portion | Call::Dim(_) => unreachable!("the original has no such call"),
+            Call::Share(_) | Call::Look(..) | Call::Sheet(_) | Call::ReadSheet | Call::Busiest(_) => {
                 unreachable!("the original has no such call")
             }
         }
@@ -145,6 +146,7 @@ impl Side for Theirs {
             pixels: (0..16).map(|id| self.pixels(id)).collect(),
             screen: self.screen.lock().clone(),
             points: self.points.clone(),
+            sheet: Vec::new(),
         }
     }
 }
