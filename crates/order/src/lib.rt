@@ -11,15 +11,10 @@ ghost use Rattle.order.specs.Order.{noId, idxOf, renderIdx, Closed, Mark
 use places::window_at;
 use places::with_window;
 
-pub mod due;
 pub mod frames;
-pub mod hits;
 pub mod layers;
 pub mod places;
-pub mod points;
 pub mod rects;
-pub mod release;
-pub mod topmost;
 
 // The number of a window, 0 to 15. Any other number is answered by 3.
 #[repr(C)]

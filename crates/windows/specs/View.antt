@@ -23,7 +23,7 @@ use Rattle.rules.specs.DisplayAt.{displayAt}
 use Rattle.rules.specs.Visible.{visibleList}
 use Rattle.rules.specs.Sheets.{sheet}
 use Rattle.rules.specs.Calls.{Call, does, after}
-use Rattle.order.specs.declared.due.Walk.{Walk}
+use Rattle.due.specs.declared.Walk.{Walk}
 use Rattle.order.specs.Ids.{ids, heldOf}
 use Rattle.display.specs.Held.{regions, RepDisplays, locatedOf}
 use Rattle.windows.specs.declared.Session.{Session}

@@ -11,9 +11,9 @@ use Rattle.rules.specs.Order.{hidden, toTop}
 use Rattle.rules.specs.Calls.{Call}
 use Rattle.order.specs.declared.WinId.{WinId}
 use Rattle.order.specs.Order.{noId}
-use Rattle.order.specs.declared.due.Due.{Due}
+use Rattle.due.specs.declared.Due.{Due}
 use Rattle.order.specs.Rects.{Holds}
-use Rattle.order.specs.Due.{owing, further}
+use Rattle.due.specs.Due.{owing, further}
 use Rattle.windows.specs.declared.Shared.{Shared}
 use Rattle.windows.specs.declared.Session.{Session}
 use Rattle.windows.specs.declared.Changed.{Changed}

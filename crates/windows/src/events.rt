@@ -19,10 +19,10 @@ use crate::small::small_point;
 use order::RenderIdx;
 use order::WinId;
 use order::get_render_idx;
-use order::release::NOBODY;
-use order::release::nearest;
-use order::release::taker;
-use order::topmost::Hit;
+use topmost::Hit;
+use topmost::release::NOBODY;
+use topmost::release::nearest;
+use topmost::release::taker;
 use window::Event;
 use window::Window;
 

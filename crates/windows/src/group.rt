@@ -12,12 +12,12 @@ use crate::Session;
 use crate::Shared;
 use crate::one;
 use display::Displays;
+use due::Due;
+use due::Walk;
 use geom::Rect;
 use order::WinId;
-use order::due::Due;
-use order::due::Walk;
 use order::frames::first_free;
-use order::release::NOBODY;
+use topmost::release::NOBODY;
 use window::Window;
 
 impl Session {

@@ -1,7 +1,7 @@
 // Which windows lie under many points. Document 02, N12.
 ghost use Rattle.windows.specs.View.{group, Given, Hits};
 use crate::Session;
-use order::points;
+use topmost::points;
 
 impl Session {
     // For each point, x and y in turn, three numbers: the window that a press there would go to and the point in it, or 16, 0, 0. Nothing is
@@ -16,7 +16,7 @@ impl Session {
                 let areas = frames.areas;
                 let order = self.shared.order;
                 let n = points.len() / 2;
-                order::hits::hits(areas, order, self.shared.shown, points, answers, n);
+                topmost::hits::hits(areas, order, self.shared.shown, points, answers, n);
                 return 0;
             }
             return 25;

@@ -13,9 +13,9 @@
 //     the lent screen            what a redraw writes, window by window in the order, each under those above it
 use display::Displays;
 use display::Located;
+use due::Due;
 use geom::Rect;
 use order::WinId;
-use order::due::Due;
 use winbuf::Altered;
 use window::Event;
 use window::Window;

@@ -20,7 +20,7 @@ use order::get_render_idx;
 use order::layers::insert;
 use order::layers::to_top;
 use order::layers::with_layer;
-use order::release::forget;
+use topmost::release::forget;
 use window::Window;
 
 // Where the window of an id lies: at its number. For a number that no window has it is 0, and the call is refused, whatever lies there.

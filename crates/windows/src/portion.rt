@@ -11,7 +11,7 @@ use crate::Shared;
 use crate::SharedDone;
 use crate::redraw::draw_window;
 use crate::redraw::screen_fits;
-use order::due::either;
+use due::either;
 use order::places::window_at;
 use order::rects;
 use order::rects::Rects;

@@ -27,7 +27,8 @@ use Rattle.rules.proofs.group.Steps.{holder-held}
 use Rattle.order.specs.declared.frames.Frames.{Frames}
 use Rattle.order.specs.Ids.{ids}
 use Rattle.order.specs.Order.{noId}
-use Rattle.order.specs.Frames.{frameAt, Shown, topmostAt, takerAt}
+use Rattle.order.specs.Frames.{frameAt, Shown}
+use Rattle.topmost.specs.Topmost.{topmostAt, takerAt}
 use Rattle.windows.specs.declared.Session.{Session}
 use Rattle.windows.specs.View.{group, windowAt, Given}
 use Rattle.windows.specs.Frames.{Framed}

@@ -25,8 +25,8 @@ use Rattle.order.specs.declared.rects.Rects.{Rects}
 use Rattle.order.specs.declared.frames.Frames.{Frames}
 use Rattle.order.specs.Order.{noId}
 use Rattle.order.specs.Rects.{Holds}
-use Rattle.order.specs.declared.due.Walk.{Walk}
-use Rattle.order.specs.Due.{walkAt, begun}
+use Rattle.due.specs.declared.Walk.{Walk}
+use Rattle.due.specs.Due.{walkAt, begun}
 use Rattle.order.proofs.laws.Above.{framesFrom}
 use Rattle.order.proofs.laws.Rects.{lends}
 use Rattle.windows.specs.declared.Session.{Session}

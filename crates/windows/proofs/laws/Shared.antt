@@ -7,9 +7,9 @@ use mathlib.Core.Option.{none, some}
 use native.Mathlib.Omega.{arith}
 use lib.Dec.{leb}
 use Rattle.rules.specs.Group.{Group, withLayers, setMaximised, note, isOver, settle, sentBack, owing}
-use Rattle.order.specs.declared.due.Walk.{Walk}
+use Rattle.due.specs.declared.Walk.{Walk}
 use Rattle.order.specs.Ids.{ids}
-use Rattle.order.specs.Due.{walkAt, noWalk, settled}
+use Rattle.due.specs.Due.{walkAt, noWalk, settled}
 use Rattle.order.proofs.laws.Order.{ids-length}
 use Rattle.windows.specs.declared.Shared.{Shared}
 use Rattle.windows.specs.declared.Session.{Session}

@@ -12,7 +12,7 @@ use Rattle.display.specs.declared.Displays.{Displays}
 use Rattle.display.specs.Held.{regions, RepDisplays}
 use Rattle.windows.specs.declared.Session.{Session}
 use Rattle.windows.specs.View.{cell, walkOf, group, blank, Rep}
-use Rattle.order.specs.Due.{noWalk}
+use Rattle.due.specs.Due.{noWalk}
 use borrow.Author.Needs.{needs}
 use Rattle.windows.proofs.Session.fresh.Statement.{statement}
 use Rattle.windows.proofs.Session.fresh.Tie as tie

@@ -1,7 +1,7 @@
 -- What is due then, in every session that shares this.
 use mathlib.Core.Path.{sym, ap, subst, _∙_}
 use Rattle.rules.specs.Calls.{Begin}
-use Rattle.order.specs.Due.{begun}
+use Rattle.due.specs.Due.{begun}
 use Rattle.windows.specs.declared.Shared.{Shared}
 use Rattle.windows.specs.View.{Meets, done}
 use Rattle.windows.specs.Walk.{noted, sharing}

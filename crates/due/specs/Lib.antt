@@ -1,0 +1,2 @@
+-- What our own functions say of what is due.
+pub mod Due

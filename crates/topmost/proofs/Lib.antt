@@ -1,0 +1,2 @@
+-- Lemmas of the topmost windows at points.
+pub mod laws

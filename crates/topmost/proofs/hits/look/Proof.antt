@@ -1,0 +1,105 @@
+-- Three cases: the window has the point; it has not; a higher one had it.
+use Prim.Native.Nat.{_*_, _+_}
+use mathlib.Core.Path.{sym, _∙_}
+use lib.ListN.{getD}
+use Rattle.geom.proofs.geometry.Facts.{In, says-in}
+use Rattle.topmost.proofs.laws.Hits.{takes, lacks, passes-over}
+use borrow.Author.Needs.{needs}
+use Rattle.topmost.proofs.hits.look.Statement.{statement}
+use Rattle.topmost.proofs.hits.look.Tie as tie
+
+mul-if1 : tie.Need-mul-if1
+mul-if1 c = search needs
+
+mul-if1-2 : tie.Need-mul-if1-2
+mul-if1-2 c = search needs
+
+slice-read-if1 : tie.Need-slice-read-if1
+slice-read-if1 c = search needs
+
+mul-x : tie.Need-mul-x
+mul-x c = search needs
+
+mul-x-2 : tie.Need-mul-x-2
+mul-x-2 c = search needs
+
+shared-slice-read-x : tie.Need-shared-slice-read-x
+shared-slice-read-x c = search needs
+
+mul-y : tie.Need-mul-y
+mul-y c = search needs
+
+add-y : tie.Need-add-y
+add-y c = search needs
+
+mul-y-2 : tie.Need-mul-y-2
+mul-y-2 c = search needs
+
+shared-slice-read-y : tie.Need-shared-slice-read-y
+shared-slice-read-y c = search needs
+
+contains-requires : tie.Need-contains-requires
+contains-requires c κs = search needs
+
+cast-put : tie.Need-cast-put
+cast-put c = search needs
+
+-- the window has the point
+has : (c : tie.Then2)
+    → let a = c .before .before .before .before .before .before .before .before .args in
+    In (a .r) (getD (a .points .now) (2 * a .i) 0) (getD (a .points .now) (2 * a .i + 1) 0)
+has c = says-in _ _ _ .fact (sym (c .before .contains .ensures) ∙ c .if2 .taken)
+
+sub-put : tie.Need-sub-put
+sub-put c = has (c .before .before .before) .west
+
+sub-put-2 : tie.Need-sub-put-2
+sub-put-2 c = has (c .before .before .before .before) .north
+
+put-requires : tie.Need-put-requires
+put-requires c κs = search needs
+
+same-length : tie.Need-same-length
+same-length c = search needs
+
+returns : tie.Need-returns
+returns c =
+    let t = c .before .before .before .before .before .before .before in
+    let i = t .before .before .before .before in
+    let a = i .before .before .before .before .args in
+    takes (a .id .0) (a .r) (a .points .now) (a .answers .now) (a .i) _ (i .if1 .taken) (sym (t .before .contains .ensures) ∙ t .if2 .taken)
+    (c .before .before .put .ensures)
+
+returns-2 : tie.Need-returns-2
+returns-2 c =
+    let a = c .before .before .before .before .before .before .before .before .args in
+    lacks (a .id .0) (a .r) (a .points .now) (a .answers .now) (a .i) (sym (c .before .contains .ensures) ∙ c .if2 .left)
+
+returns-3 : tie.Need-returns-3
+returns-3 c =
+    let a = c .before .before .before .before .args in
+    passes-over (a .id .0) (a .r) (a .points .now) (a .answers .now) (a .i) (c .if1 .left)
+
+pub look-spec : {M : Type 1} → statement M
+look-spec =
+    tie.close
+    (tie.spec
+    mul-if1
+    mul-if1-2
+    slice-read-if1
+    mul-x
+    mul-x-2
+    shared-slice-read-x
+    mul-y
+    add-y
+    mul-y-2
+    shared-slice-read-y
+    contains-requires
+    cast-put
+    sub-put
+    sub-put-2
+    put-requires
+    same-length
+    returns
+    returns-2
+    returns-3)

@@ -1,0 +1,55 @@
+-- The window that is remembered, if there is one with pixels; the two ways that there is none meet at the search for the topmost.
+use Prim.Native.Nat.{ℕ, _≤_, _<_}
+use mathlib.Core.Path.{_≡_, refl, sym, ap, _∙_}
+use mathlib.Core.Bool.{true, false}
+use mathlib.Core.Logic.{⊎-elim}
+use mathlib.Core.List.{List}
+use mathlib.Core.Option.{none, some}
+use borrow.Author.Tests.{lt-ltb, le-ltb, not-true, not-false}
+use Rattle.geom.specs.declared.Rect.{Rect}
+use Rattle.geom.specs.Geom.{isEmpty}
+use Rattle.order.specs.Ids.{heldOf}
+use Rattle.topmost.specs.Topmost.{topmostAt, takerAt}
+use borrow.Author.Needs.{needs}
+use Rattle.topmost.proofs.release.taker.Statement.{statement}
+use Rattle.topmost.proofs.release.taker.Tie as tie
+
+module _ (frame : ℕ → Rect) (x y : ℕ) (os : List ℕ) (held : ℕ) where
+  remembered : held < 16 → isEmpty (frame held) ≡ false → some held ≡ takerAt frame x y os (heldOf held)
+  remembered l e = rw (lt-ltb held 16 l, e) refl
+
+  no-pixels : held < 16 → isEmpty (frame held) ≡ true → topmostAt frame x y os none ≡ takerAt frame x y os (heldOf held)
+  no-pixels l e = rw (lt-ltb held 16 l, e) refl
+
+  nobody : 16 ≤ held → topmostAt frame x y os none ≡ takerAt frame x y os (heldOf held)
+  nobody l = rw (le-ltb held 16 l) refl
+
+mul-area : tie.Need-mul-area
+mul-area c = search needs
+
+array-copy-out-area : tie.Need-array-copy-out-area
+array-copy-out-area c = search needs
+
+rect-requires : tie.Need-rect-requires
+rect-requires c κs = search needs
+
+is-empty-requires : tie.Need-is-empty-requires
+is-empty-requires c κs = search needs
+
+returns : tie.Need-returns
+returns c =
+    let e = c .before in
+    remembered _ _ _ _ _ (e .before .before .before .if1 .taken)
+    (ap isEmpty (sym (e .before .rect .ensures)) ∙ sym (e .is-empty .ensures) ∙ not-true _ (c .if2 .taken))
+
+topmost-requires : tie.Need-topmost-requires
+topmost-requires c κs = search needs
+
+returns-2 : tie.Need-returns-2
+returns-2 c =
+    c .topmost .ensures
+    ∙ ⊎-elim (λ w. no-pixels _ _ _ _ _ (w .0 .taken) (ap isEmpty (sym (w .2 .ensures)) ∙ sym (w .3 .ensures) ∙ not-false _ (w .4 .left))) (λ w. nobody _ _ _ _ _ (w .left))
+    (c .before .if1 .came)
+
+pub taker-spec : {M : Type 1} → statement M
+taker-spec = tie.close (tie.spec mul-area array-copy-out-area rect-requires is-empty-requires returns topmost-requires returns-2)

@@ -1,0 +1,57 @@
+// A release stays with its press: document 02, N1. The number of the window that took the last MouseDown, the window that an event at a point
+// is for, and the pixel of a window that is nearest to the point.
+ghost use mathlib.Core.Path.{_≡_};
+ghost use Prim.Native.Nat.{_-_, _<_};
+ghost use Rattle.rules.specs.Order.{forget};
+ghost use Rattle.geom.specs.Nearest.{cut};
+ghost use Rattle.order.specs.Ids.{ids, heldOf};
+ghost use Rattle.order.specs.Frames.{frameAt, Shown};
+ghost use Rattle.topmost.specs.Topmost.{hitOf, takerAt};
+use crate::Hit;
+use crate::topmost;
+use geom::inner::is_empty;
+use order::WinId;
+use window::damage::Area;
+
+// Who is remembered where no window is: a number that no window has.
+pub const NOBODY: u8 = 16;
+
+// Who is remembered once a window is hidden: any other window stays.
+pub fn forget(held: u8, id: WinId) -> u8
+    ensures { λ r. ⌜ heldOf r ≡ forget (id .0) (heldOf held) ⌝ }
+{
+    if held as u16 == id.0 {
+        return NOBODY;
+    }
+    held
+}
+
+// The window `held`, if it is one and has pixels; else the topmost one at the point.
+pub fn taker(areas: [Area; 16], order: [WinId; 16], shown: usize, held: u8, x: u32, y: u32) -> Hit
+    requires { ⌜ Shown areas order shown ⌝ }
+    ensures { λ r. ⌜ hitOf r ≡ takerAt (frameAt areas) x y (ids shown order) (heldOf held) ⌝ }
+{
+    if held < 16 {
+        let at = held as usize;
+        let area = areas[at];
+        if !is_empty(area.rect()) {
+            return Hit::Window(WinId(held as u16));
+        }
+    }
+    topmost(areas, order, shown, x, y)
+}
+
+// Of the n numbers from `first` on, the one nearest to p, counted from `first`.
+pub fn nearest(first: u32, n: u32, p: u32) -> u32
+    requires { ⌜ 0 < n ⌝ }
+    ensures { λ r. ⌜ r ≡ cut first n p - first ⌝ }
+{
+    if p < first {
+        return 0;
+    }
+    let past = p - first;
+    if past < n {
+        return past;
+    }
+    n - 1
+}
