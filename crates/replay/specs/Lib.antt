@@ -1,5 +1,4 @@
 -- What the contracts of the program cite.
-pub mod Numbers
 pub mod Called
 pub mod Ready
 pub mod Looks

@@ -2,12 +2,11 @@
 ghost use mathlib.Core.Path.{_≡_};
 ghost use Prim.Native.Nat.{_≤_};
 ghost use Rattle.windows.specs.View.{group, Given, Locates};
-ghost use Rattle.replay.specs.Numbers.{num};
+ghost use Rattle.bare.specs.Numbers.{num};
 ghost use Rattle.replay.specs.Ready.{Ready, Next};
-use crate::geometry;
-use crate::numbers;
 use crate::player::Player;
-use crate::text;
+use bare::geometry;
+use bare::numbers;
 use display::Located;
 use windows::ForPos;
 use windows::Session;

@@ -3,12 +3,11 @@ ghost use Prim.Native.Nat.{_*_, _/_, _≤_};
 ghost use lib.ListN.{length, take};
 ghost use mathlib.Core.Path.{_≡_};
 ghost use Rattle.windows.specs.View.{group, Given};
-ghost use Rattle.replay.specs.Numbers.{Sound};
+ghost use Rattle.bare.specs.Numbers.{Sound};
 ghost use Rattle.replay.specs.Ready.{Ready, Next, unlisted};
 ghost use Rattle.replay.specs.Played.{HitsPart};
 use crate::lend;
 use crate::player::Player;
-use crate::text;
 use script::Line;
 use windows::Session;
 

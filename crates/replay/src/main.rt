@@ -4,19 +4,14 @@
 mod calls;
 mod displays;
 mod events;
-mod geometry;
 mod hits;
 mod input;
 mod lend;
 mod looks;
-mod numbers;
-mod picture;
-mod pixels;
 mod player;
 mod share;
 mod sheets;
 mod show;
-mod text;
 mod times;
 
 // The arrays are made apart from where they are used: a function with no clause that does nothing else.

@@ -2,11 +2,10 @@
 ghost use mathlib.Core.Path.{_≡_};
 ghost use Prim.Native.Nat.{_≤_};
 ghost use Rattle.windows.specs.View.{group, Given, Shares};
-ghost use Rattle.replay.specs.Numbers.{idOf};
+ghost use Rattle.bare.specs.Numbers.{idOf};
 ghost use Rattle.replay.specs.Ready.{Ready, Next};
-use crate::numbers;
 use crate::player::Player;
-use crate::text;
+use bare::numbers;
 use windows::InView;
 use windows::Session;
 

@@ -2,12 +2,11 @@
 ghost use Prim.Native.Nat.{_+_, _≤_};
 ghost use lib.ListN.{length};
 ghost use Rattle.windows.specs.View.{Given};
-ghost use Rattle.replay.specs.Numbers.{Sound};
-use crate::numbers;
-use crate::picture;
-use crate::text;
+ghost use Rattle.bare.specs.Numbers.{Sound};
+use bare::numbers;
 use script::Line;
 use script::kind;
+use text::picture;
 use windows::Session;
 
 // A line of 0 and so many pixels from a place on.

@@ -3,10 +3,9 @@ ghost use mathlib.Core.Path.{_≡_};
 ghost use Prim.Native.Nat.{_≤_};
 ghost use lib.ListN.{length, take};
 ghost use Rattle.rate.specs.Busiest.{busiest};
-ghost use Rattle.replay.specs.Numbers.{Sound};
+ghost use Rattle.bare.specs.Numbers.{Sound};
 ghost use Rattle.replay.specs.Ready.{Ready, Next};
 use crate::player::Player;
-use crate::text;
 use rate::Second;
 use script::Line;
 

@@ -4,7 +4,7 @@ use Rattle.geom.specs.declared.Rect.{Rect}
 use Rattle.rules.specs.Calls as Call
 use Rattle.rules.specs.Calls.{Call}
 use Rattle.windows.specs.View.{Meets}
-use Rattle.replay.specs.Numbers.{num, idOf}
+use Rattle.bare.specs.Numbers.{num, idOf}
 use Rattle.replay.proofs.laws.Arms.{routes-left}
 use Rattle.replay.proofs.laws.Picked.{plain-at, by-id}
 use borrow.Author.Needs.{needs}

@@ -3,7 +3,7 @@ use mathlib.Core.Path.{_≡_, subst}
 use Rattle.rules.specs.Calls as Call
 use Rattle.rules.specs.Calls.{Call}
 use Rattle.windows.specs.View.{MeetsAltered}
-use Rattle.replay.specs.Numbers.{num, idOf, rectAt}
+use Rattle.bare.specs.Numbers.{num, idOf, rectAt}
 use borrow.Author.Needs.{needs}
 use Rattle.replay.proofs.lend.blit.Statement.{statement}
 use Rattle.replay.proofs.lend.blit.Tie as tie
