@@ -1,4 +1,4 @@
--- What everybody must believe of region sheets.
+-- What everybody must believe of region sheets; `Cursor`, `Checks`, `Numbers` and `Writer` say what our own functions do.
 pub mod Sheet
 pub mod Bytes
 pub mod Cursor
