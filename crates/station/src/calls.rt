@@ -24,14 +24,18 @@ use windows::InView;
 use windows::Listing;
 use windows::Placed;
 use windows::Session;
-use windows::dim;
-use windows::dims::moved;
-use windows::dims::take;
-use windows::events::tell;
-use windows::one;
-use windows::one::slot;
-use windows::portion;
-use windows::store;
+use windows::inner::dim;
+use windows::inner::dims::moved;
+use windows::inner::dims::plan_moves;
+use windows::inner::dims::plan_take;
+use windows::inner::dims::take;
+use windows::inner::events::tell;
+use windows::inner::one;
+use windows::inner::one::slot;
+use windows::inner::portion;
+use windows::inner::redraw::draw;
+use windows::inner::redraw::settled;
+use windows::inner::store;
 
 #[no_mangle]
 pub extern "C" fn roq_start(s: &mut Session, c: u32) -> u32
@@ -48,7 +52,7 @@ pub extern "C" fn roq_create(s: &mut Session) -> RoqCreated
     requires { ⌜ Given (now s) ⌝ }
     ensures { λ r. ⌜ Creates (now (s .entry)) (now (s .exit)) r ⌝ }
 {
-    let free = (*s).free_slot();
+    let free = one::free_slot(*s);
     let at = free.at;
     let d = values::create((*s).windows[at], (*s).shared, free.id);
     let w = d.window;
@@ -213,7 +217,7 @@ pub extern "C" fn roq_maximise(s: &mut Session, id: WinId, store: &mut [u32]) ->
     requires { ⌜ Given (now s) ⌝ }
     ensures { λ r. ⌜ MeetsStore (Call.Maximise (id .0) (now (store .entry))) (now (s .entry)) (done (now (s .exit)) r) (now (store .exit)) ⌝ }
 {
-    let t = (*s).taking(id, store);
+    let t = plan_take(*s, id, store);
     let at = t.at;
     let d = take((*s).windows[at], (*s).shared, t.what);
     let w = d.window;
@@ -228,7 +232,7 @@ pub extern "C" fn roq_update_dims(s: &mut Session, store: &mut [u32]) -> u32
     requires { ⌜ Given (now s) ⌝ }
     ensures { λ r. ⌜ MeetsStore (Call.UpdateDims (now (store .entry))) (now (s .entry)) (done (now (s .exit)) r) (now (store .exit)) ⌝ }
 {
-    let p = (*s).planned(store);
+    let p = plan_moves(*s, store);
     let e = moved(*s, p);
     let t = e.session;
     *s = t;
@@ -276,8 +280,8 @@ pub extern "C" fn roq_redraw(
     requires { ⌜ Given (now s) ⌝ }
     ensures { λ r. ⌜ MeetsScreen (Call.Redraw told width height (now (store .entry)) (now (screen .entry))) (now (s .entry)) (done (now (s .exit)) r) (now (screen .exit)) ⌝ }
 {
-    let d = (*s).draw(told, width, height, store, screen);
-    let e = (*s).settled(d);
+    let d = draw(*s, told, width, height, store, screen);
+    let e = settled(*s, d);
     let t = e.session;
     *s = t;
     e.answer
@@ -316,7 +320,7 @@ pub extern "C" fn roq_portion(
     requires { ⌜ Given (now s) ⌝ }
     ensures { λ r. ⌜ MeetsScreen (Call.Portion width height (now (store .entry)) (now (screen .entry))) (now (s .entry)) (done (now (s .exit)) r) (now (screen .exit)) ⌝ }
 {
-    let turn = (*s).turn();
+    let turn = portion::whose_turn(*s);
     let at = turn.at;
     let d = portion::treat(
         (*s).windows[at],

@@ -21,9 +21,10 @@ use windows::NewId;
 use windows::NextEvent;
 use windows::Session;
 use windows::Shared;
-use windows::events::Aim;
-use windows::events::nobody;
-use windows::one;
+use windows::inner::events::Aim;
+use windows::inner::events::aim_event;
+use windows::inner::events::nobody;
+use windows::inner::one;
 
 // The answer and the id: 65,535 where the call was refused.
 #[repr(C)]
@@ -125,7 +126,7 @@ pub fn pop(win: Window, shared: Shared, id: WinId) -> Taken
     requires { ⌜ RepWindow win ⌝ }
     ensures { λ r. ⌜ TakesAt (id .0) win shared r ⌝ }
 {
-    let first = windows::events::pop(win, id);
+    let first = windows::inner::events::pop(win, id);
     let next = first.event;
     let event = events::numbers_of(next);
     let popped = RoqPopped {
@@ -147,7 +148,7 @@ pub fn aim(s: Session, e: RoqEvent) -> Aim
 {
     let next = events::event_of(e);
     match next {
-        NextEvent::Event(told) => s.aim(told),
+        NextEvent::Event(told) => aim_event(s, told),
         NextEvent::Absent => nobody(11),
     }
 }

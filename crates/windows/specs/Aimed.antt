@@ -11,10 +11,10 @@ use Rattle.windows.specs.declared.Session.{Session}
 use Rattle.windows.specs.declared.Shared.{Shared}
 use Rattle.windows.specs.declared.Changed.{Changed}
 use Rattle.windows.specs.declared.Done.{Done}
-use Rattle.windows.specs.declared.events.Told.{Told}
-use Rattle.windows.specs.declared.events.Aim.{Aim}
-use Rattle.windows.specs.declared.events.Message.{Message}
-use Rattle.windows.specs.declared.events.PoppedOne.{PoppedOne}
+use Rattle.windows.specs.declared.inner.events.Told.{Told}
+use Rattle.windows.specs.declared.inner.events.Aim.{Aim}
+use Rattle.windows.specs.declared.inner.events.Message.{Message}
+use Rattle.windows.specs.declared.inner.events.PoppedOne.{PoppedOne}
 use Rattle.windows.specs.View.{windowAt, Given, MeetsEvent, done}
 use Rattle.windows.specs.One.{At, put}
 use Rattle.windows.specs.Walk.{holding}
@@ -28,7 +28,7 @@ toNobody answer = record { at = 0; what = record { told = false; held = 16; answ
 abbrev pub toWindow : ℕ → Event → ℕ → Aim
 toWindow at e held = record { at = at; what = record { told = true; held = held; answer = 0; event = e } }
 
--- another window is remembered, if the answer is 0: "a refused call changes nothing, the memory included"
+-- another window is remembered, if the answer is 0; a refused call leaves this too
 abbrev pub remembered : ℕ → ℕ → Shared → Shared
 remembered answer held k = cond (eqb answer 0) (holding held k) k
 

@@ -16,9 +16,9 @@ use Rattle.windows.specs.declared.Shared.{Shared}
 use Rattle.windows.specs.declared.Session.{Session}
 use Rattle.windows.specs.declared.Changed.{Changed}
 use Rattle.windows.specs.declared.Done.{Done}
-use Rattle.windows.specs.declared.dims.Takes.{Takes}
-use Rattle.windows.specs.declared.dims.Taking.{Taking}
-use Rattle.windows.specs.declared.dims.Planned.{Planned}
+use Rattle.windows.specs.declared.inner.dims.Takes.{Takes}
+use Rattle.windows.specs.declared.inner.dims.Taking.{Taking}
+use Rattle.windows.specs.declared.inner.dims.Planned.{Planned}
 use Rattle.windows.specs.View.{group, windowAt, Rep}
 use Rattle.windows.specs.Walk.{flagged, indebted}
 use Rattle.windows.specs.Pixels.{Becomes}

@@ -14,7 +14,7 @@ use Rattle.order.specs.Order.{noId}
 use Rattle.windows.specs.declared.Shared.{Shared}
 use Rattle.windows.specs.declared.Session.{Session}
 use Rattle.windows.specs.declared.Done.{Done}
-use Rattle.windows.specs.declared.redraw.Drawn.{Drawn}
+use Rattle.windows.specs.declared.inner.redraw.Drawn.{Drawn}
 use Rattle.windows.specs.View.{group, Rep, MeetsScreen}
 
 -- store and screen have the sizes that questions 1 and 8 ask for

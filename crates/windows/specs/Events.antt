@@ -14,9 +14,9 @@ use Rattle.window.specs.Window.{Win, pushed, cursorTo}
 use Rattle.window.specs.Held.{winOf, RepWindow}
 use Rattle.window.specs.Inner.{Queued}
 use Rattle.rules.specs.Events.{withQueue, withCursor}
-use Rattle.windows.specs.declared.events.Target.{Target}
-use Rattle.windows.specs.declared.events.Target.the-variants.{Nobody, Focus, Point}
-use Rattle.windows.specs.declared.events.Told.{Told}
+use Rattle.windows.specs.declared.inner.events.Target.{Target}
+use Rattle.windows.specs.declared.inner.events.Target.the-variants.{Nobody, Focus, Point}
+use Rattle.windows.specs.declared.inner.events.Told.{Told}
 
 -- keys go to the focus, pointer events to a point, where a release alone is for the window that is remembered, `held`; a Resize goes nowhere, and
 -- a KeyFire is refused

@@ -17,8 +17,8 @@ use Rattle.due.specs.Due.{owing, further}
 use Rattle.windows.specs.declared.Shared.{Shared}
 use Rattle.windows.specs.declared.Session.{Session}
 use Rattle.windows.specs.declared.Changed.{Changed}
-use Rattle.windows.specs.declared.portion.Next.{Next}
-use Rattle.windows.specs.declared.portion.Turn.{Turn}
+use Rattle.windows.specs.declared.inner.portion.Next.{Next}
+use Rattle.windows.specs.declared.inner.portion.Turn.{Turn}
 use Rattle.windows.specs.View.{group, windowAt, done, Rep, Given, MeetsScreen}
 use Rattle.windows.specs.One.{put}
 

@@ -11,13 +11,14 @@ use crate::Popped;
 use crate::Session;
 use crate::Written;
 use crate::WrittenOne;
-use crate::dim;
-use crate::dims;
-use crate::events;
-use crate::one;
-use crate::one::slot;
-use crate::portion;
-use crate::store;
+use crate::inner::dim;
+use crate::inner::dims;
+use crate::inner::events;
+use crate::inner::one;
+use crate::inner::one::slot;
+use crate::inner::portion;
+use crate::inner::redraw;
+use crate::inner::store;
 use geom::Dims;
 use geom::Pos;
 use geom::Rect;
@@ -150,7 +151,7 @@ impl Session {
         requires { ⌜ Given self ⌝ }
         ensures { λ r. ⌜ MeetsStore (Call.Maximise (id .0) (now (store .entry))) self r (now (store .exit)) ⌝ }
     {
-        let t = self.taking(id, store);
+        let t = dims::plan_take(self, id, store);
         let at = t.at;
         let d = dims::take(self.windows[at], self.shared, t.what);
         self.put(at, d)
@@ -161,7 +162,7 @@ impl Session {
         requires { ⌜ Given self ⌝ }
         ensures { λ r. ⌜ MeetsStore (Call.UpdateDims (now (store .entry))) self r (now (store .exit)) ⌝ }
     {
-        let p = self.planned(store);
+        let p = dims::plan_moves(self, store);
         dims::moved(self, p)
     }
 
@@ -183,7 +184,7 @@ impl Session {
         requires { ⌜ Given self ⌝ }
         ensures { λ r. ⌜ Meets (Call.Route e) self r ⌝ }
     {
-        let aim = self.aim(e);
+        let aim = events::aim_event(self, e);
         let at = aim.at;
         let d = events::tell(self.windows[at], self.shared, aim.what);
         self.put(at, d)
@@ -203,6 +204,21 @@ impl Session {
             answer: d.answer,
             event,
         }
+    }
+
+    pub fn redraw(
+        self,
+        told: bool,
+        store: &[u32],
+        screen: &mut [u32],
+        width: u32,
+        height: u32,
+    ) -> Done
+        requires { ⌜ Given self ⌝ }
+        ensures { λ r. ⌜ MeetsScreen (Call.Redraw told width height (now (store .entry)) (now (screen .entry))) self r (now (screen .exit)) ⌝ }
+    {
+        let d = redraw::draw(self, told, width, height, store, screen);
+        redraw::settled(self, d)
     }
 
     pub fn begin(mut self, told: bool) -> Done
@@ -235,7 +251,7 @@ impl Session {
         requires { ⌜ Given self ⌝ }
         ensures { λ r. ⌜ MeetsScreen (Call.Portion width height (now (store .entry)) (now (screen .entry))) self r (now (screen .exit)) ⌝ }
     {
-        let turn = self.turn();
+        let turn = portion::whose_turn(self);
         let at = turn.at;
         let d = portion::treat(
             self.windows[at],

@@ -2,21 +2,24 @@
 ghost use mathlib.Core.Path.{_≡_};
 ghost use Rattle.rules.specs.Group.{fresh};
 ghost use Rattle.rules.specs.Calls.{Call};
-ghost use Rattle.windows.specs.View.{Rep, Given, MeetsId, Starts, group, placed};
-ghost use Rattle.windows.specs.One.{Free};
+ghost use Rattle.windows.specs.View.{Rep, Given, MeetsId, Starts, Locates, group, placed};
 use crate::Created;
 use crate::Done;
-use crate::FreeSlot;
+use crate::ForPos;
 use crate::Placed;
 use crate::Session;
 use crate::Shared;
-use crate::one;
+use crate::inner::frames::frames;
+use crate::inner::one;
+use crate::inner::one::free_slot;
+use crate::inner::small::small_point;
 use display::Displays;
+use display::Located;
 use due::Due;
 use due::Walk;
+use geom::Pos;
 use geom::Rect;
 use order::WinId;
-use order::frames::first_free;
 use topmost::release::NOBODY;
 use window::Window;
 
@@ -71,26 +74,12 @@ impl Session {
         }
     }
 
-    // A place for the next window: that of the smallest unused id. Where none is left, any place: its window is in use.
-    pub fn free_slot(self) -> FreeSlot
-        requires { ⌜ Given self ⌝ }
-        ensures { λ r. ⌜ Free self r ⌝ }
-    {
-        let frames = self.frames();
-        let used = frames.used;
-        let at = first_free(used);
-        FreeSlot {
-            at,
-            id: WinId(at as u16),
-        }
-    }
-
     // A window that is not shown and has no pixels, with the smallest unused id.
     pub fn create(mut self) -> Created
         requires { ⌜ Given self ⌝ }
         ensures { λ r. ⌜ MeetsId Call.Create self r ⌝ }
     {
-        let free = self.free_slot();
+        let free = free_slot(self);
         let at = free.at;
         let d = one::create(self.windows[at], self.shared, free.id);
         let window = d.window;
@@ -119,7 +108,7 @@ impl Session {
     {
         let mut answer: u32 = 3;
         let mut rect = Rect::new(0, 0, 0, 0);
-        let frames = self.frames();
+        let frames = frames(self);
         let used = frames.used;
         let areas = frames.areas;
         let k = id.0;
@@ -132,5 +121,20 @@ impl Session {
             }
         }
         Placed { answer, rect }
+    }
+
+    pub fn get_display_for_pos(self, pos: Pos) -> ForPos
+        requires { ⌜ Given self ⌝ }
+        ensures { λ r. ⌜ Locates (group self) (pos .x) (pos .y) r ⌝ }
+    {
+        if small_point(pos.x, pos.y) {
+            let displays = self.displays;
+            let located = displays.get_display_for_pos(pos);
+            return ForPos { answer: 0, located };
+        }
+        ForPos {
+            answer: 5,
+            located: Located::Closest(Rect::new(0, 0, 0, 0)),
+        }
     }
 }

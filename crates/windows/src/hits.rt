@@ -1,6 +1,7 @@
 // Which windows lie under many points. Document 02, N12.
 ghost use Rattle.windows.specs.View.{group, Given, Hits};
 use crate::Session;
+use crate::inner::frames::frames;
 use topmost::points;
 
 impl Session {
@@ -12,7 +13,7 @@ impl Session {
     {
         if points::all_small(points) {
             if points::fit(points.len(), answers.len()) {
-                let frames = self.frames();
+                let frames = frames(self);
                 let areas = frames.areas;
                 let order = self.shared.order;
                 let n = points.len() / 2;

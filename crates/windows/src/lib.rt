@@ -21,20 +21,12 @@ use window::Event;
 use window::Window;
 
 mod calls;
-pub mod dim;
-pub mod dims;
-pub mod events;
-mod frames;
 mod group;
 mod hits;
+pub mod inner;
 mod list;
-pub mod one;
-pub mod portion;
-pub mod redraw;
 mod share;
 mod sheets;
-mod small;
-pub mod store;
 mod zoom;
 
 // What the windows share: the render order, which holds the shown ones in its first `shown` places, lowest first; C; the focus; whether dimming

@@ -6,6 +6,7 @@ ghost use Rattle.order.specs.Ids.{ids};
 ghost use Rattle.order.specs.Order.{renderIdx};
 use crate::InView;
 use crate::Session;
+use crate::inner::frames::frames;
 use geom::inner::is_empty;
 use order::Place;
 use order::RenderIdx;
@@ -19,7 +20,7 @@ impl Session {
         requires { ⌜ Given self × (some (p .0) ≡ renderIdx (id .0) (ids (self .shared .shown) (self .shared .order))) ⌝ }
         ensures { λ r. ⌜ Shares (group self) (id .0) r ⌝ }
     {
-        let frames = self.frames();
+        let frames = frames(self);
         let areas = frames.areas;
         let order = self.shared.order;
         let at = id.0 as usize;
@@ -53,7 +54,7 @@ impl Session {
         let k = id.0;
         if k < 16 {
             let at = k as usize;
-            let frames = self.frames();
+            let frames = frames(self);
             let used = frames.used;
             if used[at] {
                 let n = self.shared.shown;

@@ -5,6 +5,7 @@ ghost use Rattle.windows.specs.View.{group, Given, Prints};
 ghost use Rattle.order.specs.Ids.{ids};
 ghost use Rattle.order.specs.Order.{renderIdx};
 use crate::Session;
+use crate::inner::frames::frames;
 use order::Place;
 use order::RenderIdx;
 use order::WinId;
@@ -18,7 +19,7 @@ impl Session {
         requires { ⌜ Given self × (some (p .0) ≡ renderIdx (id .0) (ids (self .shared .shown) (self .shared .order))) ⌝ }
         ensures { λ r. ⌜ Prints (group self) (id .0) (now (bytes .entry)) r (now (bytes .exit)) ⌝ }
     {
-        let frames = self.frames();
+        let frames = frames(self);
         let areas = frames.areas;
         let order = self.shared.order;
         let at = id.0 as usize;
@@ -39,7 +40,7 @@ impl Session {
         let k = id.0;
         if k < 16 {
             let at = k as usize;
-            let frames = self.frames();
+            let frames = frames(self);
             let used = frames.used;
             if used[at] {
                 let n = self.shared.shown;

@@ -1,6 +1,7 @@
 // A closer look at a window. Document 02, N9.
 ghost use Rattle.windows.specs.View.{group, Given, Looks};
 use crate::Session;
+use crate::inner::frames::frames;
 use look::Look;
 use look::look_window;
 use order::WinId;
@@ -26,7 +27,7 @@ impl Session {
             let k = id.0;
             if k < 16 {
                 let at = k as usize;
-                let frames = self.frames();
+                let frames = frames(self);
                 let used = frames.used;
                 if used[at] {
                     let areas = frames.areas;

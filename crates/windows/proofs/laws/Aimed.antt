@@ -24,10 +24,10 @@ use Rattle.order.specs.Frames.{frameAt}
 use Rattle.windows.specs.declared.Session.{Session}
 use Rattle.windows.specs.declared.Shared.{Shared}
 use Rattle.windows.specs.declared.Changed.{Changed}
-use Rattle.windows.specs.declared.events.Target.the-variants.{Point}
+use Rattle.windows.specs.declared.inner.events.Target.the-variants.{Point}
 use Rattle.windows.specs.declared.Done.{Done}
-use Rattle.windows.specs.declared.events.Told.{Told}
-use Rattle.windows.specs.declared.events.Aim.{Aim}
+use Rattle.windows.specs.declared.inner.events.Told.{Told}
+use Rattle.windows.specs.declared.inner.events.Aim.{Aim}
 use Rattle.windows.specs.View.{group, windowAt, Given, Meets, done}
 use Rattle.windows.specs.One.{put}
 use Rattle.windows.specs.Events.{targetOf, atPoint, heldAfter, Tellable, ToldTo}

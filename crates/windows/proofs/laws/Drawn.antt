@@ -29,7 +29,7 @@ use Rattle.order.specs.declared.rects.Rects.{Rects}
 use Rattle.windows.specs.View.{walkOf, group, windowAt, Rep, Given, Meets, MeetsScreen, done}
 use Rattle.windows.specs.Walk.{noted, sharing}
 use Rattle.due.specs.Due.{walkAt}
-use Rattle.windows.specs.declared.redraw.Drawn.{Drawn}
+use Rattle.windows.specs.declared.inner.redraw.Drawn.{Drawn}
 use Rattle.windows.specs.Drawing.{painted, Draws}
 use Rattle.order.specs.Order.{noId}
 use Rattle.order.specs.Rects.{Holds}

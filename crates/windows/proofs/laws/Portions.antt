@@ -31,8 +31,8 @@ use Rattle.order.proofs.laws.Above.{framesFrom}
 use Rattle.order.proofs.laws.Rects.{lends}
 use Rattle.windows.specs.declared.Session.{Session}
 use Rattle.windows.specs.declared.Shared.{Shared}
-use Rattle.windows.specs.declared.portion.Next.{Next}
-use Rattle.windows.specs.declared.portion.Turn.{Turn}
+use Rattle.windows.specs.declared.inner.portion.Next.{Next}
+use Rattle.windows.specs.declared.inner.portion.Turn.{Turn}
 use Rattle.windows.specs.View.{walkOf, group, windowAt, Rep, Given, Meets, MeetsScreen, done}
 use Rattle.windows.specs.One.{put}
 use Rattle.windows.specs.Drawing.{painted}

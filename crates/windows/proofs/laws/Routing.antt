@@ -17,9 +17,9 @@ use Rattle.rules.specs.Events.{topmost, holder}
 use Rattle.rules.specs.Calls.{Route, does}
 use Rattle.order.specs.Ids.{heldOf}
 use Rattle.windows.specs.declared.Session.{Session}
-use Rattle.windows.specs.declared.events.Target.{Target}
-use Rattle.windows.specs.declared.events.Target.the-variants.{Nobody, Focus, Point}
-use Rattle.windows.specs.declared.events.Told.{Told}
+use Rattle.windows.specs.declared.inner.events.Target.{Target}
+use Rattle.windows.specs.declared.inner.events.Target.the-variants.{Nobody, Focus, Point}
+use Rattle.windows.specs.declared.inner.events.Told.{Told}
 use Rattle.windows.specs.View.{group, windowAt, Given, Meets, done}
 use Rattle.windows.specs.One.{put}
 use Rattle.windows.specs.Events.{targetOf, atPoint, heldAfter, Tellable, takes, told, ToldTo}

@@ -28,7 +28,7 @@ use Rattle.rules.specs.Calls.{Call, does}
 use Rattle.order.specs.Ids.{heldOf}
 use Rattle.windows.specs.declared.Shared.{Shared}
 use Rattle.windows.specs.declared.Session.{Session}
-use Rattle.windows.specs.declared.events.Told.{Told}
+use Rattle.windows.specs.declared.inner.events.Told.{Told}
 use Rattle.windows.specs.View.{group, blank, windowAt, Rep, Given, Meets, done}
 use Rattle.windows.specs.One.{put}
 use Rattle.windows.specs.Walk.{holding}

@@ -29,7 +29,7 @@ use Rattle.display.specs.Dims.{place, takes, MovesTo, allFit, Roomy, resizedOne
 use Rattle.order.specs.declared.frames.Frames.{Frames}
 use Rattle.windows.specs.declared.Session.{Session}
 use Rattle.windows.specs.declared.Done.{Done}
-use Rattle.windows.specs.declared.dims.Planned.{Planned}
+use Rattle.windows.specs.declared.inner.dims.Planned.{Planned}
 use Rattle.windows.specs.View.{cell, group, blank, windowAt, Rep, Given, Meets, MeetsStore, done}
 use Rattle.windows.specs.Walk.{indebted, sharing}
 use Rattle.windows.specs.Frames.{Framed}

@@ -8,9 +8,9 @@ use Rattle.rules.specs.Calls.{Begin}
 use Rattle.windows.specs.View.{Given, Meets}
 use Rattle.windows.specs.View as View
 use Rattle.windows.specs.One.{MeetsShared}
-use Rattle.windows.proofs.portion.begin as g
-use Rattle.windows.proofs.portion.begin.Symbol as value
-use Rattle.windows.proofs.portion.begin.Met as value′
+use Rattle.windows.proofs.inner.portion.begin as g
+use Rattle.windows.proofs.inner.portion.begin.Symbol as value
+use Rattle.windows.proofs.inner.portion.begin.Met as value′
 use Rattle.station.proofs.shims.Shared as shim
 use Rattle.station.proofs.shims.Args.{value as plain}
 use Rattle.station.proofs.shims.Steps.{asks-nothing}
@@ -29,5 +29,5 @@ roq-begin-spec 𝓤 H 𝓜 𝓖 𝓡 =
     Given (λ k κs a. Unit {0}) (λ k κs a r e. MeetsShared (Begin (a .0)) k r)
     (λ κs s a n t e. Meets (Begin (a .0)) s (View.done t n))
     (λ κs s a h. tt) (λ κs s a r ws h d. d s h refl)
-    𝓤 H 𝓜 𝓖 𝓡 code.env value.name value.routine code.calls-windows·portion·begin
+    𝓤 H 𝓜 𝓖 𝓡 code.env value.name value.routine code.calls-windows·inner·portion·begin
     (asks-nothing 𝓤 H (𝓖 .A) g.signature (𝓡 .run value.routine) (g.spec 𝓤 H (𝓖 .A) (𝓜 .mem) (𝓡 .run)) (value′.met 𝓤 H 𝓜 𝓖 𝓡)))

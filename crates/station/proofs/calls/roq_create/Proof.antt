@@ -10,8 +10,8 @@ use Rattle.windows.specs.View.{Given}
 use Rattle.windows.specs.One.{Free}
 use Rattle.station.specs.Answers.{Creates}
 use Rattle.station.specs.Inner.{MakesAt}
-use Rattle.windows.proofs.Session.free_slot.Symbol as find
-use Rattle.windows.proofs.Session.free_slot.Met as find′
+use Rattle.windows.proofs.inner.one.free_slot.Symbol as find
+use Rattle.windows.proofs.inner.one.free_slot.Met as find′
 use Rattle.station.proofs.values.create.Symbol as value
 use Rattle.station.proofs.values.create.Met as value′
 use Rattle.station.proofs.shims.Seek as shim
@@ -29,5 +29,5 @@ roq-create-spec 𝓤 H 𝓜 𝓖 𝓡 =
     (shim.meets window shared displays winId created 0 [] windows free made
     Given (λ s κs a f e. Free s f) (λ w k id. id .0 < 16) (λ w k id r. MakesAt (id .0) w k r) (λ κs s a r t e. Creates s t r)
     (λ κs s a f ws h q. q .inside) (λ κs s a f ws h q. omega (arith, q .inside, q .same)) (λ κs s a f ws r h q d. d s f h q refl refl refl)
-    𝓤 H 𝓜 𝓖 𝓡 code.env find.name find.routine code.calls-windows·Session·free-slot (find′.met 𝓤 H 𝓜 𝓖 𝓡)
+    𝓤 H 𝓜 𝓖 𝓡 code.env find.name find.routine code.calls-windows·inner·one·free-slot (find′.met 𝓤 H 𝓜 𝓖 𝓡)
     value.name value.routine code.calls-station·values·create (value′.met 𝓤 H 𝓜 𝓖 𝓡))

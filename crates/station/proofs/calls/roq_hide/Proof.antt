@@ -8,10 +8,10 @@ use Rattle.windows.specs.View.{Given, Meets}
 use Rattle.windows.specs.View as View
 use Rattle.windows.specs.One.{At, Held, MeetsAt}
 use Rattle.windows.proofs.laws.One.{own, held}
-use Rattle.windows.proofs.one.slot.Symbol as find
-use Rattle.windows.proofs.one.slot.Met as find′
-use Rattle.windows.proofs.one.hide.Symbol as value
-use Rattle.windows.proofs.one.hide.Met as value′
+use Rattle.windows.proofs.inner.one.slot.Symbol as find
+use Rattle.windows.proofs.inner.one.slot.Met as find′
+use Rattle.windows.proofs.inner.one.hide.Symbol as value
+use Rattle.windows.proofs.inner.one.hide.Met as value′
 use Rattle.station.proofs.shims.Place as shim
 use Rattle.station.proofs.shims.Parameters.{window, shared, displays, winId, number, windows, changed}
 use Rattle.station.proofs.calls.roq_hide as f
@@ -28,5 +28,5 @@ roq-hide-spec 𝓤 H 𝓜 𝓖 𝓡 =
     Given (λ id at. At (id .0) at) (λ w k κs a. Held (a .0 .0) w k) (λ w k κs a r e. MeetsAt (Hide (a .0 .0)) (a .0 .0) w k r)
     (λ κs s a n t e. Meets (Hide (a .0 .0)) s (View.done t n))
     (λ id at p. p .inside) (λ κs s a at h p. held h p) (λ κs s a at r ws h p d. d s at (own h p))
-    𝓤 H 𝓜 𝓖 𝓡 code.env find.name find.routine code.calls-windows·one·slot (find′.met 𝓤 H 𝓜 𝓖 𝓡)
-    value.name value.routine code.calls-windows·one·hide (value′.met 𝓤 H 𝓜 𝓖 𝓡))
+    𝓤 H 𝓜 𝓖 𝓡 code.env find.name find.routine code.calls-windows·inner·one·slot (find′.met 𝓤 H 𝓜 𝓖 𝓡)
+    value.name value.routine code.calls-windows·inner·one·hide (value′.met 𝓤 H 𝓜 𝓖 𝓡))

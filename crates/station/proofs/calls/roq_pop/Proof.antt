@@ -9,8 +9,8 @@ use Rattle.windows.specs.One.{At}
 use Rattle.windows.proofs.laws.One.{own}
 use Rattle.station.specs.Answers.{Pops}
 use Rattle.station.specs.Inner.{TakesAt}
-use Rattle.windows.proofs.one.slot.Symbol as find
-use Rattle.windows.proofs.one.slot.Met as find′
+use Rattle.windows.proofs.inner.one.slot.Symbol as find
+use Rattle.windows.proofs.inner.one.slot.Met as find′
 use Rattle.station.proofs.values.pop.Symbol as value
 use Rattle.station.proofs.values.pop.Met as value′
 use Rattle.station.proofs.shims.Place as shim
@@ -28,5 +28,5 @@ roq-pop-spec 𝓤 H 𝓜 𝓖 𝓡 =
     (shim.meets window shared displays winId popped 0 [] windows taken
     Given (λ id at. At (id .0) at) (λ w k κs a. RepWindow w) (λ w k κs a r e. TakesAt (a .0 .0) w k r) (λ κs s a r t e. Pops (a .0 .0) s t r)
     (λ id at p. p .inside) (λ κs s a at h p. h .rep .each at (p .inside)) (λ κs s a at r ws h p d. d s at (own h p))
-    𝓤 H 𝓜 𝓖 𝓡 code.env find.name find.routine code.calls-windows·one·slot (find′.met 𝓤 H 𝓜 𝓖 𝓡)
+    𝓤 H 𝓜 𝓖 𝓡 code.env find.name find.routine code.calls-windows·inner·one·slot (find′.met 𝓤 H 𝓜 𝓖 𝓡)
     value.name value.routine code.calls-station·values·pop (value′.met 𝓤 H 𝓜 𝓖 𝓡))

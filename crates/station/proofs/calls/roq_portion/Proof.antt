@@ -9,10 +9,10 @@ use Rattle.windows.specs.View.{Given, MeetsScreen}
 use Rattle.windows.specs.View as View
 use Rattle.windows.specs.Walk.{Turns, Turned, TreatsAt}
 use Rattle.windows.proofs.laws.Portions.{own-turn, turned}
-use Rattle.windows.proofs.Session.turn.Symbol as find
-use Rattle.windows.proofs.Session.turn.Met as find′
-use Rattle.windows.proofs.portion.treat.Symbol as value
-use Rattle.windows.proofs.portion.treat.Met as value′
+use Rattle.windows.proofs.inner.portion.whose_turn.Symbol as find
+use Rattle.windows.proofs.inner.portion.whose_turn.Met as find′
+use Rattle.windows.proofs.inner.portion.treat.Symbol as value
+use Rattle.windows.proofs.inner.portion.treat.Met as value′
 use Rattle.station.proofs.shims.Turn as shim
 use Rattle.station.proofs.shims.Args.{value as plain, reads, writes}
 use Rattle.station.proofs.shims.Parameters.{window, shared, displays, next, number, windows, turn, changed}
@@ -31,5 +31,5 @@ roq-portion-spec 𝓤 H 𝓜 𝓖 𝓡 =
     (λ w k x κs a r e. TreatsAt (Portion (a .0) (a .1 .0) (now (a .1 .1 .0)) (now (a .1 .1 .1 .0))) w k x r (now (e .1 .1 .1 .0)))
     (λ κs s a n t e. MeetsScreen (Portion (a .0) (a .1 .0) (now (a .1 .1 .0)) (now (a .1 .1 .1 .0))) s (View.done t n) (now (e .1 .1 .1 .0)))
     (λ s t h q. q .inside) (λ κs s a t h q. turned h q) (λ κs s a t r ws h q d. d s (t .at) (own-turn h q))
-    𝓤 H 𝓜 𝓖 𝓡 code.env find.name find.routine code.calls-windows·Session·turn (find′.met 𝓤 H 𝓜 𝓖 𝓡)
-    value.name value.routine code.calls-windows·portion·treat (value′.met 𝓤 H 𝓜 𝓖 𝓡))
+    𝓤 H 𝓜 𝓖 𝓡 code.env find.name find.routine code.calls-windows·inner·portion·whose-turn (find′.met 𝓤 H 𝓜 𝓖 𝓡)
+    value.name value.routine code.calls-windows·inner·portion·treat (value′.met 𝓤 H 𝓜 𝓖 𝓡))

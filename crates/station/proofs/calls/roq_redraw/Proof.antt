@@ -8,10 +8,10 @@ use Rattle.rules.specs.Calls.{Redraw}
 use Rattle.windows.specs.View.{Given, MeetsScreen}
 use Rattle.windows.specs.View as View
 use Rattle.windows.specs.Drawing.{Draws, Settles}
-use Rattle.windows.proofs.Session.draw.Symbol as find
-use Rattle.windows.proofs.Session.draw.Met as find′
-use Rattle.windows.proofs.Session.settled.Symbol as value
-use Rattle.windows.proofs.Session.settled.Met as value′
+use Rattle.windows.proofs.inner.redraw.draw.Symbol as find
+use Rattle.windows.proofs.inner.redraw.draw.Met as find′
+use Rattle.windows.proofs.inner.redraw.settled.Symbol as value
+use Rattle.windows.proofs.inner.redraw.settled.Met as value′
 use Rattle.station.proofs.shims.Settle as shim
 use Rattle.station.proofs.shims.Args.{value, reads, writes}
 use Rattle.station.proofs.shims.Parameters.{session, flag, number, drawn, done}
@@ -30,5 +30,5 @@ roq-redraw-spec 𝓤 H 𝓜 𝓖 𝓡 =
     (λ s d. Given s) Settles
     (λ κs s a n t e. MeetsScreen (Redraw (a .0) (a .1 .0) (a .1 .1 .0) (now (a .1 .1 .1 .0)) (now (a .1 .1 .1 .1 .0))) s (View.done t n) (now (e .1 .1 .1 .1 .0)))
     (λ κs s a d ws h q. h) (λ κs s a d ws r h q m. q r m)
-    𝓤 H 𝓜 𝓖 𝓡 code.env find.name find.routine code.calls-windows·Session·draw (find′.met 𝓤 H 𝓜 𝓖 𝓡)
-    value.name value.routine code.calls-windows·Session·settled (value′.met 𝓤 H 𝓜 𝓖 𝓡))
+    𝓤 H 𝓜 𝓖 𝓡 code.env find.name find.routine code.calls-windows·inner·redraw·draw (find′.met 𝓤 H 𝓜 𝓖 𝓡)
+    value.name value.routine code.calls-windows·inner·redraw·settled (value′.met 𝓤 H 𝓜 𝓖 𝓡))

@@ -9,10 +9,10 @@ use Rattle.windows.specs.View.{Given, MeetsStore}
 use Rattle.windows.specs.View as View
 use Rattle.windows.specs.One.{At, Held, MeetsStoreAt}
 use Rattle.windows.proofs.laws.One.{own, held}
-use Rattle.windows.proofs.one.slot.Symbol as find
-use Rattle.windows.proofs.one.slot.Met as find′
-use Rattle.windows.proofs.store.resize.Symbol as value
-use Rattle.windows.proofs.store.resize.Met as value′
+use Rattle.windows.proofs.inner.one.slot.Symbol as find
+use Rattle.windows.proofs.inner.one.slot.Met as find′
+use Rattle.windows.proofs.inner.store.resize.Symbol as value
+use Rattle.windows.proofs.inner.store.resize.Met as value′
 use Rattle.station.proofs.shims.Place as shim
 use Rattle.station.proofs.shims.Args.{value, writes}
 use Rattle.station.proofs.shims.Parameters.{window, shared, displays, winId, number, windows, changed}
@@ -31,5 +31,5 @@ roq-resize-spec 𝓤 H 𝓜 𝓖 𝓡 =
     (λ w k κs a r e. MeetsStoreAt (Resize (a .0 .0) (a .1 .0) (a .1 .1 .0) (now (a .1 .1 .1 .0))) (a .0 .0) w k r (now (e .1 .1 .1 .0)))
     (λ κs s a n t e. MeetsStore (Resize (a .0 .0) (a .1 .0) (a .1 .1 .0) (now (a .1 .1 .1 .0))) s (View.done t n) (now (e .1 .1 .1 .0)))
     (λ id at p. p .inside) (λ κs s a at h p. held h p) (λ κs s a at r ws h p d. d s at (own h p))
-    𝓤 H 𝓜 𝓖 𝓡 code.env find.name find.routine code.calls-windows·one·slot (find′.met 𝓤 H 𝓜 𝓖 𝓡)
-    value.name value.routine code.calls-windows·store·resize (value′.met 𝓤 H 𝓜 𝓖 𝓡))
+    𝓤 H 𝓜 𝓖 𝓡 code.env find.name find.routine code.calls-windows·inner·one·slot (find′.met 𝓤 H 𝓜 𝓖 𝓡)
+    value.name value.routine code.calls-windows·inner·store·resize (value′.met 𝓤 H 𝓜 𝓖 𝓡))

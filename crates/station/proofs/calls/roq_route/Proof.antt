@@ -14,8 +14,8 @@ use Rattle.windows.proofs.laws.Aimed.{told-there}
 use Rattle.station.specs.Events.{eventOf, Routes}
 use Rattle.station.proofs.values.aim.Symbol as find
 use Rattle.station.proofs.values.aim.Met as find′
-use Rattle.windows.proofs.events.tell.Symbol as value
-use Rattle.windows.proofs.events.tell.Met as value′
+use Rattle.windows.proofs.inner.events.tell.Symbol as value
+use Rattle.windows.proofs.inner.events.tell.Met as value′
 use Rattle.station.proofs.shims.Seek as shim
 use Rattle.station.proofs.shims.Args.{value}
 use Rattle.station.proofs.shims.Parameters.{window, shared, displays, event, message, number, windows, aim, changed}
@@ -35,4 +35,4 @@ roq-route-spec 𝓤 H 𝓜 𝓖 𝓡 =
     (λ κs s a t ws h p. p .inside) (λ κs s a t ws h p. (h .rep .each (t .at) (p .inside), p .able))
     (λ κs s a t ws r h p d. told-there (Routes (eventOf (a .0)) s) s t r p d)
     𝓤 H 𝓜 𝓖 𝓡 code.env find.name find.routine code.calls-station·values·aim (find′.met 𝓤 H 𝓜 𝓖 𝓡)
-    value.name value.routine code.calls-windows·events·tell (value′.met 𝓤 H 𝓜 𝓖 𝓡))
+    value.name value.routine code.calls-windows·inner·events·tell (value′.met 𝓤 H 𝓜 𝓖 𝓡))

@@ -9,10 +9,10 @@ use Rattle.windows.specs.View.{Given, MeetsStore}
 use Rattle.windows.specs.View as View
 use Rattle.windows.specs.Dims.{MovesOf, Plans, Moved}
 use Rattle.windows.proofs.laws.Updated.{updates}
-use Rattle.windows.proofs.Session.planned.Symbol as find
-use Rattle.windows.proofs.Session.planned.Met as find′
-use Rattle.windows.proofs.dims.moved.Symbol as value
-use Rattle.windows.proofs.dims.moved.Met as value′
+use Rattle.windows.proofs.inner.dims.plan_moves.Symbol as find
+use Rattle.windows.proofs.inner.dims.plan_moves.Met as find′
+use Rattle.windows.proofs.inner.dims.moved.Symbol as value
+use Rattle.windows.proofs.inner.dims.moved.Met as value′
 use Rattle.station.proofs.shims.Settle as shim
 use Rattle.station.proofs.shims.Args.{writes}
 use Rattle.station.proofs.shims.Parameters.{session, number, planned, done}
@@ -30,5 +30,5 @@ roq-update-dims-spec 𝓤 H 𝓜 𝓖 𝓡 =
     Given (λ s κs a p e. Plans s (now (a .0)) p (now (e .0))) (λ s p. Given s × MovesOf s (p .moves)) Moved
     (λ κs s a n t e. MeetsStore (UpdateDims (now (a .0))) s (View.done t n) (now (e .0)))
     (λ κs s a p ws h q. (h, q .moves)) (λ κs s a p ws r h q m. updates s h _ _ p q r m)
-    𝓤 H 𝓜 𝓖 𝓡 code.env find.name find.routine code.calls-windows·Session·planned (find′.met 𝓤 H 𝓜 𝓖 𝓡)
-    value.name value.routine code.calls-windows·dims·moved (value′.met 𝓤 H 𝓜 𝓖 𝓡))
+    𝓤 H 𝓜 𝓖 𝓡 code.env find.name find.routine code.calls-windows·inner·dims·plan-moves (find′.met 𝓤 H 𝓜 𝓖 𝓡)
+    value.name value.routine code.calls-windows·inner·dims·moved (value′.met 𝓤 H 𝓜 𝓖 𝓡))

@@ -16,8 +16,8 @@ event-of-requires c κs = search needs
 enum-known-next : tie.Need-enum-known-next
 enum-known-next c = search needs
 
-aim-requires : tie.Need-aim-requires
-aim-requires c κs = search needs
+aim-event-requires : tie.Need-aim-event-requires
+aim-event-requires c κs = search needs
 
 enum-told : tie.Need-enum-told
 enum-told c = search needs
@@ -28,8 +28,8 @@ nobody-requires c κs = search needs
 returns : tie.Need-returns
 returns c =
     let s = c .before .before .before .before .before .args .s in
-    subst (λ (o : Option Event). Aims (Routes o s) s (c .aim .result)) (sym (ap eventIn (c .before .before .next .given .1)) ∙ c .before .before .before .before .event-of .ensures)
-    (c .aim .ensures)
+    subst (λ (o : Option Event). Aims (Routes o s) s (c .aim-event .result)) (sym (ap eventIn (c .before .before .next .given .1)) ∙ c .before .before .before .before .event-of .ensures)
+    (c .aim-event .ensures)
 
 returns-2 : tie.Need-returns-2
 returns-2 c =
@@ -40,4 +40,4 @@ returns-2 c =
     (aims-nobody _ s 11 refl))
 
 pub aim-spec : {M : Type 1} → statement M
-aim-spec = tie.close (tie.spec event-of-requires enum-known-next aim-requires enum-told nobody-requires returns returns-2)
+aim-spec = tie.close (tie.spec event-of-requires enum-known-next aim-event-requires enum-told nobody-requires returns returns-2)

@@ -4,8 +4,8 @@ use borrow.Author.Needs.{needs}
 use Rattle.windows.proofs.Session.maximise_window.Statement.{statement}
 use Rattle.windows.proofs.Session.maximise_window.Tie as tie
 
-taking-requires : tie.Need-taking-requires
-taking-requires c κs = search needs
+plan-take-requires : tie.Need-plan-take-requires
+plan-take-requires c κs = search needs
 
 mul-take : tie.Need-mul-take
 mul-take c = search needs
@@ -17,7 +17,7 @@ take-requires : tie.Need-take-requires
 take-requires c κs =
     let t = c .before .before .before .before in
     let s = t .before .before .before in
-    let q = t .taking .ensures in
+    let q = t .plan-take .ensures in
     (s .pre .rep .each _ (q .inside), q .small, accepted-low (s .args .t1) (s .pre) _ _ _ _ q)
 
 put-requires : tie.Need-put-requires
@@ -31,13 +31,13 @@ returns c =
     let d = c .before in
     let t = d .before .before .before .before .before in
     let s = t .before .before .before in
-    by-maximise (s .args .t1) (s .pre) (s .args .id .0) _ _ (t .taking .result) (t .taking .ensures) (d .take .result) (d .take .ensures) _ (c .put .ensures)
+    by-maximise (s .args .t1) (s .pre) (s .args .id .0) _ _ (t .plan-take .result) (t .plan-take .ensures) (d .take .result) (d .take .ensures) _ (c .put .ensures)
 
 pub maximise-window-spec : {M : Type 1} → statement M
 maximise-window-spec =
     tie.close
     (tie.spec
-    taking-requires
+    plan-take-requires
     mul-take
     element-copy-out-take
     take-requires

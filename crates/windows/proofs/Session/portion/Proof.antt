@@ -4,8 +4,8 @@ use borrow.Author.Needs.{needs}
 use Rattle.windows.proofs.Session.portion.Statement.{statement}
 use Rattle.windows.proofs.Session.portion.Tie as tie
 
-turn-requires : tie.Need-turn-requires
-turn-requires c κs = search needs
+whose-turn-requires : tie.Need-whose-turn-requires
+whose-turn-requires c κs = search needs
 
 mul-treat : tie.Need-mul-treat
 mul-treat c = search needs
@@ -14,7 +14,7 @@ element-copy-out-treat : tie.Need-element-copy-out-treat
 element-copy-out-treat c = search needs
 
 treat-requires : tie.Need-treat-requires
-treat-requires c κs = let t = c .before .before .before in turned (t .before .before .before .pre) (t .turn .ensures)
+treat-requires c κs = let t = c .before .before .before in turned (t .before .before .before .pre) (t .whose-turn .ensures)
 
 put-requires : tie.Need-put-requires
 put-requires c κs = search needs
@@ -26,13 +26,13 @@ returns : tie.Need-returns
 returns c =
     let d = c .before .before .before in
     let t = d .before .before .before .before in
-    rw (c .put .ensures) (d .treat .ensures _ _ (own-turn (t .before .before .before .pre) (t .turn .ensures)))
+    rw (c .put .ensures) (d .treat .ensures _ _ (own-turn (t .before .before .before .pre) (t .whose-turn .ensures)))
 
 pub portion-spec : {M : Type 1} → statement M
 portion-spec =
     tie.close
     (tie.spec
-    turn-requires
+    whose-turn-requires
     mul-treat
     element-copy-out-treat
     treat-requires

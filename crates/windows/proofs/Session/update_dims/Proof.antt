@@ -4,8 +4,8 @@ use borrow.Author.Needs.{needs}
 use Rattle.windows.proofs.Session.update_dims.Statement.{statement}
 use Rattle.windows.proofs.Session.update_dims.Tie as tie
 
-planned-requires : tie.Need-planned-requires
-planned-requires c κs = search needs
+plan-moves-requires : tie.Need-plan-moves-requires
+plan-moves-requires c κs = search needs
 
 moved-requires : tie.Need-moved-requires
 moved-requires c κs = search needs
@@ -17,7 +17,7 @@ returns : tie.Need-returns
 returns c =
     let p = c .before .before .before in
     let s = p .before .before .before in
-    updates (s .args .self) (s .pre) _ _ (p .planned .result) (p .planned .ensures) (c .moved .result) (c .moved .ensures)
+    updates (s .args .self) (s .pre) _ _ (p .plan-moves .result) (p .plan-moves .ensures) (c .moved .result) (c .moved .ensures)
 
 pub update-dims-spec : {M : Type 1} → statement M
-update-dims-spec = tie.close (tie.spec planned-requires moved-requires same-length returns)
+update-dims-spec = tie.close (tie.spec plan-moves-requires moved-requires same-length returns)

@@ -1,0 +1,29 @@
+-- The window takes its display where the answer is 0, else all is as it was.
+use mathlib.Core.Path.{refl, ap, _∙_}
+use Rattle.windows.specs.Walk.{indebted}
+use borrow.Author.Needs.{needs}
+use Rattle.windows.proofs.inner.dims.take.Statement.{statement}
+use Rattle.windows.proofs.inner.dims.take.Tie as tie
+
+taken-requires : tie.Need-taken-requires
+taken-requires c κs = search needs
+
+flagged-requires : tie.Need-flagged-requires
+flagged-requires c κs = c .before .before .before .pre .2 (c .before .if1 .taken)
+
+owing-requires : tie.Need-owing-requires
+owing-requires c κs = search needs
+
+returns : tie.Need-returns
+returns c =
+    let t = c .before .before in
+    let z = t .before .if1 .taken in
+    record { answer = refl; window = λ _. t .taken .ensures; shared = λ _. c .owing .ensures ∙ ap indebted (c .before .flagged .ensures); kept = λ n. absurd (n z) }
+
+returns-2 : tie.Need-returns-2
+returns-2 c =
+    let n = c .if1 .left in
+    record { answer = refl; window = λ z. absurd (n z); shared = λ z. absurd (n z); kept = λ _. (refl, refl) }
+
+pub take-spec : {M : Type 1} → statement M
+take-spec = tie.close (tie.spec taken-requires flagged-requires owing-requires returns returns-2)

@@ -1,0 +1,63 @@
+-- The focus is aimed at, if it has a place in the order.
+use mathlib.Core.Path.{sym, ap, _∙_}
+use Rattle.order.specs.Order.{idxOf}
+use Rattle.windows.proofs.laws.Places.{is-shown, isnt-shown}
+use Rattle.windows.proofs.laws.Frames.{shown-used}
+use Rattle.windows.proofs.laws.Routing.{key-tellable, no-focus, focus-told}
+use Rattle.windows.proofs.laws.Aimed.{aims-window, aims-nobody}
+use borrow.Author.Needs.{needs}
+use Rattle.windows.proofs.inner.events.aim_key.Statement.{statement}
+use Rattle.windows.proofs.inner.events.aim_key.Tie as tie
+
+get-render-idx-requires : tie.Need-get-render-idx-requires
+get-render-idx-requires c κs = search needs
+
+enum-told : tie.Need-enum-told
+enum-told c = search needs
+
+cast-to-window : tie.Need-cast-to-window
+cast-to-window c = search needs
+
+to-window-requires : tie.Need-to-window-requires
+to-window-requires c κs = search needs
+
+enum-told-2 : tie.Need-enum-told-2
+enum-told-2 c = search needs
+
+nobody-requires : tie.Need-nobody-requires
+nobody-requires c κs = search needs
+
+returns : tie.Need-returns
+returns c =
+    let m = c .before .before .before .before in
+    let a = m .before .before .before in
+    let s = a .args .s in
+    let e = a .args .e in
+    let known = is-shown s (a .pre .0) (s .shared .focus .0) _ (sym (ap idxOf (c .before .before .enum-told .given .1)) ∙ m .get-render-idx .ensures) in
+    let u = shown-used s (s .shared .focus .0) (a .pre .0) known in
+    rw (c .to-window .ensures)
+    (aims-window _ s (s .shared .focus .0) e (s .shared .held) (u .0) (key-tellable e (s .shared .held) (a .pre .1)) (λ t to. focus-told s e (a .pre .0) (a .pre .1) known (u .1) t to))
+
+returns-2 : tie.Need-returns-2
+returns-2 c =
+    let m = c .before .before .before in
+    let a = m .before .before .before in
+    let s = a .args .s in
+    let e = a .args .e in
+    rw (c .nobody .ensures)
+    (aims-nobody _ s 11
+    (no-focus s e (a .pre .0) (a .pre .1)
+    (isnt-shown s (a .pre .0) (s .shared .focus .0) (sym (ap idxOf (c .before .enum-told2 .given .1)) ∙ m .get-render-idx .ensures))))
+
+pub aim-key-spec : {M : Type 1} → statement M
+aim-key-spec =
+    tie.close
+    (tie.spec
+    get-render-idx-requires
+    enum-told
+    cast-to-window
+    to-window-requires
+    enum-told-2
+    nobody-requires
+    returns
+    returns-2)

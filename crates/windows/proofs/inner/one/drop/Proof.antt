@@ -1,0 +1,62 @@
+-- A window in use is hidden in what is shared, and its id is freed.
+use Prim.Native.Nat.{ℕ}
+use mathlib.Core.Path.{_≡_, refl, sym, ap, _∙_}
+use mathlib.Core.Bool.{true, false}
+use mathlib.Core.Option.{none}
+use Rattle.window.specs.declared.Window.{Window}
+use Rattle.window.specs.Held.{RepWindow}
+use Rattle.rules.specs.Group.{used, setWin}
+use Rattle.rules.specs.Order as Order
+use Rattle.rules.specs.Calls.{Drop, does}
+use Rattle.windows.specs.declared.Session.{Session}
+use Rattle.windows.specs.declared.Shared.{Shared}
+use Rattle.windows.specs.View.{group, windowAt, Rep, Given, Meets, done}
+use Rattle.windows.specs.One.{put}
+use Rattle.windows.specs.Walk.{sharing}
+use Rattle.windows.proofs.laws.Session.{used-at, put-none, put-rep, refuses, gives}
+use Rattle.windows.proofs.laws.One.{accepts, not-used}
+use borrow.Author.Needs.{needs}
+use Rattle.windows.proofs.inner.one.drop.Statement.{statement}
+use Rattle.windows.proofs.inner.one.drop.Tie as tie
+
+abbrev freed : Window → Window
+freed w = record { queue = w .queue; damage = w .damage; at = w .at; cursor = w .cursor; used = false; marked = w .marked }
+
+module _ (s : Session) (id : ℕ) where
+  drops : (v : Window) (k : Shared) → Given s → windowAt s id .used ≡ true → v .used ≡ false → RepWindow v
+      → (group (sharing k s) ≡ Order.hidden id (group s)) × Rep (sharing k s) → Meets (Drop id) s (done (put id v k s) 0)
+  unfolding does Order.dropWindow
+  drops v k h u n r e =
+      let q : used (group s) id ≡ true = used-at s id ∙ u in
+      gives (Drop id) s (put id v k s) h (put-rep (sharing k s) id v (e .1) r) (rw q) (put-none (sharing k s) id v n ∙ ap (setWin id none) (e .0) ∙ rw q)
+
+  no-window : Given s → used (group s) id ≡ false → Meets (Drop id) s (done s 3)
+  unfolding does Order.dropWindow
+  no-window h u = refuses (Drop id) s 2 h (rw u)
+
+is-used-requires : tie.Need-is-used-requires
+is-used-requires c κs = search needs
+
+hidden-requires : tie.Need-hidden-requires
+hidden-requires c κs =
+    let h = c .before .before .pre in
+    record { session = h .session; given = h .holds .given; shared = h .holds .shared }
+
+returns : tie.Need-returns
+returns c =
+    let r = c .hidden in
+    let u = c .before .before in
+    let id = u .before .args .id .0 in
+    accepts (λ s at w k. Meets (Drop id) s (done (put at (freed w) (r .result) s) 0)) (sym (u .is-used .ensures) ∙ c .before .if1 .taken)
+    (λ s q.
+    let w = q .rep in
+    drops s id (freed (windowAt s id)) (r .result) (q .given) (q .used) refl (record { at = w .at; damage = w .damage; queue = w .queue; cursor = w .cursor })
+    (r .ensures s (q .given) (q .shared)))
+
+returns-2 : tie.Need-returns-2
+returns-2 c =
+    let id = c .before .before .args .id .0 in
+    not-used (λ s t. Meets (Drop id) s (done t 3)) (sym (c .before .is-used .ensures) ∙ c .if1 .left) (λ s h u. no-window s id h u)
+
+pub drop-spec : {M : Type 1} → statement M
+drop-spec = tie.close (tie.spec is-used-requires hidden-requires returns returns-2)

@@ -1,0 +1,50 @@
+-- The window is drawn from its rectangle, those above it and its dirty entries, or the screen stays as it is.
+use mathlib.Core.Path.{sym, subst, _∙_}
+use Rattle.window.specs.Held.{Small}
+use Rattle.order.proofs.laws.Rects.{lends}
+use Rattle.windows.proofs.laws.Full.{lent-drawn}
+use borrow.Author.Needs.{needs}
+use Rattle.windows.proofs.inner.redraw.draw_window.Statement.{statement}
+use Rattle.windows.proofs.inner.redraw.draw_window.Tie as tie
+
+either-requires : tie.Need-either-requires
+either-requires c κs = search needs
+
+dirty-of-requires : tie.Need-dirty-of-requires
+dirty-of-requires c κs = c .before .before .before .before .before .before .before .pre .0 .0 .damage
+
+rect-requires : tie.Need-rect-requires
+rect-requires c κs = search needs
+
+slice-aggregate-draw : tie.Need-slice-aggregate-draw
+slice-aggregate-draw c = search needs
+
+draw-requires : tie.Need-draw-requires
+draw-requires c κs =
+    let s = c .before .before .before .before .before .before .before .before .before .before .before .before .pre in
+    let e = c .before .before .rect .ensures in
+    ((subst Small (sym e) (s .0 .0 .at), rw e (s .0 .1)), ((s .0 .2, lends _ _ (c .before .before .before .before .dirty-of .ensures)), s .1))
+
+same-length : tie.Need-same-length
+same-length c = search needs
+
+returns : tie.Need-returns
+returns c =
+    let s = c .before .before .before .before .before .before .before .before .before .before .before .before .before .before .before in
+    lent-drawn (s .args .dim) (s .args .w) (s .args .full) (s .args .base) _ (s .args .store .now) (s .args .sw) (s .args .sh) (s .args .screen .now) _ _ _ (s .pre .0 .0 .at) (sym (c .before .before .before .before .before .before .before .before .before .before .before .either .ensures) ∙ c .before .before .before .before .before .before .before .before .before .before .if1 .taken) (c .before .before .before .before .before .rect .ensures) (c .before .before .before .before .before .before .before .dirty-of .ensures .list) (c .before .before .draw .ensures)
+
+returns-2 : tie.Need-returns-2
+returns-2 c = rw (sym (c .before .either .ensures) ∙ c .if1 .left)
+
+pub draw-window-spec : {M : Type 1} → statement M
+draw-window-spec =
+    tie.close
+    (tie.spec
+    either-requires
+    dirty-of-requires
+    rect-requires
+    slice-aggregate-draw
+    draw-requires
+    same-length
+    returns
+    returns-2)

@@ -1,0 +1,114 @@
+-- Questions 1, 3 and 5; then the window becomes what the fill leaves of it.
+use Prim.Native.Nat.{ℕ, _*_}
+use mathlib.Core.Path.{_≡_, refl, sym, ap, _∙_}
+use mathlib.Core.Bool.{true, false, cond}
+use mathlib.Core.List.{List, [], _∷_}
+use native.Mathlib.Omega.{arith}
+use Rattle.geom.specs.declared.Rect.{Rect}
+use Rattle.geom.specs.Questions.{_is_}
+use Rattle.geom.specs.Geom.{smallRect, meets}
+use Rattle.scanline.proofs.rows.Altered.{altered-cond}
+use Rattle.rules.specs.Group.{Group, win}
+use Rattle.rules.specs.Store as Spec
+use Rattle.rules.specs.Store.{bounds, filledAt}
+use Rattle.rules.specs.Calls.{Fill, does, accepted}
+use Rattle.windows.specs.Pixels.{filledWin}
+use Rattle.windows.proofs.laws.Shared.{same-shared}
+use Rattle.windows.proofs.laws.Store.{Rule, Counts, Writable, writable, not-whole, not-used, no, yes, place, stored, small-rect, set-if, with-count, unaltered}
+use borrow.Author.Needs.{needs}
+use Rattle.windows.proofs.inner.store.fill.Statement.{statement}
+use Rattle.windows.proofs.inner.store.fill.Tie as tie
+
+-- the rule, read at one window
+rule : {id : ℕ} {a : Rect} {v : ℕ} {store : List ℕ}
+    → Rule (Fill id a v store) id store (λ c. (5 is smallRect a) ∷ []) (filledWin a) (λ c w. filledAt (id * c) w a v store) (λ g. g)
+unfolding does Spec.fill filledWin
+rule {id} {a} {v} {store} =
+    record {
+      lent = refl;
+      asks = λ g. refl;
+      after = λ g u. ap (λ (h : Group). cond (accepted g (Fill id a v store)) h g) (set-if g id (meets a (bounds (win g id))) _ u);
+      stored = λ g. refl;
+    }
+
+counts : {id : ℕ} {a : Rect} {v : ℕ} {store : List ℕ} → Counts (Fill id a v store) store
+unfolding does Spec.fill
+counts {id} {a} {v} {store} =
+    record { counts = λ g. altered-cond (accepted g (Fill id a v store)) store (filledAt (id * g .c) (win g id) a v store) }
+
+-- questions 1 and 3 are answered yes
+known : (c : tie.Then2) → let a = c .before .before .before .before .before .args in Writable (a .id .0) (a .win) (a .shared) (a .store .now)
+known c = writable (c .before .before .if1 .taken) (c .before .is-used .ensures) (c .if2 .taken)
+
+-- and question 5
+small : (c : tie.Then3) → smallRect (c .before .before .before .before .before .before .before .args .area) ≡ true
+small c = sym (c .before .is-small .ensures) ∙ c .if3 .taken
+
+cast-c : tie.Need-cast-c
+cast-c c = search needs
+
+mul-if1 : tie.Need-mul-if1
+mul-if1 c = search needs
+
+is-used-requires : tie.Need-is-used-requires
+is-used-requires c κs = search needs
+
+is-small-requires : tie.Need-is-small-requires
+is-small-requires c κs = search needs
+
+cast-fill-rect : tie.Need-cast-fill-rect
+cast-fill-rect c = search needs
+
+mul-fill-rect : tie.Need-mul-fill-rect
+mul-fill-rect c =
+    let t = c .before .before .before in
+    omega (arith, place (t .before .before .before .before .before .pre) (known t))
+
+fill-rect-requires : tie.Need-fill-rect-requires
+fill-rect-requires c κs =
+    let f = c .before .before in
+    let t = f .before .before in
+    let s = t .before .before .before .before .before in
+    (stored (s .pre) (known t), small-rect (s .args .area) (small f))
+
+same-length : tie.Need-same-length
+same-length c = search needs
+
+returns : tie.Need-returns
+returns c =
+    let f = c .before .before .before .before .before .before in
+    let t = f .before .before in
+    let e = c .before .before .before .fill-rect .ensures in
+    with-count counts (yes rule (known t) same-shared _ _ (rw (small f)) (e .0, e .1 .pixels)) (e .1 .altered)
+
+returns-2 : tie.Need-returns-2
+returns-2 c =
+    let t = c .before .before in
+    let s = t .before .before .before .before .before in
+    let e : smallRect (s .args .area) ≡ false = sym (c .before .is-small .ensures) ∙ c .if3 .left in
+    unaltered counts (no rule (known t) 4 (rw e))
+
+returns-3 : tie.Need-returns-3
+returns-3 c =
+    let t = c .before .before in
+    unaltered counts (not-used rule (t .if1 .taken) (c .before .is-used .ensures) (c .if2 .left))
+
+returns-4 : tie.Need-returns-4
+returns-4 c = unaltered counts (not-whole rule (c .if1 .left))
+
+pub fill-spec : {M : Type 1} → statement M
+fill-spec =
+    tie.close
+    (tie.spec
+    cast-c
+    mul-if1
+    is-used-requires
+    is-small-requires
+    cast-fill-rect
+    mul-fill-rect
+    fill-rect-requires
+    same-length
+    returns
+    returns-2
+    returns-3
+    returns-4)

@@ -1,0 +1,49 @@
+-- Of the window the cursor and the flags stay.
+use mathlib.Core.Path.{_≡_, refl}
+use mathlib.Core.List.{[], _∷_}
+use Rattle.geom.specs.Geom.{rect}
+use Rattle.window.specs.declared.Window.{Window}
+use Rattle.window.specs.declared.damage.Area.{Area}
+use Rattle.window.specs.declared.damage.Damage.{Damage}
+use Rattle.window.specs.declared.queue.Queue.{Queue}
+use Rattle.window.specs.declared.Event.the-variants.{Resize}
+use Rattle.window.specs.Held.{winOf, rectOf, rects, Small, RepWindow, RepDamage}
+use Rattle.window.specs.Inner.{PushedTo}
+use Rattle.rules.specs.Displays.{taken}
+use Rattle.windows.specs.Pixels.{Becomes}
+use borrow.Author.Needs.{needs}
+use Rattle.windows.proofs.inner.store.taken.Statement.{statement}
+use Rattle.windows.proofs.inner.store.taken.Tie as tie
+
+abbrev made : Window → Area → Damage → Queue → Window
+made v a d q = record { queue = q; damage = d; at = a; cursor = v .cursor; used = v .used; marked = v .marked }
+
+made-is : (v : Window) (a : Area) (d : Damage) (q : Queue) → RepWindow v → Small (rectOf a) → (rects d ≡ rect 0 0 (a .w) (a .h) ∷ []) × RepDamage d
+    → PushedTo (v .queue) Resize q → Becomes v (taken (rectOf a) (winOf v)) (made v a d q)
+made-is v a d q r s e f =
+    record {
+      used = refl;
+      rep = record { at = s; damage = e .1; queue = f .rep; cursor = r .cursor };
+      is = λ i. record { at = rectOf a; marked = v .marked; damage = e .0 i; queue = f .is i; cursor = v .cursor };
+    }
+
+cast-whole : tie.Need-cast-whole
+cast-whole c = search needs
+
+cast-whole-2 : tie.Need-cast-whole-2
+cast-whole-2 c = search needs
+
+whole-requires : tie.Need-whole-requires
+whole-requires c κs = search needs
+
+push-requires : tie.Need-push-requires
+push-requires c κs = search needs
+
+returns : tie.Need-returns
+returns c =
+    let s = c .before .before .before .before .before in
+    let w = c .before .before .whole in
+    made-is (s .args .win) (s .args .at) (w .result) (c .push .result) (s .pre .0) (s .pre .1) (w .ensures) (c .push .ensures)
+
+pub taken-spec : {M : Type 1} → statement M
+taken-spec = tie.close (tie.spec cast-whole cast-whole-2 whole-requires push-requires returns)

@@ -1,0 +1,11 @@
+// What our own crates call: the calls as functions of one window, or in halves, and what they share. Most functions have a `requires`: what
+// they need of their arguments is for the caller to know.
+pub mod dim;
+pub mod dims;
+pub mod events;
+pub mod frames;
+pub mod one;
+pub mod portion;
+pub mod redraw;
+pub mod small;
+pub mod store;

@@ -1,0 +1,256 @@
+// The calls that touch one window, as functions of that window and of what the windows share. A session by value and a session behind a
+// pointer both stand on them. A refused call hands back the window and what is shared as it got them.
+ghost use mathlib.Core.Path.{_≡_};
+ghost use mathlib.Core.Bool.{_&&_};
+ghost use Prim.Native.Nat.{_<_};
+ghost use lib.Dec.{ltb};
+ghost use Rattle.rules.specs.Calls.{Call};
+ghost use Rattle.windows.specs.View.{Given};
+ghost use Rattle.windows.specs.One.{At, Free, Held, SharedBy, MeetsAt, CreatesAt};
+ghost use Rattle.windows.specs.Walk.{Hides, PutsOn};
+use crate::Changed;
+use crate::CreatedOne;
+use crate::FreeSlot;
+use crate::NewId;
+use crate::Session;
+use crate::Shared;
+use crate::inner::frames::frames;
+use crate::inner::small::small_point;
+use order::RenderIdx;
+use order::WinId;
+use order::close_gap;
+use order::focus_after;
+use order::frames::first_free;
+use order::get_render_idx;
+use order::layers::insert;
+use order::layers::to_top;
+use order::layers::with_layer;
+use topmost::release::forget;
+use window::Window;
+
+// Where the window of an id lies: at its number. For a number that no window has it is 0, and the call is refused, whatever lies there.
+pub fn slot(id: WinId) -> usize
+    ensures { λ at. ⌜ At (id .0) at ⌝ }
+{
+    let k = id.0;
+    if k < 16 {
+        return k as usize;
+    }
+    0
+}
+
+// A place for the next window: that of the smallest unused id. Where none is left, any place: its window is in use.
+pub fn free_slot(s: Session) -> FreeSlot
+    requires { ⌜ Given s ⌝ }
+    ensures { λ r. ⌜ Free s r ⌝ }
+{
+    let frames = frames(s);
+    let used = frames.used;
+    let at = first_free(used);
+    FreeSlot {
+        at,
+        id: WinId(at as u16),
+    }
+}
+
+// Question 3, of the window that lies at the id's place.
+pub fn is_used(win: Window, id: WinId) -> bool
+    ensures { λ b. ⌜ b ≡ ltb (id .0) 16 && win .used ⌝ }
+{
+    if id.0 < 16 {
+        return win.used;
+    }
+    false
+}
+
+// A window of layer 0 that is not shown, not maximised and has no pixels, if the place of this id is free.
+pub fn create(win: Window, mut shared: Shared, id: WinId) -> CreatedOne
+    requires { ⌜ id .0 < 16 ⌝ }
+    ensures { λ r. ⌜ CreatesAt (id .0) win shared r ⌝ }
+{
+    if win.used {
+        return CreatedOne {
+            window: win,
+            shared,
+            answer: 4,
+            id: NewId::Absent,
+        };
+    }
+    let window = Window::fresh();
+    let was = shared.layers;
+    let layers = with_layer(was, id, 0);
+    shared.layers = layers;
+    shared = shared.flagged(id, false);
+    CreatedOne {
+        window,
+        shared,
+        answer: 0,
+        id: NewId::Id(id),
+    }
+}
+
+pub fn mark(mut win: Window, shared: Shared, id: WinId) -> Changed
+    requires { ⌜ Held (id .0) win shared ⌝ }
+    ensures { λ r. ⌜ MeetsAt (Call.Mark (id .0)) (id .0) win shared r ⌝ }
+{
+    let mut answer: u32 = 3;
+    if is_used(win, id) {
+        win.marked = true;
+        answer = 0;
+    }
+    Changed {
+        window: win,
+        shared,
+        answer,
+    }
+}
+
+pub fn move_window(mut win: Window, mut shared: Shared, id: WinId, x: u32, y: u32) -> Changed
+    requires { ⌜ Held (id .0) win shared ⌝ }
+    ensures { λ r. ⌜ MeetsAt (Call.Move (id .0) x y) (id .0) win shared r ⌝ }
+{
+    let mut answer: u32 = 3;
+    if is_used(win, id) {
+        answer = 5;
+        if small_point(x, y) {
+            let mut area = win.at;
+            area.x = x as u16;
+            area.y = y as u16;
+            win.at = area;
+            shared = shared.flagged(id, false);
+            shared = shared.owing(); // where it was is uncovered
+            answer = 0;
+        }
+    }
+    Changed {
+        window: win,
+        shared,
+        answer,
+    }
+}
+
+// On top of its layer, with the focus; nothing if shown already.
+pub fn show(win: Window, mut shared: Shared, id: WinId) -> Changed
+    requires { ⌜ Held (id .0) win shared ⌝ }
+    ensures { λ r. ⌜ MeetsAt (Call.Show (id .0)) (id .0) win shared r ⌝ }
+{
+    let mut answer: u32 = 3;
+    if is_used(win, id) {
+        answer = 0;
+        let n = shared.shown;
+        let order = shared.order;
+        let layers = shared.layers;
+        let idx = get_render_idx(order, n, id);
+        if let RenderIdx::Hidden = idx {
+            let longer = insert(layers, order, n, id);
+            shared.order = longer;
+            shared.shown = n + 1;
+            shared.focus = id;
+            shared = shared.owing();
+        }
+    }
+    Changed {
+        window: win,
+        shared,
+        answer,
+    }
+}
+
+// What is shared, with this window of another layer, at its top if shown; as it is if the window has this layer.
+fn layered(mut shared: Shared, id: WinId, layer: u8) -> Shared
+    requires { ⌜ SharedBy shared × (id .0 < 16) ⌝ }
+    ensures { λ r. ⌜ PutsOn (id .0) layer shared r ⌝ }
+{
+    let at = id.0 as usize;
+    let was = shared.layers;
+    if was[at] == layer {
+        return shared;
+    }
+    let layers = with_layer(was, id, layer);
+    shared.layers = layers;
+    let n = shared.shown;
+    let order = shared.order;
+    let idx = get_render_idx(order, n, id);
+    if let RenderIdx::At(p) = idx {
+        let moved = to_top(layers, order, n, p, id);
+        shared.order = moved;
+        shared = shared.owing(); // it covers others now, or they cover it
+    }
+    shared
+}
+
+// Puts the window on a layer; the focus stays where it is.
+pub fn set_layer(win: Window, mut shared: Shared, id: WinId, layer: u32) -> Changed
+    requires { ⌜ Held (id .0) win shared ⌝ }
+    ensures { λ r. ⌜ MeetsAt (Call.SetLayer (id .0) layer) (id .0) win shared r ⌝ }
+{
+    let mut answer: u32 = 3;
+    if is_used(win, id) {
+        answer = 17;
+        if layer <= 1 {
+            answer = 0;
+            shared = layered(shared, id, layer as u8);
+        }
+    }
+    Changed {
+        window: win,
+        shared,
+        answer,
+    }
+}
+
+// What is shared, without this window in the render order, and not remembered; as it is if the window is hidden.
+fn hidden(mut shared: Shared, id: WinId) -> Shared
+    requires { ⌜ SharedBy shared ⌝ }
+    ensures { λ r. ⌜ Hides (id .0) shared r ⌝ }
+{
+    let n = shared.shown;
+    let order = shared.order;
+    let idx = get_render_idx(order, n, id);
+    if let RenderIdx::At(p) = idx {
+        let closed = close_gap(order, n, p);
+        let focus = focus_after(shared.focus, id, closed, n - 1, p);
+        shared.order = closed;
+        shared.shown = n - 1;
+        shared.focus = focus;
+        let held = forget(shared.held, id);
+        shared.held = held;
+        shared = shared.owing();
+    }
+    shared
+}
+
+// Removed from the render order; nothing if hidden.
+pub fn hide(win: Window, mut shared: Shared, id: WinId) -> Changed
+    requires { ⌜ Held (id .0) win shared ⌝ }
+    ensures { λ r. ⌜ MeetsAt (Call.Hide (id .0)) (id .0) win shared r ⌝ }
+{
+    let mut answer: u32 = 3;
+    if is_used(win, id) {
+        answer = 0;
+        shared = hidden(shared, id);
+    }
+    Changed {
+        window: win,
+        shared,
+        answer,
+    }
+}
+
+// Hides the window and frees its id; its pixels stay in the store.
+pub fn drop(mut win: Window, mut shared: Shared, id: WinId) -> Changed
+    requires { ⌜ Held (id .0) win shared ⌝ }
+    ensures { λ r. ⌜ MeetsAt (Call.Drop (id .0)) (id .0) win shared r ⌝ }
+{
+    let mut answer: u32 = 3;
+    if is_used(win, id) {
+        answer = 0;
+        shared = hidden(shared, id);
+        win.used = false;
+    }
+    Changed {
+        window: win,
+        shared,
+        answer,
+    }
+}
