@@ -24,8 +24,9 @@
  *                                                     26  the run has at most 4,096 times
  *                                                     27  no time is below the one before it
  *
- * Sessions. A session is one that roq_start, also a refused one, and these calls made, in the caller's memory; to keep to that is all
- * that a call asks of its caller. It may be copied and moved as a whole; nobody else writes it. One thread at a time uses it.
+ * Sessions. A session is one that roq_start, also a refused one, and these calls made, in the caller's memory. It may be copied and moved as a
+ * whole; nobody else writes it. One thread at a time uses it. This and the next paragraph are all that a call asks of its caller: every
+ * number may be anything, and is answered.
  *
  * Lent memory. A pointer and the number after it are an array of that many pixels, numbers or bytes. It is lent for the call alone: nothing
  * of it is kept. It is aligned and not null, also where its length is 0. No two arrays of a call overlap, nor do they overlap the

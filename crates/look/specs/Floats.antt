@@ -26,8 +26,8 @@ oneOf (f ∷ fs) x = eq f x || oneOf fs x
 unfoldable pub isFactor : Float → Bool
 isFactor f = oneOf factors f
 
--- "a multiple of 0.25 from 0 to 32,767", of the number n / d with the sign s: 4 × n is a multiple of d, n / d is at most 32,767, and the sign is plus
--- or the number is 0. "A corner of −0.0 counts as 0."
+-- a "multiple of 0.25 from 0 to 32,767", of the number n / d with the sign s: 4 × n is a multiple of d, n / d is at most 32,767, and the
+-- sign is plus or the number is 0. "A corner of −0.0 counts as 0."
 abbrev pub inRange : Bool → ℕ → ℕ → Bool
 inRange s n d = eqb (n * 4 % d) 0 && leb n (32767 * d) && (not s || eqb n 0)
 

@@ -11,7 +11,7 @@ use Rattle.rate.specs.declared.Second.{Second}
 abbrev pub inSpan : ℕ → ℕ → Bool
 inSpan t u = leb t u && ltb u (t + 1000)
 
--- "the number of events in" the span from t on. "Equal times count separately"
+-- the "number of events in" the span from t on. "Equal times count separately"
 abbrev pub events : ℕ → List ℕ → ℕ
 events t [] = 0
 events t (u ∷ us) = cond (inSpan t u) 1 0 + events t us

@@ -37,7 +37,7 @@ pub record Panel (b : Book) (id px py : ℕ) : Type 0 where
   pub high : layer b id ≡ 1
   pub has : T (contains (page b id .at) px py)
 
--- a press at such a point "reaches a layer 1 window", the topmost there, exactly when fewer than 16 events wait for it, and never one of layer 0:
+-- a press at such a point reaches a window of layer 1, the topmost there, exactly when fewer than 16 events wait for it, and never one of layer 0:
 -- g and h are the group before and after it
 pub record Reached (b : Book) (l : Ledger) (g h : Group) (p : Press) (px py : ℕ) : Type 0 where
   pub to : ℕ
@@ -52,7 +52,7 @@ PressesOnTop c ks =
     (id px py : ℕ) → px ≤ 32767 → py ≤ 32767 → Panel (bookOf c ks) id px py → (p : Press) →
     Reached (bookOf c ks) (ledgerOf c ks) (after c ks) (route (after c ks) (pressAt p px py) .group) p px py
 
--- the pixel of the screen at such a point is "a layer 1 window's", of the topmost there
+-- the pixel of the screen at such a point is that of a window of layer 1, the topmost there
 pub record Seen (b : Book) (w : ℕ) (screen : List ℕ) (px py : ℕ) : Type 0 where
   pub of : ℕ
   pub topmost-there : topmost b px py ≡ some of

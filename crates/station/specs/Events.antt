@@ -48,7 +48,7 @@ numbersOf (some (MouseDown x y b)) = press 7 x y b 0
 numbersOf (some (MouseClick x y b n)) = press 8 x y b n
 numbersOf (some (MouseUp x y b)) = press 9 x y b 0
 
--- what routing an event promises. Numbers that stand for none have "no window to take the event": 11, and the very session
+-- what routing an event promises. Numbers that stand for none have no window to take them: 11, and the very session
 abbrev pub Routes : Option Event → Session → Done → Type 0
 Routes (some e) s r = Meets (Route e) s r
 Routes none s r = r ≡ done s 11
