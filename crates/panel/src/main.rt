@@ -51,7 +51,8 @@ fn main() {
     scanlines();
 }
 
-// A scanline of bare pixels, 3 by 2: row 1 from column 1 on. Its 9 pixels are cut to two.
+// A scanline of bare pixels, 3 by 2: row 1 from column 1 on. Its 9 pixels are cut to two. It is written as a part of the
+// pixels, and what they hold afterwards is known.
 fn scanlines() {
     let mut pixels = [5u32; 6];
     let range = winbuf::scanline_range(pixels.len(), 3, 2, 1, 1, 9);
@@ -62,12 +63,6 @@ fn scanlines() {
     part[1] = 7;
     check::expect(pixels[4] == 5);
     check::expect(pixels[5] == 7);
-
-    // The same part, in one call. What it holds is known, and not what `pixels` hold after a write through it.
-    let mut answer: u32 = 1;
-    let same = winbuf::scanline_rgn_mut(&mut pixels, 3, 2, 1, 1, 9, &mut answer);
-    check::expect(same[1] == 7);
-    check::expect(answer == 0);
 }
 
 // Whether a popped event is a press at the point.

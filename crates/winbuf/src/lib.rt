@@ -83,26 +83,6 @@ pub fn scanline_rgn<'a>(
     &pixels[start..start + count]
 }
 
-// The same of pixels to be written. What is written through the part is written in `pixels`: `Hands` says that the part's
-// memory is theirs.
-pub fn scanline_rgn_mut<'a>(
-    pixels: &'a mut [u32],
-    width: u32,
-    height: u32,
-    line: u32,
-    ofs: u32,
-    len: u32,
-    answer: &mut u32,
-) -> &'a mut [u32]
-    ensures { λ r. ⌜ Hands (scanline (now (pixels .entry)) width height line ofs len) (lineStart width line ofs) (pixels .entry) (now (answer .exit)) r ⌝ }
-{
-    let range = scanline_range(pixels.len(), width, height, line, ofs, len);
-    let start = range.start;
-    let count = range.count;
-    *answer = range.answer;
-    &mut pixels[start..start + count]
-}
-
 // A call that wrote nothing.
 fn unaltered(answer: u32) -> Altered
     ensures { λ r. ⌜ r ≡ none answer ⌝ }

@@ -1,15 +1,15 @@
 -- The range is computed from its contract; the pixels follow, by computation, from the write through the part.
 use Prim.Native.Nat.{ℕ, _+_, _-_}
-use mathlib.Core.Path.{_≡_, sym, ap, _∙_}
-use mathlib.Core.List.{List, [], _∷_}
+use mathlib.Core.Path.{_≡_, ap}
+use mathlib.Core.List.{List}
 use native.Mathlib.Omega.{arith}
 use lib.Dec.{eqb}
-use lib.ListN.{length, getD, set, replicate}
+use lib.ListN.{getD, set, replicate}
 use borrow.Rule.Slice.PartMut.{putMid}
 use borrow.Author.Needs.{needs}
 use Rattle.winbuf.specs.declared.ScanlineRange.{ScanlineRange}
 use Rattle.scanline.specs.Pixels.{part}
-use Rattle.winbuf.specs.Pixels.{Part, scanlineRange, scanline}
+use Rattle.winbuf.specs.Pixels.{scanlineRange}
 use Rattle.panel.proofs.scanlines.Statement.{statement}
 use Rattle.panel.proofs.scanlines.Tie as tie
 
@@ -22,15 +22,6 @@ abbrev written : ScanlineRange → List ℕ
 written r =
     let n : ℕ = r .start + r .count - r .start in
     putMid (r .start) n (replicate 6 5) (set (part (r .start) n (replicate 6 5)) 1 7)
-
--- the answer and the part of scanline_rgn_mut
-handed : (c : tie.After-scanline-rgn-mut) → let m = c .scanline-rgn-mut in (m .last .1 .1 .1 .1 .1 .1 .0 ≡ 0) × (m .result .now ≡ 5 ∷ 7 ∷ [])
-unfolding scanlineRange
-handed c =
-    let rule : ScanlineRange → Part = λ r. scanline (written r) 3 2 1 1 9 in
-    let e = ap rule (found (c .before .before .before .before .before .before .before .before .before)) in
-    let h = c .scanline-rgn-mut .ensures in
-    (h .answer ∙ ap (λ (x : Part). x .answer) e, h .pixels ∙ ap (λ (x : Part). x .pixels) e)
 
 scanline-range-requires : tie.Need-scanline-range-requires
 scanline-range-requires c κs = search needs
@@ -68,21 +59,6 @@ array-read-expect-2 c = search needs
 expect-requires-3 : tie.Need-expect-requires-3
 expect-requires-3 c κs = ap (λ (r : ScanlineRange). eqb (getD (written r) 5 0) 7) (found (c .before .before .before .before .before))
 
-slice-aggregate-scanline-rgn-mut : tie.Need-slice-aggregate-scanline-rgn-mut
-slice-aggregate-scanline-rgn-mut c = sym (ap (λ (r : ScanlineRange). length (written r)) (found (c .before .before .before .before .before .before .before)))
-
-scanline-rgn-mut-requires : tie.Need-scanline-rgn-mut-requires
-scanline-rgn-mut-requires c κs = search needs
-
-slice-read-expect : tie.Need-slice-read-expect
-slice-read-expect c = rw (handed (c .before) .1) (omega arith)
-
-expect-requires-4 : tie.Need-expect-requires-4
-expect-requires-4 c κs = ap (λ (l : List ℕ). eqb (getD l 1 0) 7) (handed (c .before .before) .1)
-
-expect-requires-5 : tie.Need-expect-requires-5
-expect-requires-5 c κs = ap (λ (n : ℕ). eqb n 0) (handed (c .before .before .before) .0)
-
 returns : tie.Need-returns
 returns c = search needs
 
@@ -102,9 +78,4 @@ scanlines-spec =
     expect-requires-2
     array-read-expect-2
     expect-requires-3
-    slice-aggregate-scanline-rgn-mut
-    scanline-rgn-mut-requires
-    slice-read-expect
-    expect-requires-4
-    expect-requires-5
     returns)
