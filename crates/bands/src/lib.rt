@@ -24,5 +24,5 @@ pub fn write(at: Rect, above: &[u32], n: usize, out: &mut [u8]) -> Count
     sort::sort(above, n, &mut sorted);
     let mut nums = [0u32; 1120];
     let made = scan::scan(at, &sorted, n, &mut nums);
-    sheet::write::write(&nums, made.bands, made.end, out)
+    sheet::inner::write::write(&nums, made.bands, made.end, out)
 }

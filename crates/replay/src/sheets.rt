@@ -33,7 +33,7 @@ fn read(bytes: &[u8], n: usize, list: &mut [u32], len: usize) -> Count
     requires { ⌜ (n ≤ length (now bytes)) × (len ≤ length (now list)) ⌝ }
     ensures { λ r. ⌜ ReadsPart (take n (now (bytes .entry))) len (now (list .entry)) r (now (list .exit)) ⌝ }
 {
-    sheet::read::read_sheet(&bytes[..n], &mut list[0..len])
+    sheet::read_sheet(&bytes[..n], &mut list[0..len])
 }
 
 // The bytes of the line are a sheet's.

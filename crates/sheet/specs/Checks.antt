@@ -4,7 +4,7 @@ use mathlib.Core.Path.{_≡_}
 use mathlib.Core.Bool.{Bool, true, false}
 use mathlib.Core.List.{List}
 use lib.ListN.{length}
-use Rattle.sheet.specs.declared.valid.Counted.{Counted}
+use Rattle.sheet.specs.declared.inner.valid.Counted.{Counted}
 use Rattle.sheet.specs.Sheet.{Band, Sheet, rects}
 use Rattle.sheet.specs.Cursor.{bitAt, spansAt, sheetAt}
 use Rattle.sheet.specs.Reader.{IsSheet}

@@ -1,11 +1,10 @@
 // The reader of region sheets, which needs no session. Document 02, N6.
 ghost use Rattle.sheet.specs.Reader.{Reads};
 use sheet::Count;
-use sheet::read;
 
 #[no_mangle]
 pub extern "C" fn roq_read_sheet(bytes: &[u8], list: &mut [u32]) -> Count
     ensures { λ r. ⌜ Reads (now (bytes .entry)) (now (list .entry)) r (now (list .exit)) ⌝ }
 {
-    read::read_sheet(bytes, list)
+    sheet::read_sheet(bytes, list)
 }

@@ -13,7 +13,7 @@ pub struct StrideBuf<'a> {
 }
 
 // How many rows begin in so many pixels. No sum is made that could pass 64 bits.
-pub fn rows(total: usize, stride: usize) -> usize
+fn rows(total: usize, stride: usize) -> usize
     ensures { λ n. ⌜ n ≡ rowCount total stride ⌝ }
 {
     if stride == 0 {

@@ -50,7 +50,7 @@ impl Session {
                     return self.sheet_shown(id, p, bytes);
                 }
                 let numbers = [0u32; 1];
-                return sheet::write::write(&numbers, 0, 0, bytes);
+                return sheet::inner::write::write(&numbers, 0, 0, bytes);
             }
         }
         Count {

@@ -10,7 +10,7 @@ use lib.Seq.{sets, sets-eq, length-sets}
 use Rattle.geom.specs.declared.Rect.{Rect}
 use Rattle.geom.specs.Lists.{numbers}
 use Rattle.geom.proofs.geometry.Numbers.{length-numbers, written-append}
-use Rattle.sheet.specs.declared.valid.Counted.{Counted}
+use Rattle.sheet.specs.declared.inner.valid.Counted.{Counted}
 use Rattle.sheet.specs.Sheet.{Sheet, bandRects, rects}
 use Rattle.sheet.specs.Cursor.{bitAt, Field, spansAt, bandsAt, sheetAt}
 use Rattle.sheet.specs.Reader.{Reads, broken, short, whole, answered}

@@ -1,0 +1,136 @@
+-- One band a turn.
+use Rattle.sheet.specs.Numbers.{bandsIn}
+use Rattle.sheet.proofs.laws.Sheets.{Sheeted, sheeted-none, sheeted-numbers, sheeted-room, sheeted-next, sheeted-all, least-bits}
+use mathlib.Core.Path.{_∙_}
+use Prim.Native.Nat.{_+_, _-_}
+use native.Mathlib.Omega.{arith}
+use Rattle.sheet.proofs.inner.write.put_sheet.Statement.{statement}
+use Rattle.sheet.proofs.inner.write.put_sheet.Tie as tie
+
+abbrev Inv-loop : tie.InvT-loop
+Inv-loop out₀ nums n k₀ e₀ i₀ out k e i = Sheeted nums n out₀ out k e i
+
+abbrev μ-loop : tie.MeasureT-loop
+μ-loop out₀ nums n k₀ e₀ i₀ out k e i = n - i
+
+cast-put : tie.Need-cast-put Inv-loop μ-loop
+cast-put c = omega (arith, c .before .before .before .pre .0 .0)
+
+put-requires : tie.Need-put-requires Inv-loop μ-loop
+put-requires c κs =
+    let s = c .before .before .before in
+    omega (arith, least-bits (bandsIn (s .args .nums .now) 0 (s .args .n)), s .pre .1 .0)
+
+loop-holds : tie.Need-loop-holds Inv-loop μ-loop
+loop-holds c =
+    let s = c .before .before .before .before .before .before in
+    sheeted-none (s .args .nums .now) (s .args .n) (c .before .before .put .last .0)
+
+add-m : tie.Need-add-m Inv-loop μ-loop
+add-m c =
+    let s = c .before .before .before .before .before .before .before .before in
+    let l = c .before .loop in
+    omega (arith, sheeted-numbers (l .inv) (c .loop-test .taken) (s .pre .0 .1))
+
+mul-m : tie.Need-mul-m Inv-loop μ-loop
+mul-m c =
+    let s = c .before .before .before .before .before .before .before .before in
+    let l = c .before .loop in
+    omega (arith, sheeted-numbers (l .inv) (c .loop-test .taken) (s .pre .0 .1))
+
+shared-slice-read-m : tie.Need-shared-slice-read-m Inv-loop μ-loop
+shared-slice-read-m c =
+    let s = c .before .before .before .before .before .before .before .before .before in
+    let l = c .before .before .loop in
+    omega (arith, sheeted-numbers (l .inv) (c .before .loop-test .taken) (s .pre .0 .1))
+
+cast-m : tie.Need-cast-m Inv-loop μ-loop
+cast-m c = omega (arith, c .shared-slice-known2 .given (c .before .before .loop .e + 2))
+
+put-band-requires : tie.Need-put-band-requires Inv-loop μ-loop
+put-band-requires c κs =
+    let s = c .before .before .before .before .before .before .before .before .before .before in
+    let l = c .before .before .before .loop in
+    let d = c .before .before in
+    omega (arith, sheeted-numbers (l .inv) (d .loop-test .taken) (s .pre .0 .1), sheeted-room (l .inv) (d .loop-test .taken) (s .pre .1 .0), sheeted-room (l .inv) (d .loop-test .taken) (s .pre .1 .1), l .inv .put .size, d .before .before .before .before .put .ensures .size)
+
+add-k : tie.Need-add-k Inv-loop μ-loop
+add-k c =
+    let s = c .before .before .before .before .before .before .before .before .before .before .before .before .before in
+    let l = c .before .before .before .before .before .before .loop in
+    omega (arith, sheeted-room (l .inv) (c .before .before .before .before .before .loop-test .taken) (s .pre .1 .1))
+
+mul-k : tie.Need-mul-k Inv-loop μ-loop
+mul-k c =
+    let s = c .before .before .before .before .before .before .before .before .before .before .before .before .before in
+    let l = c .before .before .before .before .before .before .loop in
+    omega (arith, sheeted-room (l .inv) (c .before .before .before .before .before .loop-test .taken) (s .pre .1 .1))
+
+add-k-2 : tie.Need-add-k-2 Inv-loop μ-loop
+add-k-2 c =
+    let s = c .before .before .before .before .before .before .before .before .before .before .before .before .before in
+    let l = c .before .before .before .before .before .before .loop in
+    omega (arith, sheeted-room (l .inv) (c .before .before .before .before .before .loop-test .taken) (s .pre .1 .1))
+
+add-e : tie.Need-add-e Inv-loop μ-loop
+add-e c =
+    let s = c .before .before .before .before .before .before .before .before .before .before .before .before .before in
+    let l = c .before .before .before .before .before .before .loop in
+    omega (arith, sheeted-numbers (l .inv) (c .before .before .before .before .before .loop-test .taken) (s .pre .0 .1))
+
+mul-e : tie.Need-mul-e Inv-loop μ-loop
+mul-e c =
+    let s = c .before .before .before .before .before .before .before .before .before .before .before .before .before in
+    let l = c .before .before .before .before .before .before .loop in
+    omega (arith, sheeted-numbers (l .inv) (c .before .before .before .before .before .loop-test .taken) (s .pre .0 .1))
+
+add-e-2 : tie.Need-add-e-2 Inv-loop μ-loop
+add-e-2 c =
+    let s = c .before .before .before .before .before .before .before .before .before .before .before .before .before in
+    let l = c .before .before .before .before .before .before .loop in
+    omega (arith, sheeted-numbers (l .inv) (c .before .before .before .before .before .loop-test .taken) (s .pre .0 .1))
+
+add-i : tie.Need-add-i Inv-loop μ-loop
+add-i c =
+    let d = c .before .before .before .before .before in
+    omega (arith, d .loop-test .taken, d .before .before .before .before .before .before .before .before .pre .0 .0)
+
+loop-less : tie.Need-loop-less Inv-loop μ-loop
+loop-less c = omega (arith, c .before .before .before .before .before .loop-test .taken)
+
+loop-again : tie.Need-loop-again Inv-loop μ-loop
+loop-again c =
+    let d = c .before .before in
+    sheeted-next (d .before .before .before .before .loop .inv) (d .before .before .before .loop-test .taken) (d .put-band .ensures)
+
+same-length : tie.Need-same-length Inv-loop μ-loop
+same-length c = c .before .loop .inv .put .size ∙ c .before .before .before .before .put .ensures .size
+
+returns : tie.Need-returns Inv-loop μ-loop
+returns c = sheeted-all (c .before .before .before .before .put .ensures) (c .before .loop .inv) (c .loop-test .left)
+
+pub put-sheet-spec : {M : Type 1} → statement M
+put-sheet-spec =
+    tie.close
+    (tie.spec
+    Inv-loop
+    μ-loop
+    cast-put
+    put-requires
+    loop-holds
+    add-m
+    mul-m
+    shared-slice-read-m
+    cast-m
+    put-band-requires
+    add-k
+    mul-k
+    add-k-2
+    add-e
+    mul-e
+    add-e-2
+    add-i
+    loop-less
+    loop-again
+    same-length
+    returns)

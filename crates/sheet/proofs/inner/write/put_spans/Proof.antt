@@ -1,0 +1,146 @@
+-- One interval a turn.
+use Rattle.sheet.specs.Bytes.{spanBits}
+use Rattle.sheet.specs.Numbers.{spansIn}
+use Rattle.sheet.specs.Writer.{Put}
+use Rattle.sheet.proofs.laws.Sheets.{spans-none, spans-put, spans-all}
+use Prim.Native.Nat.{_-_, _≤_}
+use native.Mathlib.Omega.{arith}
+use Rattle.sheet.proofs.inner.write.put_spans.Statement.{statement}
+use Rattle.sheet.proofs.inner.write.put_spans.Tie as tie
+
+abbrev Inv-loop : tie.InvT-loop
+Inv-loop out₀ k nums e n i₀ out i = (i ≤ n) × Put k (spanBits (spansIn nums e i)) out₀ out
+
+abbrev μ-loop : tie.MeasureT-loop
+μ-loop out₀ k nums e n i₀ out i = n - i
+
+loop-holds : tie.Need-loop-holds Inv-loop μ-loop
+loop-holds c =
+    let s = c .before .before in
+    (omega arith, spans-none (s .args .k) (s .args .e) (s .args .nums .now) (s .args .out .now))
+
+mul-put : tie.Need-mul-put Inv-loop μ-loop
+mul-put c = omega (arith, c .before .loop-test .taken, c .before .before .before .before .before .pre)
+
+add-put : tie.Need-add-put Inv-loop μ-loop
+add-put c = omega (arith, c .before .loop-test .taken, c .before .before .before .before .before .pre)
+
+mul-put-2 : tie.Need-mul-put-2 Inv-loop μ-loop
+mul-put-2 c = omega (arith, c .before .loop-test .taken, c .before .before .before .before .before .pre)
+
+add-put-2 : tie.Need-add-put-2 Inv-loop μ-loop
+add-put-2 c = omega (arith, c .before .loop-test .taken, c .before .before .before .before .before .pre)
+
+mul-put-3 : tie.Need-mul-put-3 Inv-loop μ-loop
+mul-put-3 c = omega (arith, c .before .loop-test .taken, c .before .before .before .before .before .pre)
+
+shared-slice-read-put : tie.Need-shared-slice-read-put Inv-loop μ-loop
+shared-slice-read-put c = omega (arith, c .before .before .loop-test .taken, c .before .before .before .before .before .before .pre)
+
+put-requires : tie.Need-put-requires Inv-loop μ-loop
+put-requires c κs =
+    let s = c .before .before .before .before .before .before in
+    omega (arith, c .before .before .before .loop .inv .1 .size, c .before .before .loop-test .taken, s .pre)
+
+mul-put-4 : tie.Need-mul-put-4 Inv-loop μ-loop
+mul-put-4 c =
+    let s = c .before .before .before .before .before .before .before .before .before .before in
+    omega (arith, c .before .before .before .before .before .before .loop-test .taken, s .pre)
+
+add-put-3 : tie.Need-add-put-3 Inv-loop μ-loop
+add-put-3 c =
+    let s = c .before .before .before .before .before .before .before .before .before .before in
+    omega (arith, c .before .before .before .before .before .before .loop-test .taken, s .pre)
+
+add-put-4 : tie.Need-add-put-4 Inv-loop μ-loop
+add-put-4 c =
+    let s = c .before .before .before .before .before .before .before .before .before .before in
+    omega (arith, c .before .before .before .before .before .before .loop-test .taken, s .pre)
+
+mul-put-5 : tie.Need-mul-put-5 Inv-loop μ-loop
+mul-put-5 c =
+    let s = c .before .before .before .before .before .before .before .before .before .before in
+    omega (arith, c .before .before .before .before .before .before .loop-test .taken, s .pre)
+
+add-put-5 : tie.Need-add-put-5 Inv-loop μ-loop
+add-put-5 c =
+    let s = c .before .before .before .before .before .before .before .before .before .before in
+    omega (arith, c .before .before .before .before .before .before .loop-test .taken, s .pre)
+
+add-put-6 : tie.Need-add-put-6 Inv-loop μ-loop
+add-put-6 c =
+    let s = c .before .before .before .before .before .before .before .before .before .before in
+    omega (arith, c .before .before .before .before .before .before .loop-test .taken, s .pre)
+
+mul-put-6 : tie.Need-mul-put-6 Inv-loop μ-loop
+mul-put-6 c =
+    let s = c .before .before .before .before .before .before .before .before .before .before in
+    omega (arith, c .before .before .before .before .before .before .loop-test .taken, s .pre)
+
+shared-slice-read-put-2 : tie.Need-shared-slice-read-put-2 Inv-loop μ-loop
+shared-slice-read-put-2 c =
+    let s = c .before .before .before .before .before .before .before .before .before .before .before in
+    omega (arith, c .before .before .before .before .before .before .before .loop-test .taken, s .pre)
+
+put-requires-2 : tie.Need-put-requires-2 Inv-loop μ-loop
+put-requires-2 c κs =
+    let s = c .before .before .before .before .before .before .before .before .before .before .before in
+    let l = c .before .before .before .before .before .before .before .before .loop in
+    let d = c .before .before .before .before in
+    omega (arith, l .inv .1 .size, d .put .ensures .size, d .before .before .before .loop-test .taken, s .pre)
+
+add-i : tie.Need-add-i Inv-loop μ-loop
+add-i c =
+    let s = c .before .before .before .before .before .before .before .before .before .before .before .before .before .before in
+    let t = c .before .before .before .before .before .before .before .before .before .before .loop-test in
+    omega (arith, t .taken, s .pre)
+
+loop-less : tie.Need-loop-less Inv-loop μ-loop
+loop-less c = omega (arith, c .before .before .before .before .before .before .before .before .before .before .loop-test .taken)
+
+loop-again : tie.Need-loop-again Inv-loop μ-loop
+loop-again c =
+    let s = c .before .before .before .before .before .before .before .before .before .before .before .before .before .before in
+    let l = c .before .before .before .before .before .before .before .before .before .before .before .loop in
+    let t = c .before .before .before .before .before .before .before .before .before .before .loop-test in
+    let p = c .before .before .before .before .before .before .before .put in
+    let p2 = c .before .before .put2 in
+    (omega (arith, t .taken), spans-put (s .args .k) (s .args .e) (l .i) (s .args .nums .now) (s .args .out .now) (l .out) (p .last .0) (p2 .last .0) (l .inv .1) (p .ensures) (p2 .ensures))
+
+same-length : tie.Need-same-length Inv-loop μ-loop
+same-length c = c .before .loop .inv .1 .size
+
+returns : tie.Need-returns Inv-loop μ-loop
+returns c =
+    let s = c .before .before .before .before in
+    let l = c .before .loop in
+    spans-all (s .args .k) (s .args .e) (s .args .n) (l .i) (s .args .nums .now) (s .args .out .now) (l .out) (l .inv .0) (c .loop-test .left) (l .inv .1)
+
+pub put-spans-spec : {M : Type 1} → statement M
+put-spans-spec =
+    tie.close
+    (tie.spec
+    Inv-loop
+    μ-loop
+    loop-holds
+    mul-put
+    add-put
+    mul-put-2
+    add-put-2
+    mul-put-3
+    shared-slice-read-put
+    put-requires
+    mul-put-4
+    add-put-3
+    add-put-4
+    mul-put-5
+    add-put-5
+    add-put-6
+    mul-put-6
+    shared-slice-read-put-2
+    put-requires-2
+    add-i
+    loop-less
+    loop-again
+    same-length
+    returns)
