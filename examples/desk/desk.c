@@ -1,6 +1,7 @@
-/* A track plan, six turnout panels and an emergency stop in a real window, by mouse or finger. A panel is dragged by its bar and thrown by its
- * button, unless the stop is pressed; the bar of the panel that a press would reach is light. No panel slides over the stop. Every pointer event
- * is routed by the library, and the window that pops it acts on it. */
+/* A track plan, six turnout panels and an emergency stop in a real window, by mouse or finger. A panel is dragged by
+ * its bar and thrown by its button, unless the desk is stopped; the bar of the panel that a press would reach is light.
+ * No panel slides over the stop. Every press on the stop stops, whatever else is down, and it stays stopped until it is
+ * reset by a slide. Every other pointer event is routed by the library, and the window that pops it acts on it. */
 #include "roqshyn.h"
 
 #include <SDL.h>
@@ -9,7 +10,8 @@
 #include <string.h>
 
 enum { W = 800, H = 480, C = W * H, STORE = 16 * C, PLAN = 0, PANELS = 6, STOP = 7, NOBODY = 16, MOUSE = -1 };
-enum { PW = 148, PH = 108, BAR = 26, BX = 14, BY = 40, BW = 120, BH = 54, SW = 112, SH = 72 }; /* a panel, its bar and button; the stop */
+enum { PW = 148, PH = 108, BAR = 26, BX = 14, BY = 40, BW = 120, BH = 54 }; /* a panel, its bar and button */
+enum { SW = 112, SH = 72, END = 32, LEFT = 6, RIGHT = SW - 6 - END }; /* the stop, and where its two ends begin */
 enum { DARK = 0x141418, PAPER = 0xcdd4dc, BLUE = 0x285a96, LIGHT = 0x4682c8, GREEN = 0x3cbe5a, AMBER = 0xf0b428, WHITE = 0xffffff };
 enum { GROUND = 0x181e26, RAIL = 0x5a6470, ROUTE = 0xe6ebf0, RED = 0xc81e1e };
 
@@ -17,7 +19,7 @@ static const char *const names[] = {"", "W1", "W2", "W3", "W4", "W5", "W6"};
 static RoqSession s;
 static uint32_t store[STORE], screen[W * H];
 static bool reverse[PANELS + 1], stopped;          /* how the turnouts lie: normal (+) or reverse (-) */
-static uint16_t dragged = NOBODY, armed = NOBODY;  /* the panel that was pressed on its bar, or on its button, until it is let go */
+static uint16_t dragged = NOBODY, armed = NOBODY;  /* the window held by its bar, or by its button or knob */
 static uint16_t lit = NOBODY;                      /* the panel under the pointer */
 static uint32_t grab_x, grab_y;                    /* where in the panel the drag began */
 
@@ -94,11 +96,24 @@ static void draw_panel(uint16_t id) {
     mark(id);
 }
 
+/* While it is stopped there is a knob on the left, a place for it on the right, and a bar between them. */
 static void draw_stop(void) {
     fill(STOP, 0, 0, SW, SH, AMBER);
     fill(STOP, 6, 6, SW - 12, SH - 12, stopped ? DARK : RED);
-    letters(STOP, "STOP", 19, 24, 5, stopped ? RED : WHITE);
+    letters(STOP, "STOP", 19, stopped ? 12 : 24, 5, stopped ? RED : WHITE);
+    if (stopped) {
+        fill(STOP, 12, 51, SW - 24, 4, RAIL);
+        fill(STOP, 12, 43, 24, 20, armed == STOP ? WHITE : AMBER);
+        fill(STOP, SW - 36, 43, 24, 20, RAIL);
+        fill(STOP, SW - 34, 45, 20, 16, DARK);
+    }
     mark(STOP);
+}
+
+/* The window of a button or of the knob. */
+static void draw_button(uint16_t id) {
+    if (is_panel(id)) draw_panel(id);
+    if (id == STOP) draw_stop();
 }
 
 /* A window on top of those before it. Ids come in their order from 0. */
@@ -123,19 +138,38 @@ static void open_desk(void) {
     must("set_layer", roq_set_layer(&s, STOP, 1)); /* above every panel, also one that is shown later */
 }
 
-/* ---- What a panel does with the events that it popped, at points of its own ---- */
+/* ---- What a window does with the events that it popped, at points of its own ---- */
 
 static bool in_button(uint32_t x, uint32_t y) {
     return x >= BX && x < BX + BW && y >= BY && y < BY + BH;
 }
 
+/* In an end of the stop's lower half, LEFT or RIGHT. */
+static bool in_end(uint32_t end, uint32_t x, uint32_t y) {
+    return x >= end && x < end + END && y >= SH / 2 && y < SH - 6;
+}
+
+/* The stop latches. A slide alone resets it, which begins on the left end while the desk is stopped and is let go on
+ * the right end: a second press does not, nor a palm that lies on it, nor a press whose release is lost. */
+static void set_stopped(bool on) {
+    stopped = on;
+    puts(on ? "stopped" : "reset");
+    draw_stop();
+}
+
+/* STOP pops no press but those that come while the desk is stopped already (see pointer). */
 static void press(uint16_t id, uint32_t x, uint32_t y) {
-    if (id == STOP) stopped = !stopped, draw_stop();
-    if (!is_panel(id)) return;
-    if (y <= BAR) dragged = id, grab_x = x, grab_y = y;
-    if (!in_button(x, y)) return;
+    if (is_panel(id) && y <= BAR) dragged = id, grab_x = x, grab_y = y;
+    if (is_panel(id) ? !in_button(x, y) : id != STOP || !in_end(LEFT, x, y)) return;
     armed = id;
-    draw_panel(id);
+    draw_button(id);
+}
+
+/* What is held is held no more: its release, if it comes, throws and resets nothing. */
+static void give_up(void) {
+    uint16_t held = armed;
+    armed = dragged = NOBODY;
+    draw_button(held);
 }
 
 /* The dragged panel follows a point of the screen: the differences of moves would not do, since they are relative to a window that moves. */
@@ -144,18 +178,20 @@ static void drag(RoqEvent move, RoqPos of) {
     if (dragged != NOBODY) must("move", roq_move(&s, dragged, between(0, x, W - PW), between(0, y, H - PH)));
 }
 
+static void throw_turnout(uint16_t id) {
+    reverse[id] = !reverse[id];
+    printf("%s lies %s\n", names[id], reverse[id] ? "reverse" : "normal");
+    draw_turnout(id);
+}
+
 /* A release comes to the window of its press, wherever it was let go; beside the window it comes at the edge, where there is no button. */
 static void let_go(uint16_t id, uint32_t x, uint32_t y) {
     if (id == dragged) printf("%s is at %u %u\n", names[id], (unsigned)at(id).x, (unsigned)at(id).y);
     dragged = NOBODY;
     if (id != armed) return;
-    armed = NOBODY;
-    if (in_button(x, y) && !stopped) {
-        reverse[id] = !reverse[id];
-        printf("%s lies %s\n", names[id], reverse[id] ? "reverse" : "normal");
-        draw_turnout(id);
-    }
-    draw_panel(id);
+    if (is_panel(id) && in_button(x, y) && !stopped) throw_turnout(id);
+    if (id == STOP && in_end(RIGHT, x, y)) set_stopped(false);
+    give_up();
 }
 
 /* ---- The pointer ---- */
@@ -194,21 +230,31 @@ static void deliver(void) {
 }
 
 /* An event of the mouse or a finger. It is delivered at once: a pop gives presses before moves, whichever came first. A panel is raised before its
- * press is routed: a hide after it would forget the press, and the release would go to whom it reaches. */
+ * press is routed: a hide after it would forget the press, and the release would go to whom it reaches.
+ *
+ * The press that stops is not routed: roq_hits says that it is STOP's, also where STOP's queue is full or another press
+ * is remembered. Since STOP never pops it, that same press cannot begin the slide that resets. */
 static void pointer(uint8_t kind, int x, int y) {
     RoqEvent e = {.kind = kind, .x = between(0, x, W - 1), .y = between(0, y, H - 1), .button = kind != ROQ_MOUSE_MOVE};
-    if (kind == ROQ_MOUSE_DOWN) raise_panel(under(e.x, e.y));
+    uint16_t id = under(e.x, e.y);
+    if (kind == ROQ_MOUSE_DOWN && id == STOP && !stopped) {
+        set_stopped(true);
+        light(id);
+        return;
+    }
+    if (kind == ROQ_MOUSE_DOWN) raise_panel(id);
     must("route", roq_route(&s, e));
     deliver();
     light(under(e.x, e.y));
 }
 
-/* One at a time: while a finger or the mouse is down, the others are passed over. */
+/* No press is passed over. It takes the place of the one before it, since that may be a palm that stays, or a finger
+ * that is gone and whose release was lost. Moves and releases count only of whoever pressed last. */
 static void from(SDL_FingerID who, uint8_t kind, int x, int y) {
-    static SDL_FingerID holder;
-    static bool down = false;
-    if (down ? who != holder || kind == ROQ_MOUSE_DOWN : kind == ROQ_MOUSE_UP) return;
-    holder = who, down = kind == ROQ_MOUSE_DOWN || (down && kind == ROQ_MOUSE_MOVE);
+    static SDL_FingerID holder = MOUSE; /* who pressed last, until the release; else the mouse, which lights bars */
+    if (kind == ROQ_MOUSE_DOWN) holder = who, give_up();
+    if (who != holder) return;
+    if (kind == ROQ_MOUSE_UP) holder = MOUSE;
     pointer(kind, x, y);
 }
 
@@ -216,11 +262,13 @@ static void from(SDL_FingerID who, uint8_t kind, int x, int y) {
 static bool happened(const SDL_Event *e) {
     const SDL_TouchFingerEvent *f = &e->tfinger;
     if (e->type == SDL_MOUSEMOTION) from(MOUSE, ROQ_MOUSE_MOVE, e->motion.x, e->motion.y);
-    if (e->type == SDL_MOUSEBUTTONDOWN && e->button.button == SDL_BUTTON_LEFT) from(MOUSE, ROQ_MOUSE_DOWN, e->button.x, e->button.y);
-    if (e->type == SDL_MOUSEBUTTONUP && e->button.button == SDL_BUTTON_LEFT) from(MOUSE, ROQ_MOUSE_UP, e->button.x, e->button.y);
+    if (e->type == SDL_MOUSEBUTTONDOWN) from(MOUSE, ROQ_MOUSE_DOWN, e->button.x, e->button.y); /* any button */
+    if (e->type == SDL_MOUSEBUTTONUP) from(MOUSE, ROQ_MOUSE_UP, e->button.x, e->button.y);
     if (e->type == SDL_FINGERMOTION) from(f->fingerId, ROQ_MOUSE_MOVE, (int)(f->x * W), (int)(f->y * H));
     if (e->type == SDL_FINGERDOWN) from(f->fingerId, ROQ_MOUSE_DOWN, (int)(f->x * W), (int)(f->y * H));
     if (e->type == SDL_FINGERUP) from(f->fingerId, ROQ_MOUSE_UP, (int)(f->x * W), (int)(f->y * H));
+    /* without the focus no release may come */
+    if (e->type == SDL_WINDOWEVENT && e->window.event == SDL_WINDOWEVENT_FOCUS_LOST) give_up();
     return e->type != SDL_QUIT;
 }
 

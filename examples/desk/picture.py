@@ -9,7 +9,8 @@ FONT |= {"S": "34216", "T": "72222", "O": "75557", "P": "75744"}
 
 
 class Desk:
-    """Where the panels lie, lowest first, how the turnouts lie, which button is pressed, and where the pointer is."""
+    """Where the panels lie, lowest first, how the turnouts lie, which button is pressed (STOP: its knob), whether the
+    desk is stopped, and where the pointer is."""
 
     def __init__(self):
         self.at = {n: (24 + (n - 1) % 3 * 172, 230 + (n - 1) // 3 * 122) for n in range(1, 7)}
@@ -76,7 +77,12 @@ class Desk:
         self.fill(x, y, w, h, AMBER)
         self.fill(x + 6, y + 6, w - 12, h - 12, DARK if self.stopped else RED)
         for k, c in enumerate("STOP"):
-            self.letter(c, x + 19 + 20 * k, y + 24, 5, RED if self.stopped else WHITE)
+            self.letter(c, x + 19 + 20 * k, y + (12 if self.stopped else 24), 5, RED if self.stopped else WHITE)
+        if self.stopped:
+            self.fill(x + 12, y + 51, w - 24, 4, RAIL)
+            self.fill(x + 12, y + 43, 24, 20, WHITE if self.armed == STOP else AMBER)
+            self.fill(x + w - 36, y + 43, 24, 20, RAIL)
+            self.fill(x + w - 34, y + 45, 20, 16, DARK)
 
     def panel(self, n, x, y):
         self.fill(x, y, PW, PH, DARK)
