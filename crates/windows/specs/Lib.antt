@@ -1,6 +1,8 @@
--- How a session holds a group, what its calls promise, and demand 3, two panels and panels that stay on top of the program; then what our own functions say.
+-- How a session holds a group and what its calls promise; of the program demand 3, demand 1, two panels, and panels
+-- that stay on top; then what our own functions say.
 pub mod View
 pub mod Run
+pub mod Demand1
 pub mod Panels
 pub mod Layers
 pub mod One
