@@ -3,9 +3,9 @@
 use Prim.Native.Nat.{ℕ, _≤_, _<_}
 use mathlib.Core.Bool.{cond}
 use mathlib.Core.Path.{_≡_}
-use mathlib.Core.List.{List, map}
+use mathlib.Core.List.{List, _++_, map}
 use lib.Dec.{eqb}
-use lib.ListN.{length, take, getD}
+use lib.ListN.{length, take, drop, getD}
 use Rattle.geom.specs.declared.Rect.{Rect}
 use Rattle.geom.specs.Geom.{rect, left, top, width, height, right, bottom}
 use Rattle.window.specs.declared.Event.{Event}
@@ -78,6 +78,14 @@ pub record RepDamage (d : Damage) : Type 0 where
   pub areas : length (d .areas) ≡ 16
   pub len : d .len ≤ 16
   pub low : (i : ℕ) → i < d .len → Low (rectOf (getD (d .areas) i noArea))
+
+-- the area that holds a rectangle
+abbrev pub areaOf : Rect → Area
+areaOf r = record { x = left r; y = top r; w = width r; h = height r }
+
+-- damage with these entries; past them the array is as it was
+abbrev pub withEntries : List Rect → Damage → Damage
+withEntries es d = record { areas = map areaOf es ++ drop (length es) (d .areas); len = length es }
 
 -- The window ------------------------------------------------------------------------------------------------------------
 

@@ -4,7 +4,7 @@ use mathlib.Core.Bool.{true, false, cond}
 use mathlib.Core.Path.{_≡_}
 use mathlib.Core.List.{List, [], _∷_, _++_}
 use lib.Dec.{leb}
-use lib.ListN.{length}
+use lib.ListN.{length, drop}
 use Rattle.geom.specs.declared.Rect.{Rect}
 use Rattle.geom.specs.Geom.{rect}
 use Rattle.window.specs.declared.Event.{Event}
@@ -59,9 +59,14 @@ pub record PoppedFrom (q : Queue) (r : Popped) : Type 0 where
 
 -- Damage ---------------------------------------------------------------------------------------------------------------
 
+-- past the entries of r its array is that of d
+abbrev pub PastAs : Damage → Damage → Type 0
+PastAs d r = drop (r .len) (r .areas) ≡ drop (r .len) (d .areas)
+
 -- the first entry that merges with the area became the union, or there is none
 pub record MergedInto (d : Damage) (a : Rect) (m : Merged) : Type 0 where
   pub rep : RepDamage (m .damage)
+  pub past : PastAs d (m .damage)
   pub found : m .done ≡ true → rects (m .damage) ≡ mergeOrAppend (rects d) a
   pub none : m .done ≡ false → (m .damage ≡ d) × (mergeOrAppend (rects d) a ≡ rects d ++ (a ∷ []))
 
@@ -72,9 +77,11 @@ atMost16 w h es = cond (leb (length es) 16) es (rect 0 0 w h ∷ [])
 -- an area joined the end of damage
 pub record JoinedTo (w h : ℕ) (d : Damage) (a : Rect) (r : Damage) : Type 0 where
   pub rep : RepDamage r
+  pub past : PastAs d r
   pub is : rects r ≡ atMost16 w h (rects d ++ (a ∷ []))
 
 -- an area was added to damage
 pub record Dirtied (w h : ℕ) (d : Damage) (a : Rect) (r : Damage) : Type 0 where
   pub rep : RepDamage r
+  pub past : PastAs d r
   pub is : rects r ≡ addDirty w h (rects d) a

@@ -192,7 +192,7 @@ fn merge(mut d: Damage, area: Rect) -> Merged
     Merged { damage: d, done }
 }
 
-// The area joins the end; a 17th entry makes the list (0,0,w,h).
+// The area joins the end; a 17th entry makes the list (0,0,w,h). Past the last entry the array stays as it was.
 fn append(mut d: Damage, w: u32, h: u32, area: Rect) -> Damage
     requires { ⌜ RepDamage d × Small area × (w ≤ 32767) × (h ≤ 32767) ⌝ }
     ensures { λ r. ⌜ JoinedTo w h d area r ⌝ }
@@ -205,7 +205,13 @@ fn append(mut d: Damage, w: u32, h: u32, area: Rect) -> Damage
         d.len = n + 1;
         return d;
     }
-    Damage::whole(w, h)
+    let all = Area::new(0, 0, w, h);
+    let mut only = d.areas;
+    only[0] = all;
+    Damage {
+        areas: only,
+        len: 1,
+    }
 }
 
 // A window of w by h was changed in the area.

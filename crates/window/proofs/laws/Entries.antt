@@ -6,8 +6,8 @@ use mathlib.Core.Bool.{Bool, true, false, cond}
 use mathlib.Core.List.{List, [], _∷_, _++_, map, map-append}
 use native.Mathlib.Omega.{arith}
 use native.Mathlib.Numerals.{add-one}
-use lib.ListN.{length, getD, set, take, drop, length-set, length-map, length-append, replicate, getD-replicate, List·getD-map}
-use lib.Seq.{drop-cons, drop-length, take-length, take-suc, append-snoc, getD-take, length-take-le, take-set-lt, take-suc-set, set-split}
+use lib.ListN.{length, getD, set, take, drop, length-set, length-map, length-append, take-append-drop, replicate, getD-replicate, List·getD-map}
+use lib.Seq.{drop-cons, drop-length, take-length, take-suc, append-snoc, getD-take, length-take-le, take-set-lt, take-suc-set, drop-set-lt, set-split}
 use borrow.Author.Tests.{le-leb, lt-leb}
 use Rattle.geom.specs.declared.Rect.{Rect}
 use Rattle.geom.specs.Geom.{rect, isEmpty, containsRect, union}
@@ -18,8 +18,8 @@ use Rattle.window.specs.declared.damage.Area.{Area}
 use Rattle.window.specs.declared.damage.Damage.{Damage}
 use Rattle.window.specs.declared.damage.Merged.{Merged}
 use Rattle.window.specs.Window.{anyContains, merges, mergeOrAppend, addDirty}
-use Rattle.window.specs.Held.{Small, Low, rectOf, noArea, rects, RepDamage}
-use Rattle.window.specs.Inner.{MergedInto, atMost16, JoinedTo, Dirtied}
+use Rattle.window.specs.Held.{Small, Low, rectOf, noArea, rects, RepDamage, areaOf, withEntries}
+use Rattle.window.specs.Inner.{PastAs, MergedInto, atMost16, JoinedTo, Dirtied}
 
 -- Rectangles in 16 bits ----------------------------------------------------------------------------------------------
 
@@ -60,6 +60,20 @@ module _ (d : Damage) (ok : RepDamage d) where
   all i e =
       let n : i ≡ length (rects d) = omega (arith, rects-count) in
       rw n (take-length (rects d))
+
+-- what is past the entries, and the entries, are all of it
+pub all-of : (d r : Damage) → RepDamage r → PastAs d r → r ≡ withEntries (rects r) d
+all-of d r ok e =
+    let n : r .len ≡ length (rects r) = sym (rects-count r ok) in
+    let areas : r .areas ≡ map areaOf (rects r) ++ drop (length (rects r)) (d .areas) =
+    sym (take-append-drop (r .len) (r .areas))
+    ∙ (λ i. areas-again (take (r .len) (r .areas)) i ++ e i)
+    ∙ ap (λ (k : ℕ). map areaOf (rects r) ++ drop k (d .areas)) n in
+    λ i. record { areas = areas i; len = n i }
+  where
+    areas-again : (l : List Area) → l ≡ map areaOf (map rectOf l)
+    areas-again [] = refl
+    areas-again (x ∷ l) = ap (λ (m : List Area). x ∷ m) (areas-again l)
 
 -- Does an entry contain the area? ------------------------------------------------------------------------------------
 
@@ -152,6 +166,7 @@ module _ {d : Damage} {a : Rect} {n : ℕ} {now : Damage} {done : Bool} {i : ℕ
                   set-case (λ (x : Area). Low (rectOf x)) (d .areas) i j v noArea
                   (λ _. subst Low (sym u) (low-union (entry d i) a (q .ok .low i l) (q .small))) (q .ok .low j k);
             };
+        past = drop-set-lt (d .len) (d .areas) i v l;
         found =
             λ _.
             ap (map rectOf) (take-set-lt (d .len) (d .areas) i v l)
@@ -168,6 +183,7 @@ module _ {d : Damage} {a : Rect} {n : ℕ} {now : Damage} {done : Bool} {i : ℕ
       let z : i ≡ d .len = omega (arith, q .count-is, q .within) in
       record {
         rep = subst RepDamage (sym (q .same)) (q .ok);
+        past = ap (λ (x : Damage). drop (now .len) (x .areas)) (q .same);
         found = λ t. clash t (q .not-yet);
         none =
             λ _. (
@@ -208,34 +224,51 @@ module _ (w h : ℕ) (d : Damage) (a : Rect) (ok : RepDamage d) where
                   set-in (λ (x : Area). Low (rectOf x)) (d .areas) (d .len) j v noArea (λ _. omega (arith, ok .areas))
                   (λ _. subst Low (sym e) (small-low a small)) (λ n. ok .low j (omega arith));
             };
+        past = drop-set-lt (d .len + 1) (d .areas) (d .len) v (omega arith);
         is =
             rw (add-one, take-suc-set (d .areas) (d .len) v (omega (arith, ok .areas)), le-leb (length (rects d ++ (a ∷ []))) 16 (omega (arith, longer)))
             (map-append rectOf (take (d .len) (d .areas)) (v ∷ []) ∙ ap (λ (x : Rect). rects d ++ (x ∷ [])) e);
       }
 
-  pub joins-all : 16 ≤ d .len → (r : Damage) → rects r ≡ rect 0 0 w h ∷ [] → RepDamage r → JoinedTo w h d a r
-  joins-all l r e rep = record { rep = rep; is = rw (lt-leb (length (rects d ++ (a ∷ []))) 16 (omega (arith, longer))) e }
+  pub joins-all : 16 ≤ d .len → w ≤ 32767 → h ≤ 32767 → (v : Area) → rectOf v ≡ rect 0 0 w h → JoinedTo w h d a (record { areas = set (d .areas) 0 v; len = 1 })
+  joins-all l p q v e =
+      record {
+        rep =
+            record {
+              areas = length-set (d .areas) 0 v ∙ ok .areas;
+              len = omega arith;
+              low =
+                  λ j k.
+                  set-in (λ (x : Area). Low (rectOf x)) (d .areas) 0 j v noArea (λ _. omega (arith, ok .areas))
+                  (λ _. subst Low (sym e) (omega arith)) (λ n. absurd (omega arith));
+            };
+        past = drop-set-lt 1 (d .areas) 0 v (omega arith);
+        is =
+            rw (lt-leb (length (rects d ++ (a ∷ []))) 16 (omega (arith, longer)))
+            (ap (map rectOf) (take-suc-set (d .areas) 0 v (omega (arith, ok .areas))) ∙ ap (λ (x : Rect). x ∷ []) e);
+      }
 
   pub dirty-empty : isEmpty a ≡ true → Dirtied w h d a d
   unfolding addDirty
-  dirty-empty e = record { rep = ok; is = rw e }
+  dirty-empty e = record { rep = ok; past = refl; is = rw e }
 
   module _ (solid : isEmpty a ≡ false) where
     pub dirty-inside : anyContains (rects d) a ≡ true → Dirtied w h d a d
     unfolding addDirty
-    dirty-inside f = record { rep = ok; is = rw (solid, f) }
+    dirty-inside f = record { rep = ok; past = refl; is = rw (solid, f) }
 
     module _ (away : anyContains (rects d) a ≡ false) (m : Merged) (into : MergedInto d a m) where
       pub dirty-merged : m .done ≡ true → Dirtied w h d a (m .damage)
       unfolding addDirty
       dirty-merged t =
           let few : length (rects (m .damage)) ≤ 16 = omega (arith, rects-count (m .damage) (into .rep), into .rep .len) in
-          record { rep = into .rep; is = rw (solid, away, ← into .found t, le-leb (length (rects (m .damage))) 16 few) }
+          record { rep = into .rep; past = into .past; is = rw (solid, away, ← into .found t, le-leb (length (rects (m .damage))) 16 few) }
 
       pub dirty-joined : m .done ≡ false → (r : Damage) → JoinedTo w h (m .damage) a r → Dirtied w h d a r
       unfolding addDirty
       dirty-joined f r j =
           record {
             rep = j .rep;
+            past = j .past ∙ ap (λ (x : Damage). drop (r .len) (x .areas)) (into .none f .0);
             is = rw (solid, away, into .none f .1) (subst (λ (x : Damage). rects r ≡ atMost16 w h (rects x ++ (a ∷ []))) (into .none f .0) (j .is));
           }

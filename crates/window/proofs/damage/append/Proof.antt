@@ -1,4 +1,4 @@
--- With a free place the area is set behind the last entry; else the whole window is the one entry.
+-- With a free place the area is set behind the last entry; else the whole window becomes the one entry.
 use Rattle.window.proofs.laws.Entries.{joins-last, joins-all}
 use borrow.Author.Needs.{needs}
 use Rattle.window.proofs.damage.append.Statement.{statement}
@@ -25,14 +25,18 @@ returns c =
     let a = s .args in
     joins-last (a .w) (a .h) (a .t1) (a .area) (s .pre .0) (c .before .if1 .taken) (s .pre .1) (c .new .result) (c .new .ensures)
 
-whole-requires : tie.Need-whole-requires
-whole-requires c κs = search needs
+new-requires-2 : tie.Need-new-requires-2
+new-requires-2 c κs = search needs
+
+array-set-from-only : tie.Need-array-set-from-only
+array-set-from-only c = search needs
 
 returns-2 : tie.Need-returns-2
 returns-2 c =
-    let s = c .before .before in
+    let n = c .before in
+    let s = n .before .before in
     let a = s .args in
-    joins-all (a .w) (a .h) (a .t1) (a .area) (s .pre .0) (c .before .if1 .left) (c .whole .result) (c .whole .ensures .0) (c .whole .ensures .1)
+    joins-all (a .w) (a .h) (a .t1) (a .area) (s .pre .0) (n .before .if1 .left) (s .pre .2) (s .pre .3) (n .new2 .result) (n .new2 .ensures)
 
 pub append-spec : {M : Type 1} → statement M
 append-spec =
@@ -44,5 +48,6 @@ append-spec =
     element-set-from-last
     add-d
     returns
-    whole-requires
+    new-requires-2
+    array-set-from-only
     returns-2)
