@@ -2,7 +2,7 @@
 ghost use mathlib.Core.Path.{_≡_};
 ghost use Prim.Native.Nat.{_-_, _*_, _≤_};
 ghost use lib.ListN.{length, take, drop};
-ghost use Rattle.rules.specs.Calls.{Call};
+ghost use Rattle.rules.specs.Panels.{Write};
 ghost use Rattle.windows.specs.View.{group, done, Given, MeetsStore, MeetsAltered, MeetsScreen};
 ghost use Rattle.replay.specs.Called.{Picked, storeCall, screenCall, OnStore, Resizes, OnScreen};
 ghost use Rattle.bare.specs.Numbers.{num, idOf, rectAt, Sound};
@@ -21,7 +21,7 @@ use windows::Written;
 // The data of a blit are the numbers of the line after its first six.
 fn blit(s: Session, ns: &[u32; 4200], data: &[u32], store: &mut [u32]) -> Written
     requires { ⌜ Given s ⌝ }
-    ensures { λ r. ⌜ MeetsAltered (Call.Blit (idOf (now (ns .entry))) (rectAt (now (ns .entry)) 1) (now («data» .entry)) (num (now (ns .entry)) 5) (now (store .entry))) s r (now (store .exit)) ⌝ }
+    ensures { λ r. ⌜ MeetsAltered (idOf (now (ns .entry))) (Write.blit (rectAt (now (ns .entry)) 1) (now («data» .entry)) (num (now (ns .entry)) 5)) (now (store .entry)) s r (now (store .exit)) ⌝ }
 {
     let area = numbers::rect(ns, 1);
     let stride = numbers::wide(ns[5]);
@@ -30,7 +30,7 @@ fn blit(s: Session, ns: &[u32; 4200], data: &[u32], store: &mut [u32]) -> Writte
 
 fn part(s: Session, ns: &[u32; 4200], all: &[u32], count: usize, store: &mut [u32]) -> Written
     requires { ⌜ Given s × (6 ≤ count) × (count ≤ length (now all)) ⌝ }
-    ensures { λ r. ⌜ MeetsAltered (Call.Blit (idOf (now (ns .entry))) (rectAt (now (ns .entry)) 1) (take (count - 6) (drop 6 (now (all .entry)))) (num (now (ns .entry)) 5) (now (store .entry))) s r (now (store .exit)) ⌝ }
+    ensures { λ r. ⌜ MeetsAltered (idOf (now (ns .entry))) (Write.blit (rectAt (now (ns .entry)) 1) (take (count - 6) (drop 6 (now (all .entry)))) (num (now (ns .entry)) 5)) (now (store .entry)) s r (now (store .exit)) ⌝ }
 {
     blit(s, ns, &all[6..count], store)
 }

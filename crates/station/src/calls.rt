@@ -4,7 +4,8 @@
 // Before `roq_start` the memory holds zeros or a session; before any other call, a session that `roq_start` and later calls left.
 ghost use mathlib.Core.Path.{_≡_};
 ghost use Rattle.rules.specs.Calls.{Call};
-ghost use Rattle.windows.specs.View.{group, done, written, Given, Meets, MeetsStore, MeetsAltered, MeetsScreen, Starts, Lists, Prints, Shares, Hits, Looks, placed};
+ghost use Rattle.rules.specs.Panels.{Write};
+ghost use Rattle.windows.specs.View.{group, done, written, Given, Meets, MeetsStore, MeetsAltered, MeetsMark, MeetsScreen, Starts, Lists, Prints, Shares, Hits, Looks, placed};
 ghost use Rattle.rules.specs.DisplayAt.{displayAt};
 ghost use Rattle.station.specs.Answers.{Creates, Pops, displayed};
 ghost use Rattle.station.specs.Events.{eventOf, Routes};
@@ -107,7 +108,7 @@ pub extern "C" fn roq_drop(s: &mut Session, id: WinId) -> u32
 #[no_mangle]
 pub extern "C" fn roq_mark(s: &mut Session, id: WinId) -> u32
     requires { ⌜ Given (now s) ⌝ }
-    ensures { λ r. ⌜ Meets (Call.Mark (id .0)) (now (s .entry)) (done (now (s .exit)) r) ⌝ }
+    ensures { λ r. ⌜ MeetsMark (id .0) (now (s .entry)) (done (now (s .exit)) r) ⌝ }
 {
     let at = slot(id);
     let d = one::mark((*s).windows[at], (*s).shared, id);
@@ -169,7 +170,7 @@ pub extern "C" fn roq_fill(
     store: &mut [u32],
 ) -> Altered
     requires { ⌜ Given (now s) ⌝ }
-    ensures { λ r. ⌜ MeetsAltered (Call.Fill (id .0) area colour (now (store .entry))) (now (s .entry)) (written (now (s .exit)) r) (now (store .exit)) ⌝ }
+    ensures { λ r. ⌜ MeetsAltered (id .0) (Write.fill area colour) (now (store .entry)) (now (s .entry)) (written (now (s .exit)) r) (now (store .exit)) ⌝ }
 {
     let at = slot(id);
     let d = store::fill((*s).windows[at], (*s).shared, id, area, colour, store);
@@ -190,7 +191,7 @@ pub extern "C" fn roq_blit(
     store: &mut [u32],
 ) -> Altered
     requires { ⌜ Given (now s) ⌝ }
-    ensures { λ r. ⌜ MeetsAltered (Call.Blit (id .0) area (now («data» .entry)) stride (now (store .entry))) (now (s .entry)) (written (now (s .exit)) r) (now (store .exit)) ⌝ }
+    ensures { λ r. ⌜ MeetsAltered (id .0) (Write.blit area (now («data» .entry)) stride) (now (store .entry)) (now (s .entry)) (written (now (s .exit)) r) (now (store .exit)) ⌝ }
 {
     let at = slot(id);
     let d = store::blit((*s).windows[at], (*s).shared, id, area, stride, data, store);

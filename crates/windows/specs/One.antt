@@ -8,6 +8,7 @@ use lib.ListN.{set}
 use Rattle.window.specs.declared.Window.{Window}
 use Rattle.rules.specs.Group.{firstFree}
 use Rattle.rules.specs.Calls.{Call, Create}
+use Rattle.rules.specs.Panels.{Write}
 use Rattle.windows.specs.declared.Shared.{Shared}
 use Rattle.windows.specs.declared.Session.{Session}
 use Rattle.windows.specs.declared.Changed.{Changed}
@@ -15,7 +16,7 @@ use Rattle.windows.specs.declared.SharedDone.{SharedDone}
 use Rattle.windows.specs.declared.WrittenOne.{WrittenOne}
 use Rattle.windows.specs.declared.CreatedOne.{CreatedOne}
 use Rattle.windows.specs.declared.FreeSlot.{FreeSlot}
-use Rattle.windows.specs.View.{group, windowAt, done, written, Given, Meets, MeetsStore, MeetsAltered, MeetsId}
+use Rattle.windows.specs.View.{group, windowAt, done, written, Given, Meets, MeetsStore, MeetsAltered, MeetsMark, MeetsId}
 
 -- where the window of an id lies: at its number. Any place will do for a number that no window has
 pub record At (id at : ℕ) : Type 0 where
@@ -56,9 +57,13 @@ MeetsStoreAt call id w k r store =
     (s : Session) (at : ℕ) → Holds id w k s at → MeetsStore call s (done (put at (r .window) (r .shared) s) (r .answer)) store
 
 -- the same of a fill or a blit
-abbrev pub MeetsAlteredAt : Call → ℕ → Window → Shared → WrittenOne → List ℕ → Type 0
-MeetsAlteredAt call id w k r store =
-    (s : Session) (at : ℕ) → Holds id w k s at → MeetsAltered call s (written (put at (r .window) (r .shared) s) (r .result)) store
+abbrev pub MeetsAlteredAt : ℕ → Write → List ℕ → Window → Shared → WrittenOne → List ℕ → Type 0
+MeetsAlteredAt id u p w k r store =
+    (s : Session) (at : ℕ) → Holds id w k s at → MeetsAltered id u p s (written (put at (r .window) (r .shared) s) (r .result)) store
+
+-- the same of a mark
+abbrev pub MeetsMarkAt : ℕ → Window → Shared → Changed → Type 0
+MeetsMarkAt id w k r = (s : Session) (at : ℕ) → Holds id w k s at → MeetsMark id s (done (put at (r .window) (r .shared) s) (r .answer))
 
 -- the same of a call that touches what the windows share and no window: every session that shares this, with what the call makes of it
 abbrev pub MeetsShared : Call → Shared → SharedDone → Type 0

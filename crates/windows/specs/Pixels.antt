@@ -1,14 +1,10 @@
 -- Fill, blit and resize of one window, without the group: what becomes of the window, whose pixels begin at `base` of the lent store.
 use Prim.Native.Nat.{ℕ, _+_, _*_, _≤_}
 use mathlib.Core.Path.{_≡_}
-use mathlib.Core.Bool.{cond}
-use Rattle.geom.specs.declared.Rect.{Rect}
-use Rattle.geom.specs.Geom.{isEmpty, meets, common}
 use Rattle.window.specs.declared.Window.{Window}
 use Rattle.window.specs.declared.damage.Damage.{Damage}
 use Rattle.window.specs.Window.{Win}
 use Rattle.window.specs.Held.{winOf, RepWindow}
-use Rattle.rules.specs.Store.{dirtied, bounds}
 
 -- the window r is what the rule says, and in use if w was
 pub record Becomes (w : Window) (rule : Win) (r : Window) : Type 0 where
@@ -33,11 +29,3 @@ pub record Resizable (len base c w h : ℕ) (win : Window) : Type 0 where
   pub new : w * h ≤ c
   pub width≤ : w ≤ 32767
   pub height≤ : h ≤ 32767
-
--- "the area cut to the window; if empty nothing, else … add the cut area"
-unfoldable pub filledWin : Rect → Win → Win
-filledWin a w = cond (meets a (bounds w)) (dirtied (common a (bounds w)) w) w
-
--- "The area is added uncut. An empty area does nothing."
-unfoldable pub blitWin : Rect → Win → Win
-blitWin a w = cond (isEmpty a) w (dirtied a w)

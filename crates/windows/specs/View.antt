@@ -4,17 +4,18 @@ use mathlib.Core.Bool.{false, cond}
 use mathlib.Core.Path.{_≡_}
 use mathlib.Core.List.{List, [], _∷_, map}
 use mathlib.Core.Option.{Option, none, some}
-use lib.ListN.{length, getD}
+use lib.ListN.{length, set, getD}
 use Rattle.geom.specs.Questions.{_is_, asked}
-use Rattle.geom.specs.Geom.{rect}
+use Rattle.geom.specs.declared.Rect.{Rect}
+use Rattle.geom.specs.Geom.{rect, isEmpty, meets, common}
 use Rattle.winbuf.specs.declared.Altered.{Altered}
 use Rattle.sheet.specs.declared.Count.{Count}
 use Rattle.look.specs.declared.Look.{Look}
 use Rattle.window.specs.declared.Window.{Window}
 use Rattle.window.specs.declared.Event.{Event}
 use Rattle.window.specs.Window.{Win}
-use Rattle.window.specs.Held.{winOf, RepWindow}
-use Rattle.rules.specs.Group.{Group, start, used, win}
+use Rattle.window.specs.Held.{winOf, RepWindow, withEntries}
+use Rattle.rules.specs.Group.{Group, start, used, win, withMark}
 use Rattle.rules.specs.Group as Rule
 use Rattle.rules.specs.Share.{share}
 use Rattle.rules.specs.Hits.{hits}
@@ -22,7 +23,9 @@ use Rattle.rules.specs.Look.{look}
 use Rattle.rules.specs.DisplayAt.{displayAt}
 use Rattle.rules.specs.Visible.{visibleList}
 use Rattle.rules.specs.Sheets.{sheet}
-use Rattle.rules.specs.Calls.{Call, does, after}
+use Rattle.rules.specs.Store.{dirtied, bounds}
+use Rattle.rules.specs.Calls.{Call, Mark, does, after}
+use Rattle.rules.specs.Panels.{Write, fill, blit, mark, callOf}
 use Rattle.due.specs.declared.Walk.{Walk}
 use Rattle.order.specs.Ids.{ids, heldOf}
 use Rattle.display.specs.Held.{regions, RepDisplays, locatedOf}
@@ -99,6 +102,43 @@ pub record Given (s : Session) : Type 0 where
   pub calls : List Call
   pub reached : group s ≡ after c calls
 
+-- What a fill, a blit or a mark makes of a session ---------------------------------------------------------------------
+
+-- "the area cut to the window; if empty nothing, else … add the cut area"
+unfoldable pub filledWin : Rect → Win → Win
+filledWin a w = cond (meets a (bounds w)) (dirtied (common a (bounds w)) w) w
+
+-- "The area is added uncut. An empty area does nothing."
+unfoldable pub blitWin : Rect → Win → Win
+blitWin a w = cond (isEmpty a) w (dirtied a w)
+
+-- what an accepted one makes of its window; "Mark sets the window's dirty flag."
+abbrev pub ruled : Write → Win → Win
+ruled (fill a v) w = filledWin a w
+ruled (blit a d stride) w = blitWin a w
+ruled mark w = withMark w
+
+-- the window with the mark and the damage of v. All else of it is as it was, also its array of areas past the entries
+abbrev pub holding : Win → Window → Window
+holding v w =
+    record {
+      queue = w .queue;
+      damage = withEntries (v .damage) (w .damage);
+      at = w .at;
+      cursor = w .cursor;
+      used = w .used;
+      marked = v .marked;
+    }
+
+-- "the same session", as a value: the session in which window id became this, and all else is as it was
+abbrev pub rewritten : ℕ → Write → Session → Session
+rewritten id u s =
+    record {
+      windows = set (s .windows) id (holding (ruled u (winOf (windowAt s id))) (windowAt s id));
+      shared = s .shared;
+      displays = s .displays;
+    }
+
 -- What a call promises --------------------------------------------------------------------------------------------------
 
 -- answer and group are the rule's; a refused call hands back the very session; and the session can be given to the next call
@@ -113,10 +153,17 @@ pub record MeetsStore (k : Call) (s : Session) (r : Done) (store : List ℕ) : T
   pub meets : Meets k s r
   pub stored : store ≡ does (group s) k .store
 
--- the same of a fill or a blit, which also gives the number of pixels altered
-pub record MeetsAltered (k : Call) (s : Session) (r : Written) (store : List ℕ) : Type 0 where
-  pub meets : MeetsStore k s (record { session = r .session; answer = r .answer }) store
-  pub altered : r .altered ≡ does (group s) k .altered
+-- the same of a fill or a blit u of window id, lent the store p: it also gives the number of pixels altered, and if
+-- accepted it leaves this very session
+pub record MeetsAltered (id : ℕ) (u : Write) (p : List ℕ) (s : Session) (r : Written) (store : List ℕ) : Type 0 where
+  pub meets : MeetsStore (callOf id u p) s (record { session = r .session; answer = r .answer }) store
+  pub altered : r .altered ≡ does (group s) (callOf id u p) .altered
+  pub whole : r .answer ≡ 0 → r .session ≡ rewritten id u s
+
+-- the same of a mark, which gives no number and is lent no store
+pub record MeetsMark (id : ℕ) (s : Session) (r : Done) : Type 0 where
+  pub meets : Meets (Mark id) s r
+  pub whole : r .answer ≡ 0 → r .session ≡ rewritten id mark s
 
 abbrev pub written : Session → Altered → Written
 written s a = record { session = s; answer = a .answer; altered = a .altered }

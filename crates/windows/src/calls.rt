@@ -3,7 +3,8 @@
 ghost use mathlib.Core.Path.{_≡_};
 ghost use Prim.Native.Nat.{_<_};
 ghost use Rattle.rules.specs.Calls.{Call};
-ghost use Rattle.windows.specs.View.{done, written, Given, Meets, MeetsStore, MeetsAltered, MeetsScreen, MeetsEvent};
+ghost use Rattle.rules.specs.Panels.{Write};
+ghost use Rattle.windows.specs.View.{done, written, Given, Meets, MeetsStore, MeetsAltered, MeetsMark, MeetsScreen, MeetsEvent};
 ghost use Rattle.windows.specs.One.{put};
 use crate::Changed;
 use crate::Done;
@@ -87,7 +88,7 @@ impl Session {
 
     pub fn mark(self, id: WinId) -> Done
         requires { ⌜ Given self ⌝ }
-        ensures { λ r. ⌜ Meets (Call.Mark (id .0)) self r ⌝ }
+        ensures { λ r. ⌜ MeetsMark (id .0) self r ⌝ }
     {
         let at = slot(id);
         let d = one::mark(self.windows[at], self.shared, id);
@@ -123,7 +124,7 @@ impl Session {
 
     pub fn fill(self, id: WinId, area: Rect, colour: u32, store: &mut [u32]) -> Written
         requires { ⌜ Given self ⌝ }
-        ensures { λ r. ⌜ MeetsAltered (Call.Fill (id .0) area colour (now (store .entry))) self r (now (store .exit)) ⌝ }
+        ensures { λ r. ⌜ MeetsAltered (id .0) (Write.fill area colour) (now (store .entry)) self r (now (store .exit)) ⌝ }
     {
         let at = slot(id);
         let d = store::fill(self.windows[at], self.shared, id, area, colour, store);
@@ -139,7 +140,7 @@ impl Session {
         store: &mut [u32],
     ) -> Written
         requires { ⌜ Given self ⌝ }
-        ensures { λ r. ⌜ MeetsAltered (Call.Blit (id .0) area (now («data» .entry)) stride (now (store .entry))) self r (now (store .exit)) ⌝ }
+        ensures { λ r. ⌜ MeetsAltered (id .0) (Write.blit area (now («data» .entry)) stride) (now (store .entry)) self r (now (store .exit)) ⌝ }
     {
         let at = slot(id);
         let d = store::blit(self.windows[at], self.shared, id, area, stride, data, store);

@@ -21,6 +21,7 @@ use Rattle.rules.specs.Store as Store
 use Rattle.rules.specs.Redraw as Draw
 use Rattle.rules.specs.Calls as Calls
 use Rattle.rules.specs.Calls.{Call, Made, Create, Show, Mark, Pop, Resize, Fill, Route, Redraw, does, after}
+use Rattle.rules.specs.Panels.{Write, callOf}
 use Rattle.windows.specs.declared.Session.{Session}
 use Rattle.windows.specs.declared.Done.{Done}
 use Rattle.windows.specs.declared.Written.{Written}
@@ -142,8 +143,8 @@ stored ks k same p m = m .stored ∙ (λ i. does (given p i) (same i) .store)
 pub drawn : {j : Call} {s : Session} {r : Done} {l : List ℕ} (ks : List Call) (k : Call) → j ≡ k → Ran ks s → MeetsScreen j s r l → l ≡ does (after 4 ks) k .screen
 drawn ks k same p m = m .shown ∙ (λ i. does (given p i) (same i) .screen)
 
-pub counted : {j : Call} {s : Session} {r : Written} {l : List ℕ} (ks : List Call) (k : Call) → j ≡ k → Ran ks s → MeetsAltered j s r l
-    → r .altered ≡ does (after 4 ks) k .altered
+pub counted : {id : ℕ} {u : Write} {p : List ℕ} {s : Session} {r : Written} {l : List ℕ} (ks : List Call) (k : Call) → callOf id u p ≡ k → Ran ks s
+    → MeetsAltered id u p s r l → r .altered ≡ does (after 4 ks) k .altered
 counted ks k same p m = m .altered ∙ (λ i. does (given p i) (same i) .altered)
 
 pub told : {s : Session} {r : Popped} (ks : List Call) (k : Call) → Ran ks s → MeetsEvent k s r → eventIn (r .event) ≡ does (after 4 ks) k .event

@@ -54,7 +54,7 @@ altered : (c : tie.After-fill) → c .fill .result .altered ≡ 4
 altered c = counted calls.shown calls.fill (fill c) (shown (c .before .before .before) .ran) (c .fill .ensures) ∙ computed .fill-altered
 
 marked : (c : tie.After-mark) → Next calls.filled (Mark 0) (c .mark .result)
-marked c = next calls.filled (Mark 0) refl (filled (c .before .before .before .before) .ran) (by-meets refl refl (c .mark .ensures))
+marked c = next calls.filled (Mark 0) refl (filled (c .before .before .before .before) .ran) (by-meets refl refl (c .mark .ensures .meets))
 
 -- the code's redraw, with that store
 redraw : (c : tie.After-redraw) → Redraw false 3 2 (c .before .before .before .before .before .before .before .fill .last .1 .1 .1 .1 .0) (replicate 6 5) ≡ calls.redraw

@@ -1,54 +1,170 @@
--- The calls of a list leave what the rules play, so two interleavings of the program end alike as those of the rules do.
-use Prim.Native.Nat.{ℕ}
+-- A call changes its own window by that window and its answer alone, and two interleavings answer each list alike.
+use Prim.Native.Nat.{ℕ, zero, suc}
 use mathlib.Core.Path.{_≡_, refl, sym, ap, subst, _∙_}
-use mathlib.Core.Bool.{Bool}
-use mathlib.Core.List.{List, _∷_}
-use Rattle.geom.specs.declared.Rect.{Rect}
+use mathlib.Core.Bool.{Bool, true, false, cond}
+use mathlib.Core.List.{List, [], _∷_, map}
+use mathlib.Core.Logic.{_≢_}
+use lib.Dec.{eqb}
+use lib.ListN.{set, getD}
+use lib.Seq.{set-comm, set-getD, getD-set-other}
+use borrow.Author.Tests.{eqb-true, eq-eqb, ne-eqb}
+use Rattle.geom.proofs.basics.Tests.{clash}
+use Rattle.geom.proofs.basics.Lists.{All}
+use Rattle.window.specs.declared.Window.{Window}
+use Rattle.window.specs.Held.{winOf}
 use Rattle.rules.specs.Group.{Group, Outcome}
-use Rattle.rules.specs.Calls.{Call, Made, Fill, Blit, Mark, Redraw, does, after}
-use Rattle.rules.specs.Conditions.{lentStore, lentScreen}
-use Rattle.rules.specs.Panels.{Write, fill, blit, mark, Act, on, callOf, Held, left, played, redrawn}
-use Rattle.rules.proofs.demand.Panels.{any-two}
+use Rattle.rules.specs.Calls.{Call, Made, Redraw, does, after}
+use Rattle.rules.specs.Conditions.{lentScreen}
+use Rattle.rules.specs.Panels.{Write, Act, on, callOf, Interleaves, first, second, Held, left, outcome, acted, played, Reply, reply, replies, redrawn, EitherOrder}
+use Rattle.rules.specs.Panels as Rule
+use Rattle.rules.proofs.demand.Panels.{either-order, any-two}
 use Rattle.windows.specs.declared.Session.{Session}
-use Rattle.windows.specs.declared.Done.{Done}
-use Rattle.windows.specs.View.{group, Meets, MeetsStore}
+use Rattle.windows.specs.View.{blank, group, windowAt, holding, ruled, rewritten, done, Meets}
 use Rattle.windows.specs.Run.{calls, LeftAs, Kept}
-use Rattle.windows.specs.Panels.{storeLeft, Acted, none, next, SameEnd, ProgramEitherOrder}
-use Rattle.windows.proofs.demand.Runs.{by-meets, by-store, reached}
+use Rattle.windows.specs.Panels.{Acted, filled, blitted, marked, SameEnd, ProgramEitherOrder}
+use Rattle.windows.specs.Panels as Spec
+use Rattle.windows.proofs.demand.Runs.{reached}
 
--- By its contract a call is the first of a list --------------------------------------------------------------------------
+-- One call ---------------------------------------------------------------------------------------------------------------
 
-module _ {s t : Session} {r : Done} {p q : List ℕ} {zs : List Act} (id : ℕ) where
-  pub by-fill : (a : Rect) (v : ℕ) {l : List ℕ} → MeetsStore (Fill id a v p) s r l → Acted (r .session) l zs t q
-      → Acted s p (on id (fill a v) ∷ zs) t q
-  by-fill a v k = next refl (by-store refl k)
+abbrev callAt : Act → List ℕ → Call
+callAt a p = callOf (a .window) (a .write) p
 
-  pub by-blit : (a : Rect) (d : List ℕ) (stride : ℕ) {l : List ℕ} → MeetsStore (Blit id a d stride p) s r l → Acted (r .session) l zs t q
-      → Acted s p (on id (blit a d stride) ∷ zs) t q
-  by-blit a d stride k = next refl (by-store refl k)
+-- what the three contracts have in common
+record Step (a : Act) (s : Session) (p : List ℕ) (t : Session) (q : List ℕ) : Type 0 where
+  answer : ℕ
+  meets : Meets (callAt a p) s (done t answer)
+  stored : q ≡ left (a .write) p (does (group s) (callAt a p))
+  whole : answer ≡ 0 → t ≡ rewritten (a .window) (a .write) s
 
-  pub by-mark : Meets (Mark id) s r → Acted (r .session) p zs t q → Acted s p (on id mark ∷ zs) t q
-  by-mark k = next refl (by-meets refl refl k)
+data Steps : Session → List ℕ → List Act → Session → List ℕ → Type 0 where
+  none : {s : Session} {p : List ℕ} → Steps s p [] s p
+  next : {s s′ t : Session} {p p′ q : List ℕ} {a : Act} {zs : List Act} → Step a s p s′ p′ → Steps s′ p′ zs t q → Steps s p (a ∷ zs) t q
 
--- What a list leaves -----------------------------------------------------------------------------------------------------
+steps : {s t : Session} {p q : List ℕ} {zs : List Act} → Acted s p zs t q → Steps s p zs t q
+steps Spec.none = none
+steps (filled k r) = next (record { answer = _; meets = k .meets .meets; stored = k .meets .stored; whole = k .whole }) (steps r)
+steps (blitted k r) = next (record { answer = _; meets = k .meets .meets; stored = k .meets .stored; whole = k .whole }) (steps r)
+steps (marked k r) = next (record { answer = _; meets = k .meets; stored = refl; whole = k .whole }) (steps r)
+
+-- The group and the store ------------------------------------------------------------------------------------------------
 
 abbrev held : Session → List ℕ → Held
 held s p = record { group = group s; store = p }
 
--- the store that a call leaves is the rule's
-left-is : (i : ℕ) (w : Write) (p : List ℕ) {m : Made} {s t : Session} → m .call ≡ callOf i w p → Kept m s t
-    → storeLeft w p m ≡ left w p (does (group s) (callOf i w p))
-left-is i (fill a v) p {m} {s} e k = subst (λ (c : Call). LeftAs (lentStore c) (m .store) (does (group s) c .store)) e (k .stored)
-left-is i (blit a d stride) p {m} {s} e k = subst (λ (c : Call). LeftAs (lentStore c) (m .store) (does (group s) c .store)) e (k .stored)
-left-is i mark p e k = refl
+-- a call leaves what the rule plays
+step-held : {a : Act} {s t : Session} {p q : List ℕ} → Step a s p t q → held t q ≡ acted (held s p) a
+step-held k = λ x. record { group = k .meets .after x; store = k .stored x }
 
-ends : {s t : Session} {p q : List ℕ} {zs : List Act} → Acted s p zs t q → held t q ≡ played (held s p) zs
+ends : {s t : Session} {p q : List ℕ} {zs : List Act} → Steps s p zs t q → held t q ≡ played (held s p) zs
 unfolding played
 ends none = refl
-ends (next {s} {s′} {t} {p} {q} {a} {zs} {m} e k r) =
-    ends r
-    ∙ ap (λ (h : Held). played h zs)
-    (λ x. record { group = (k .meets .after ∙ ap (λ (c : Call). does (group s) c .group) e) x; store = left-is (a .window) (a .write) p e k x })
+ends (next {zs = zs} k r) = ends r ∙ ap (λ (h : Held). played h zs) (step-held k)
+
+-- The windows ------------------------------------------------------------------------------------------------------------
+
+-- the session with window i changed by f
+abbrev adjust : ℕ → (Window → Window) → Session → Session
+adjust i f s = record { windows = set (s .windows) i (f (windowAt s i)); shared = s .shared; displays = s .displays }
+
+with-windows : {l m : List Window} (s : Session) → l ≡ m
+    → _≡_ {A = Session} (record { windows = l; shared = s .shared; displays = s .displays }) (record { windows = m; shared = s .shared; displays = s .displays })
+with-windows s e = ap (λ (l : List Window). record { windows = l; shared = s .shared; displays = s .displays }) e
+
+adjust-none : (i : ℕ) (s : Session) → adjust i (λ w. w) s ≡ s
+adjust-none i s = with-windows s (set-getD (s .windows) i blank)
+
+adjust-twice : (i : ℕ) (f g : Window → Window) (s : Session) → adjust i g (adjust i f s) ≡ adjust i (λ w. g (f w)) s
+adjust-twice i f g s = with-windows s (go (s .windows) i)
+  where
+    go : (l : List Window) (i : ℕ)
+        → set (set l i (f (getD l i blank))) i (g (getD (set l i (f (getD l i blank))) i blank)) ≡ set l i (g (f (getD l i blank)))
+    go [] i = refl
+    go (w ∷ l) zero = refl
+    go (w ∷ l) (suc i) = ap (λ (m : List Window). w ∷ m) (go l i)
+
+adjust-comm : (i j : ℕ) → i ≢ j → (f g : Window → Window) (s : Session) → adjust j g (adjust i f s) ≡ adjust i f (adjust j g s)
+adjust-comm i j ne f g s =
+    let l = s .windows in
+    let x = f (getD l i blank) in
+    let y = g (getD l j blank) in
+    with-windows s
+    (ap (λ (w : Window). set (set l i x) j (g w)) (getD-set-other l i j x blank (λ e. ne (sym e)))
+    ∙ set-comm l i j x y ne
+    ∙ ap (λ (w : Window). set (set l j y) i (f w)) (sym (getD-set-other l j i y blank ne)))
+
+-- a window after a call on it that answered n
+abbrev own : Write → ℕ → Window → Window
+own u n w = cond (eqb n 0) (holding (ruled u (winOf w)) w) w
+
+step-whole : {a : Act} {s t : Session} {p q : List ℕ} → Step a s p t q → t ≡ adjust (a .window) (own (a .write) (outcome (held s p) a .answer)) s
+step-whole {a} {s} {t} {p} k = go (eqb n 0) refl
+  where
+    n : ℕ
+    n = outcome (held s p) a .answer
+
+    go : (b : Bool) → eqb n 0 ≡ b → t ≡ adjust (a .window) (λ w. cond b (holding (ruled (a .write) (winOf w)) w) w) s
+    go true e = k .whole (k .meets .answer ∙ eqb-true n 0 e)
+    go false e = k .meets .same (λ z. clash (eq-eqb n 0 (sym (k .meets .answer) ∙ z)) e) ∙ sym (adjust-none (a .window) s)
+
+-- a window after the calls of a list on it that were answered so
+abbrev windowAfter : List Act → List Reply → Window → Window
+windowAfter [] rs w = w
+windowAfter (a ∷ l) [] w = w
+windowAfter (a ∷ l) (r ∷ rs) w = windowAfter l rs (own (a .write) (r .answer) w)
+
+-- Replies to the calls on one window -------------------------------------------------------------------------------------
+
+module _ (i : ℕ) (h : Held) (a : Act) (zs : List Act) where
+  heard : a .window ≡ i → replies i h (a ∷ zs) ≡ reply (outcome h a) ∷ replies i (acted h a) zs
+  unfolding replies
+  heard e = rw (eq-eqb (a .window) i e)
+
+  unheard : a .window ≢ i → replies i h (a ∷ zs) ≡ replies i (acted h a) zs
+  unfolding replies
+  unheard n = rw (ne-eqb (a .window) i n)
+
+-- An interleaving --------------------------------------------------------------------------------------------------------
+
+abbrev AllOn : ℕ → List Act → Type 0
+AllOn i l = All (λ (a : Act). a .window ≡ i) l
+
+all-on : (i : ℕ) (us : List Write) → AllOn i (map (on i) us)
+all-on i [] = tt
+all-on i (u ∷ us) = (refl, all-on i us)
+
+module _ (i j : ℕ) (ne : i ≢ j) where
+  -- the session in which the calls xs on i and ys on j were answered so
+  abbrev sessionAfter : List Act → List Reply → List Act → List Reply → Session → Session
+  sessionAfter xs rs ys os s = adjust i (windowAfter xs rs) (adjust j (windowAfter ys os) s)
+
+  -- both windows are changed by their own calls alone
+  whole-end : {xs ys zs : List Act} → Interleaves xs ys zs → AllOn i xs → AllOn j ys → {s t : Session} {p q : List ℕ} → Steps s p zs t q
+      → t ≡ sessionAfter xs (replies i (held s p) zs) ys (replies j (held s p) zs) s
+  whole-end Rule.none h k {s} none = sym (ap (adjust i (λ w. w)) (adjust-none j s) ∙ adjust-none i s)
+  whole-end (first {a} {xs} {ys} {zs} r) h k (next {s} {s′} {p = p} m l) =
+      let e = held s p in
+      let f = own (a .write) (outcome e a .answer) in
+      let rs = replies i (acted e a) zs in
+      let os = replies j (acted e a) zs in
+      let off : a .window ≢ j = λ x. ne (sym (h .0) ∙ x) in
+      whole-end r (h .1) k l
+      ∙ ap (λ (x : Held). sessionAfter xs (replies i x zs) ys (replies j x zs) s′) (step-held m)
+      ∙ ap (sessionAfter xs rs ys os) (step-whole m ∙ ap (λ (n : ℕ). adjust n f s) (h .0))
+      ∙ ap (adjust i (windowAfter xs rs)) (adjust-comm i j ne f (windowAfter ys os) s)
+      ∙ adjust-twice i f (windowAfter xs rs) (adjust j (windowAfter ys os) s)
+      ∙ sym (λ x. sessionAfter (a ∷ xs) (heard i e a zs (h .0) x) ys (unheard j e a zs off x) s)
+  whole-end (second {a} {xs} {ys} {zs} r) h k (next {s} {s′} {p = p} m l) =
+      let e = held s p in
+      let g = own (a .write) (outcome e a .answer) in
+      let rs = replies i (acted e a) zs in
+      let os = replies j (acted e a) zs in
+      let off : a .window ≢ i = λ x. ne (sym x ∙ k .0) in
+      whole-end r h (k .1) l
+      ∙ ap (λ (x : Held). sessionAfter xs (replies i x zs) ys (replies j x zs) s′) (step-held m)
+      ∙ ap (sessionAfter xs rs ys os) (step-whole m ∙ ap (λ (n : ℕ). adjust n g s) (k .0))
+      ∙ ap (adjust i (windowAfter xs rs)) (adjust-twice j g (windowAfter ys os) s)
+      ∙ sym (λ x. sessionAfter xs (unheard i e a zs off x) (a ∷ ys) (heard j e a zs (k .0) x) s)
 
 -- Two ends ---------------------------------------------------------------------------------------------------------------
 
@@ -63,13 +179,13 @@ redraw-is told w h screen {r} {t} e k = (
   k .meets .after ∙ ap (λ (c : Call). does (group t) c .group) e,
 )
 
-same-end : (t t′ : Session) (q q′ : List ℕ) → held t q ≡ held t′ q′ → SameEnd t q t′ q′
-same-end t t′ q q′ e =
+same-end : (t t′ : Session) (q q′ : List ℕ) → t ≡ t′ → q ≡ q′ → SameEnd t q t′ q′
+same-end t t′ q q′ session store =
     record {
-      session = ap (λ (h : Held). h .group) e;
-      store = ap (λ (h : Held). h .store) e;
+      session = session;
+      store = store;
       redraw = λ told w h screen r r′ u u′ d d′ k k′.
-          let o = ap (λ (x : Held). redrawn x told w h screen) e in
+          let o : redrawn (held t q) told w h screen ≡ redrawn (held t′ q′) told w h screen = λ x. redrawn (held (session x) (store x)) told w h screen in
           let x = redraw-is told w h screen d k in
           let y = redraw-is told w h screen d′ k′ in (
             x .0 ∙ ap (λ (z : Outcome). z .answer) o ∙ sym (y .0),
@@ -79,12 +195,26 @@ same-end t t′ q q′ e =
     }
 
 pub program-either-order : ProgramEitherOrder
-unfolding ProgramEitherOrder
+unfolding ProgramEitherOrder EitherOrder
 program-either-order c ms s run p i j ne us vs zs zs′ h h′ t t′ q q′ a a′ =
-    let from : held s p ≡ record { group = after c (calls ms); store = p } = ap (λ (g : Group). record { group = g; store = p }) (reached run) in
-    same-end t t′ q q′
-    (ends a
+    let e : Held = record { group = after c (calls ms); store = p } in
+    let from : held s p ≡ e = ap (λ (g : Group). record { group = g; store = p }) (reached run) in
+    let xs = map (on i) us in
+    let ys = map (on j) vs in
+    let o = either-order c (calls ms) p i j ne us vs zs h in
+    let o′ = either-order c (calls ms) p i j ne us vs zs′ h′ in
+    let rs : replies i (held s p) zs ≡ replies i (held s p) zs′ =
+    ap (λ (k : Held). replies i k zs) from ∙ o .one ∙ sym (o′ .one) ∙ ap (λ (k : Held). replies i k zs′) (sym from) in
+    let os : replies j (held s p) zs ≡ replies j (held s p) zs′ =
+    ap (λ (k : Held). replies j k zs) from ∙ o .other ∙ sym (o′ .other) ∙ ap (λ (k : Held). replies j k zs′) (sym from) in
+    let end : held t q ≡ held t′ q′ =
+    ends (steps a)
     ∙ ap (λ (k : Held). played k zs) from
     ∙ any-two c (calls ms) p i j ne us vs zs zs′ h h′
     ∙ ap (λ (k : Held). played k zs′) (sym from)
-    ∙ sym (ends a′))
+    ∙ sym (ends (steps a′)) in
+    same-end t t′ q q′
+    (whole-end i j ne h (all-on i us) (all-on j vs) (steps a)
+    ∙ (λ x. sessionAfter i j ne xs (rs x) ys (os x) s)
+    ∙ sym (whole-end i j ne h′ (all-on i us) (all-on j vs) (steps a′)))
+    (ap (λ (k : Held). k .store) end)

@@ -10,19 +10,20 @@ use lib.Seq.{set-getD}
 use borrow.Author.Tests.{ltb-true, lt-ltb, le-ltb}
 use Rattle.geom.proofs.basics.Tests.{fst, snd, lt-or-le}
 use Rattle.window.specs.declared.Window.{Window}
-use Rattle.window.specs.Held.{RepWindow}
+use Rattle.window.specs.Held.{winOf, RepWindow}
 use Rattle.order.specs.Ids.{ids}
 use Rattle.order.specs.Order.{renderIdx}
 use Rattle.rules.specs.Group.{used}
 use Rattle.rules.specs.Calls.{Call}
+use Rattle.rules.specs.Panels.{Write}
 use Rattle.windows.specs.declared.Shared.{Shared}
 use Rattle.windows.specs.declared.Session.{Session}
 use Rattle.windows.specs.declared.Changed.{Changed}
 use Rattle.windows.specs.declared.Done.{Done}
 use Rattle.windows.specs.declared.Written.{Written}
 use Rattle.windows.specs.declared.WrittenOne.{WrittenOne}
-use Rattle.windows.specs.View.{blank, group, windowAt, done, written, Given, Meets, MeetsStore, MeetsAltered}
-use Rattle.windows.specs.One.{At, Holds, Held, put, MeetsAt, MeetsStoreAt, MeetsAlteredAt}
+use Rattle.windows.specs.View.{blank, group, windowAt, holding, ruled, rewritten, done, written, Given, Meets, MeetsStore, MeetsAltered, MeetsMark}
+use Rattle.windows.specs.One.{At, Holds, Held, put, MeetsAt, MeetsStoreAt, MeetsAlteredAt, MeetsMarkAt}
 use Rattle.windows.proofs.laws.Session.{used-at, used-past}
 
 -- Parts of a session ---------------------------------------------------------------------------------------------------
@@ -68,6 +69,13 @@ module _ {id : ℕ} {w : Window} {k : Shared} where
       let q : at ≡ id = h .place .same l in
       let is : windowAt s id ≡ w = ap (windowAt s) (sym q) ∙ h .window in
       subst (λ (j : ℕ). P s j w k) (sym q) (subst (λ (v : Window). P s id v k) is (subst (P s id (windowAt s id)) (h .shared) (law s (h .given) is (h .shared))))
+
+  -- the window that a fill, a blit or a mark leaves of it makes all of the session that it leaves
+  pub rewrites : (u : Write) {r : Window} → id < 16 → r ≡ holding (ruled u (winOf w)) w → (s : Session) (at : ℕ) → Holds id w k s at
+      → put at r k s ≡ rewritten id u s
+  rewrites u l e s at h =
+      ap (λ (v : Window). put at v k s) e
+      ∙ changes (λ s at w k. put at (holding (ruled u (winOf w)) w) k s ≡ rewritten id u s) l (λ s _ _ _. refl) s at h
 
   -- question 3, as the code asks it
   pub asks-used : (s : Session) (at : ℕ) → Holds id w k s at → used (group s) id ≡ ltb id 16 && w .used
@@ -118,6 +126,10 @@ module _ {id at : ℕ} {s : Session} (h : Given s) (p : At id at) where
       → r ≡ done (put at (d .window) (d .shared) s) (d .answer) → MeetsStore call s r t
   by-store {call} {t} d m e = subst (λ (r : Done). MeetsStore call s r t) (sym e) (m s at own)
 
-  pub by-altered : {call : Call} {t : List ℕ} {r : Written} (d : WrittenOne) → MeetsAlteredAt call id (windowAt s at) (s .shared) d t
-      → r ≡ written (put at (d .window) (d .shared) s) (d .result) → MeetsAltered call s r t
-  by-altered {call} {t} d m e = subst (λ (r : Written). MeetsAltered call s r t) (sym e) (m s at own)
+  pub by-altered : {u : Write} {p t : List ℕ} {r : Written} (d : WrittenOne) → MeetsAlteredAt id u p (windowAt s at) (s .shared) d t
+      → r ≡ written (put at (d .window) (d .shared) s) (d .result) → MeetsAltered id u p s r t
+  by-altered {u} {p} {t} d m e = subst (λ (r : Written). MeetsAltered id u p s r t) (sym e) (m s at own)
+
+  pub by-mark : {r : Done} (d : Changed) → MeetsMarkAt id (windowAt s at) (s .shared) d → r ≡ done (put at (d .window) (d .shared) s) (d .answer)
+      → MeetsMark id s r
+  by-mark d m e = subst (MeetsMark id s) (sym e) (m s at own)

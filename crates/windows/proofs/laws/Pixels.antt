@@ -20,10 +20,12 @@ use Rattle.scanline.proofs.rows.Altered.{altered-same}
 use Rattle.window.specs.declared.Window.{Window}
 use Rattle.window.specs.declared.damage.Damage.{Damage}
 use Rattle.window.specs.Window.{Win}
-use Rattle.window.specs.Held.{winOf, Small, RepWindow}
-use Rattle.window.specs.Inner.{Dirtied}
+use Rattle.window.specs.Held.{winOf, Small, RepWindow, withEntries}
+use Rattle.window.specs.Inner.{PastAs, Dirtied}
+use Rattle.window.proofs.laws.Entries.{all-of}
 use Rattle.rules.specs.Store.{withDamage, dirtied, bounds, filledPart, filledAt, blitRows, blitAt}
-use Rattle.windows.specs.Pixels.{Becomes, Stored, setDamage, filledWin, blitWin}
+use Rattle.windows.specs.View.{filledWin, blitWin, holding}
+use Rattle.windows.specs.Pixels.{Becomes, Stored, setDamage}
 
 -- the same window by a rule that gives the same
 becomes : {w r : Window} {v v′ : Win} → Becomes w v r → v ≡ v′ → Becomes w v′ r
@@ -37,6 +39,13 @@ dirty-win w a d r q =
       rep = record { at = r .at; damage = q .rep; queue = r .queue; cursor = r .cursor };
       is = ap (λ (l : List Rect). withDamage l (winOf w)) (q .is);
     }
+
+-- so the window is the one that holds what the rule says, and is else as it was
+pub is-holding : {w : Window} {v : Win} {d : Damage} → Becomes w v (setDamage d w) → PastAs (w .damage) d → setDamage d w ≡ holding v w
+is-holding {w} {v} {d} b e =
+    let damage = all-of (w .damage) d (b .rep .damage) e ∙ ap (λ (x : Win). withEntries (x .damage) (w .damage)) (b .is) in
+    let marked = ap (λ (x : Win). x .marked) (b .is) in
+    λ i. record { queue = w .queue; damage = damage i; at = w .at; cursor = w .cursor; used = w .used; marked = marked i }
 
 -- a window left as it was
 kept : {w : Window} {len base : ℕ} {v : Win} → Stored len base w → winOf w ≡ v → Becomes w v w

@@ -22,17 +22,18 @@ use Rattle.window.specs.Held.{winOf, Small, RepWindow}
 use Rattle.rules.specs.Group.{Group, used, win, winAt, theWin, someWin, withWindows, setWin}
 use Rattle.rules.specs.Store.{whole}
 use Rattle.rules.specs.Calls.{Call, does, accepted}
+use Rattle.rules.specs.Panels.{Write, callOf}
 use Rattle.rules.specs.Conditions.{lentStore}
 use Rattle.rules.proofs.group.Refused.{refused-store}
 use Rattle.rules.proofs.group.Invariant.{WinOk}
 use Rattle.windows.specs.declared.Shared.{Shared}
 use Rattle.windows.specs.declared.Session.{Session}
-use Rattle.windows.specs.View.{group, windowAt, Rep, Given, MeetsStore, done}
+use Rattle.windows.specs.View.{group, windowAt, holding, ruled, Rep, Given, MeetsStore, done}
 use Rattle.windows.specs.One.{Holds, Held, put, MeetsStoreAt, MeetsAlteredAt}
 use Rattle.windows.specs.Pixels.{Becomes, Stored}
 use Rattle.windows.proofs.laws.Session.{used-at, win-at, putWindow, put-group, put-rep, given-ok, refuses, gives}
 use Rattle.windows.proofs.laws.Shared.{Shares}
-use Rattle.windows.proofs.laws.One.{stays, changes, asks-used}
+use Rattle.windows.proofs.laws.One.{stays, changes, rewrites, asks-used}
 
 -- Question 5 ---------------------------------------------------------------------------------------------------------
 
@@ -146,17 +147,27 @@ module _ {call : Call} {id : ℕ} {store : List ℕ} {rest : ℕ → List Questi
 pub record Counts (call : Call) (store : List ℕ) : Type 0 where
   pub counts : (g : Group) → does g call .altered ≡ altered store (does g call .store)
 
-pub with-count : {call : Call} {id : ℕ} {w v : Window} {k m : Shared} {store t : List ℕ} {a n : ℕ} → Counts call store
-    → MeetsStoreAt call id w k (record { window = v; shared = m; answer = a }) t → n ≡ altered store t
-    → MeetsAlteredAt call id w k (record { window = v; shared = m; result = record { answer = a; altered = n } }) t
-with-count {store = store} c meets e s at h =
-    record { meets = meets s at h; altered = e ∙ ap (altered store) (meets s at h .stored) ∙ sym (c .counts (group s)) }
+module _ {id : ℕ} (u : Write) {w : Window} {k : Shared} {store : List ℕ} (c : Counts (callOf id u store) store) where
+  counted : {v : Window} {m : Shared} {t : List ℕ} {a n : ℕ} → MeetsStoreAt (callOf id u store) id w k (record { window = v; shared = m; answer = a }) t
+      → n ≡ altered store t → (s : Session) (at : ℕ) → Holds id w k s at → n ≡ does (group s) (callOf id u store) .altered
+  counted meets e s at h = e ∙ ap (altered store) (meets s at h .stored) ∙ sym (c .counts (group s))
 
--- where the store is as it was
-pub unaltered : {call : Call} {id : ℕ} {w v : Window} {k m : Shared} {store : List ℕ} {a : ℕ} → Counts call store
-    → MeetsStoreAt call id w k (record { window = v; shared = m; answer = a }) store
-    → MeetsAlteredAt call id w k (record { window = v; shared = m; result = record { answer = a; altered = 0 } }) store
-unaltered {store = store} c meets = with-count c meets (sym (altered-same store))
+  -- of an accepted one: its window becomes what the rule says, and all else stays
+  pub accepted-one : {v : Window} {t : List ℕ} {n : ℕ} → Writable id w k store → v ≡ holding (ruled u (winOf w)) w
+      → MeetsStoreAt (callOf id u store) id w k (record { window = v; shared = k; answer = 0 }) t → n ≡ altered store t
+      → MeetsAlteredAt id u store w k (record { window = v; shared = k; result = record { answer = 0; altered = n } }) t
+  accepted-one o v meets e s at h =
+      record { meets = meets s at h; altered = counted meets e s at h; whole = λ _. rewrites u (o .low) v s at h }
+
+  -- of a refused one, which leaves the store as it was
+  pub refused-one : (n : ℕ) → Refused (callOf id u store) id w k store (suc n)
+      → MeetsAlteredAt id u store w k (record { window = w; shared = k; result = record { answer = suc n; altered = 0 } }) store
+  refused-one n meets s at h =
+      record {
+        meets = meets s at h;
+        altered = counted meets (sym (altered-same store)) s at h;
+        whole = λ z. absurd (omega (arith, z));
+      }
 
 -- The window's pixels ------------------------------------------------------------------------------------------------
 

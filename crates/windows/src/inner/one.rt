@@ -6,7 +6,7 @@ ghost use Prim.Native.Nat.{_<_};
 ghost use lib.Dec.{ltb};
 ghost use Rattle.rules.specs.Calls.{Call};
 ghost use Rattle.windows.specs.View.{Given};
-ghost use Rattle.windows.specs.One.{At, Free, Held, SharedBy, MeetsAt, CreatesAt};
+ghost use Rattle.windows.specs.One.{At, Free, Held, SharedBy, MeetsAt, MeetsMarkAt, CreatesAt};
 ghost use Rattle.windows.specs.Walk.{Hides, PutsOn};
 use crate::Changed;
 use crate::CreatedOne;
@@ -91,7 +91,7 @@ pub fn create(win: Window, mut shared: Shared, id: WinId) -> CreatedOne
 
 pub fn mark(mut win: Window, shared: Shared, id: WinId) -> Changed
     requires { ⌜ Held (id .0) win shared ⌝ }
-    ensures { λ r. ⌜ MeetsAt (Call.Mark (id .0)) (id .0) win shared r ⌝ }
+    ensures { λ r. ⌜ MeetsMarkAt (id .0) win shared r ⌝ }
 {
     let mut answer: u32 = 3;
     if is_used(win, id) {

@@ -8,12 +8,14 @@ ghost use Rattle.geom.specs.Geom.{rect};
 ghost use Rattle.scanline.specs.Pixels.{resizedAt};
 ghost use Rattle.scanline.specs.Rows.{Counted};
 ghost use Rattle.window.specs.Held.{Small, rectOf, RepDamage, RepWindow, winOf};
-ghost use Rattle.window.specs.Inner.{Dirtied};
+ghost use Rattle.window.specs.Inner.{PastAs, Dirtied};
 ghost use Rattle.rules.specs.Store.{resizedWin, filledAt, blitAt};
 ghost use Rattle.rules.specs.Displays.{taken};
 ghost use Rattle.rules.specs.Calls.{Call};
+ghost use Rattle.rules.specs.Panels.{Write};
+ghost use Rattle.windows.specs.View.{filledWin, blitWin};
 ghost use Rattle.windows.specs.One.{Held, MeetsStoreAt, MeetsAlteredAt};
-ghost use Rattle.windows.specs.Pixels.{Becomes, Stored, Resizable, setDamage, filledWin, blitWin};
+ghost use Rattle.windows.specs.Pixels.{Becomes, Stored, Resizable, setDamage};
 use crate::Changed;
 use crate::Shared;
 use crate::WrittenOne;
@@ -69,7 +71,7 @@ fn unpainted(damage: Damage) -> Painted
 // The part of the area that lies in the window takes the colour.
 fn fill_rect(win: Window, base: usize, area: Rect, colour: u32, store: &mut [u32]) -> Painted
     requires { ⌜ Stored (length (now store)) base win × Small area ⌝ }
-    ensures { λ r. ⌜ Becomes win (filledWin area (winOf win)) (setDamage (r .damage) win) × Counted (filledAt base (winOf win) area colour (now (store .entry))) (now (store .entry)) (now (store .exit)) (r .altered) ⌝ }
+    ensures { λ r. ⌜ Becomes win (filledWin area (winOf win)) (setDamage (r .damage) win) × Counted (filledAt base (winOf win) area colour (now (store .entry))) (now (store .entry)) (now (store .exit)) (r .altered) × PastAs (win .damage) (r .damage) ⌝ }
 {
     let size = win.at;
     let old = win.damage;
@@ -106,7 +108,7 @@ fn blit_rect(
     store: &mut [u32],
 ) -> Painted
     requires { ⌜ Stored (length (now store)) base win × Small area ⌝ }
-    ensures { λ r. ⌜ Becomes win (blitWin area (winOf win)) (setDamage (r .damage) win) × Counted (blitAt base (winOf win) area (now («data» .entry)) stride (now (store .entry))) (now (store .entry)) (now (store .exit)) (r .altered) ⌝ }
+    ensures { λ r. ⌜ Becomes win (blitWin area (winOf win)) (setDamage (r .damage) win) × Counted (blitAt base (winOf win) area (now («data» .entry)) stride (now (store .entry))) (now (store .entry)) (now (store .exit)) (r .altered) × PastAs (win .damage) (r .damage) ⌝ }
 {
     let size = win.at;
     let old = win.damage;
@@ -185,7 +187,7 @@ pub fn fill(
     store: &mut [u32],
 ) -> WrittenOne
     requires { ⌜ Held (id .0) win shared ⌝ }
-    ensures { λ r. ⌜ MeetsAlteredAt (Call.Fill (id .0) area colour (now (store .entry))) (id .0) win shared r (now (store .exit)) ⌝ }
+    ensures { λ r. ⌜ MeetsAlteredAt (id .0) (Write.fill area colour) (now (store .entry)) win shared r (now (store .exit)) ⌝ }
 {
     let mut window = win;
     let mut result = Altered {
@@ -223,7 +225,7 @@ pub fn blit(
     store: &mut [u32],
 ) -> WrittenOne
     requires { ⌜ Held (id .0) win shared ⌝ }
-    ensures { λ r. ⌜ MeetsAlteredAt (Call.Blit (id .0) area (now («data» .entry)) stride (now (store .entry))) (id .0) win shared r (now (store .exit)) ⌝ }
+    ensures { λ r. ⌜ MeetsAlteredAt (id .0) (Write.blit area (now («data» .entry)) stride) (now (store .entry)) win shared r (now (store .exit)) ⌝ }
 {
     let mut window = win;
     let mut result = Altered {

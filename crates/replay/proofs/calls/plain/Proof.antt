@@ -72,7 +72,7 @@ returns-3 : tie.Need-returns-3
 returns-3 c = by-id (c .before .match .keys3) _ Call.Drop refl (c .before .before .id .ensures) (c .drop .ensures)
 
 returns-4 : tie.Need-returns-4
-returns-4 c = by-id (c .before .match .keys4) _ Call.Mark refl (c .before .before .id .ensures) (c .mark .ensures)
+returns-4 c = by-id (c .before .match .keys4) _ Call.Mark refl (c .before .before .id .ensures) (c .mark .ensures .meets)
 
 returns-5 : tie.Need-returns-5
 returns-5 c =

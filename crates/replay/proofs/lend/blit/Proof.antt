@@ -1,9 +1,9 @@
 -- The call is the line's: its id, area and stride are the numbers'.
-use mathlib.Core.Path.{_≡_, subst}
-use Rattle.rules.specs.Calls as Call
-use Rattle.rules.specs.Calls.{Call}
+use Prim.Native.Nat.{ℕ}
+use mathlib.Core.Path.{subst₃}
+use Rattle.geom.specs.declared.Rect.{Rect}
+use Rattle.rules.specs.Panels.{blit}
 use Rattle.windows.specs.View.{MeetsAltered}
-use Rattle.bare.specs.Numbers.{num, idOf, rectAt}
 use borrow.Author.Needs.{needs}
 use Rattle.replay.proofs.lend.blit.Statement.{statement}
 use Rattle.replay.proofs.lend.blit.Tie as tie
@@ -29,11 +29,11 @@ same-length c = search needs
 returns : tie.Need-returns
 returns c =
     let args = c .before .before .before .before .before .before .before .before .before .before .args in
-    let ns = args .ns .now in
-    let made : Call.Blit (c .before .before .before .before .id .result .0) (c .before .before .before .before .before .before .before .rect .result) (args .«data» .now) (c .before .before .before .before .before .wide .result) (args .store .now)
-    ≡ Call.Blit (idOf ns) (rectAt ns 1) (args .«data» .now) (num ns 5) (args .store .now) =
-    λ i. Call.Blit (c .before .before .before .before .id .ensures i) (c .before .before .before .before .before .before .before .rect .ensures i) (args .«data» .now) (c .before .before .before .before .before .wide .ensures i) (args .store .now) in
-    subst (λ (k : Call). MeetsAltered k (args .s) (c .before .before .blit .result) (c .before .before .blit .last .1 .1 .1 .1 .1 .0)) made (c .before .before .blit .ensures)
+    let b = c .before .before in
+    let d = b .before .before in
+    let w = d .before in
+    subst₃ (λ (id : ℕ) (a : Rect) (stride : ℕ). MeetsAltered id (blit a (args .«data» .now) stride) (args .store .now) (args .s) (b .blit .result) (b .blit .last .1 .1 .1 .1 .1 .0))
+    (d .id .ensures) (w .before .before .rect .ensures) (w .wide .ensures) (b .blit .ensures)
 
 pub blit-spec : {M : Type 1} → statement M
 blit-spec =

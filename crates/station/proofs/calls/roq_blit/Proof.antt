@@ -4,7 +4,7 @@ use contract.Running.{tables}
 use denote.Ref.{now}
 use denote.Triple.Spec.{tripleOf}
 use denote.Triple.Table.{entered}
-use Rattle.rules.specs.Calls.{Blit}
+use Rattle.rules.specs.Panels.{blit}
 use Rattle.windows.specs.View.{Given, MeetsAltered}
 use Rattle.windows.specs.View as View
 use Rattle.windows.specs.One.{At, Held, MeetsAlteredAt}
@@ -28,8 +28,8 @@ roq-blit-spec 𝓤 H 𝓜 𝓖 𝓡 =
     (tables 𝓤 H 𝓜 𝓡 code.env .C) (tables 𝓤 H 𝓜 𝓡 code.env .Λ) key.name code.function (code.unfolded 𝓤 H 𝓜 𝓡)
     (shim.meets window shared displays winId altered 2 (value rect ∷ value size ∷ reads 0 tt ∷ writes 1 tt ∷ []) windows writtenOne
     Given (λ id at. At (id .0) at) (λ w k κs a. Held (a .0 .0) w k)
-    (λ w k κs a r e. MeetsAlteredAt (Blit (a .0 .0) (a .1 .0) (now (a .1 .1 .1 .0)) (a .1 .1 .0) (now (a .1 .1 .1 .1 .0))) (a .0 .0) w k r (now (e .1 .1 .1 .1 .0)))
-    (λ κs s a n t e. MeetsAltered (Blit (a .0 .0) (a .1 .0) (now (a .1 .1 .1 .0)) (a .1 .1 .0) (now (a .1 .1 .1 .1 .0))) s (View.written t n) (now (e .1 .1 .1 .1 .0)))
+    (λ w k κs a r e. MeetsAlteredAt (a .0 .0) (blit (a .1 .0) (now (a .1 .1 .1 .0)) (a .1 .1 .0)) (now (a .1 .1 .1 .1 .0)) w k r (now (e .1 .1 .1 .1 .0)))
+    (λ κs s a n t e. MeetsAltered (a .0 .0) (blit (a .1 .0) (now (a .1 .1 .1 .0)) (a .1 .1 .0)) (now (a .1 .1 .1 .1 .0)) s (View.written t n) (now (e .1 .1 .1 .1 .0)))
     (λ id at p. p .inside) (λ κs s a at h p. held h p) (λ κs s a at r ws h p d. d s at (own h p))
     𝓤 H 𝓜 𝓖 𝓡 code.env find.name find.routine code.calls-windows·inner·one·slot (find′.met 𝓤 H 𝓜 𝓖 𝓡)
     value.name value.routine code.calls-windows·inner·store·blit (value′.met 𝓤 H 𝓜 𝓖 𝓡))

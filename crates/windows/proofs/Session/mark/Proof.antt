@@ -1,5 +1,5 @@
 -- The function of one window, at this session; then its results are in their place.
-use Rattle.windows.proofs.laws.One.{held, by-meets}
+use Rattle.windows.proofs.laws.One.{held, by-mark}
 use borrow.Author.Needs.{needs}
 use Rattle.windows.proofs.Session.mark.Statement.{statement}
 use Rattle.windows.proofs.Session.mark.Tie as tie
@@ -23,7 +23,7 @@ returns : tie.Need-returns
 returns c =
     let d = c .before in
     let p = d .before .before .before in
-    by-meets (p .before .pre) (p .slot .ensures) (d .mark .result) (d .mark .ensures) (c .put .ensures)
+    by-mark (p .before .pre) (p .slot .ensures) (d .mark .result) (d .mark .ensures) (c .put .ensures)
 
 pub mark-spec : {M : Type 1} → statement M
 mark-spec = tie.close (tie.spec slot-requires mul-mark element-copy-out-mark mark-requires put-requires returns)

@@ -1,5 +1,5 @@
 -- As in `fill_rect`, with the data's chunks for the colour; the area is added uncut, whether or not a part of it is in the window.
-use mathlib.Core.Path.{_≡_, sym, _∙_}
+use mathlib.Core.Path.{_≡_, refl, sym, _∙_}
 use mathlib.Core.Bool.{true, false}
 use native.Mathlib.Omega.{arith}
 use lib.ListN.{length}
@@ -38,8 +38,8 @@ returns c =
     let t = c .before in
     let s = t .before .before .before .before .before .before in
     let a = s .args in
-    rw (c .unpainted .ensures)
-    (not-blit (a .area) (a .«data» .now) (a .stride) (a .store .now) (s .pre .0) (sym (t .before .is-empty .ensures) ∙ t .if1 .taken))
+    let n = not-blit (a .area) (a .«data» .now) (a .stride) (a .store .now) (s .pre .0) (sym (t .before .is-empty .ensures) ∙ t .if1 .taken) in
+    rw (c .unpainted .ensures) (n .0, n .1, refl)
 
 damaged-requires : tie.Need-damaged-requires
 damaged-requires c κs =
@@ -104,6 +104,7 @@ returns-2 c =
       blit-win (own b) e (dirty-win (a .win) (a .area) (b .before .damaged .result) (own b .stored .rep) (b .before .damaged .ensures)),
       some-blit (own b) e (a .«data» .now) (a .stride) (a .store .now) (k .cut .given .0 .0) _ _ (met k .0) (met k .1)
           (c .before .before .blit-area .ensures),
+      b .before .damaged .ensures .past,
     )
 
 returns-3 : tie.Need-returns-3
@@ -115,6 +116,7 @@ returns-3 c =
     rw (c .unpainted2 .ensures) (
       blit-win (own b) e (dirty-win (a .win) (a .area) (b .before .damaged .result) (own b .stored .rep) (b .before .damaged .ensures)),
       no-blit (own b) e (a .«data» .now) (a .stride) (a .store .now) (apart-is (fits (own b)) (i .intersect .ensures) (c .before .enum-told .given .1)),
+      b .before .damaged .ensures .past,
     )
 
 returns-4 : tie.Need-returns-4

@@ -12,9 +12,10 @@ use Rattle.rules.specs.Group.{Group, win}
 use Rattle.rules.specs.Store as Spec
 use Rattle.rules.specs.Store.{bounds, filledAt}
 use Rattle.rules.specs.Calls.{Fill, does, accepted}
-use Rattle.windows.specs.Pixels.{filledWin}
+use Rattle.windows.specs.View.{filledWin}
 use Rattle.windows.proofs.laws.Shared.{same-shared}
-use Rattle.windows.proofs.laws.Store.{Rule, Counts, Writable, writable, not-whole, not-used, no, yes, place, stored, small-rect, set-if, with-count, unaltered}
+use Rattle.windows.proofs.laws.Pixels.{is-holding}
+use Rattle.windows.proofs.laws.Store.{Rule, Counts, Writable, writable, not-whole, not-used, no, yes, place, stored, small-rect, set-if, accepted-one, refused-one}
 use borrow.Author.Needs.{needs}
 use Rattle.windows.proofs.inner.store.fill.Statement.{statement}
 use Rattle.windows.proofs.inner.store.fill.Tie as tie
@@ -79,22 +80,22 @@ returns c =
     let f = c .before .before .before .before .before .before in
     let t = f .before .before in
     let e = c .before .before .before .fill-rect .ensures in
-    with-count counts (yes rule (known t) same-shared _ _ (rw (small f)) (e .0, e .1 .pixels)) (e .1 .altered)
+    accepted-one _ counts (known t) (is-holding (e .0) (e .2)) (yes rule (known t) same-shared _ _ (rw (small f)) (e .0, e .1 .pixels)) (e .1 .altered)
 
 returns-2 : tie.Need-returns-2
 returns-2 c =
     let t = c .before .before in
     let s = t .before .before .before .before .before in
     let e : smallRect (s .args .area) ≡ false = sym (c .before .is-small .ensures) ∙ c .if3 .left in
-    unaltered counts (no rule (known t) 4 (rw e))
+    refused-one _ counts 4 (no rule (known t) 4 (rw e))
 
 returns-3 : tie.Need-returns-3
 returns-3 c =
     let t = c .before .before in
-    unaltered counts (not-used rule (t .if1 .taken) (c .before .is-used .ensures) (c .if2 .left))
+    refused-one _ counts 2 (not-used rule (t .if1 .taken) (c .before .is-used .ensures) (c .if2 .left))
 
 returns-4 : tie.Need-returns-4
-returns-4 c = unaltered counts (not-whole rule (c .if1 .left))
+returns-4 c = refused-one _ counts 0 (not-whole rule (c .if1 .left))
 
 pub fill-spec : {M : Type 1} → statement M
 fill-spec =

@@ -1,5 +1,5 @@
 -- The part of the area in the window has room in the store; without one nothing changes.
-use mathlib.Core.Path.{_≡_}
+use mathlib.Core.Path.{_≡_, refl}
 use mathlib.Core.Bool.{true}
 use native.Mathlib.Omega.{arith}
 use lib.ListN.{length}
@@ -80,15 +80,17 @@ returns c =
     let k = c .before .before .before .before .before .before .before .before .before .before .before in
     let b = k .before .before .before in
     let a = b .before .before .before .before .args in
-    filled (own b) (k .cut .given .0 .0) _ (a .colour) (a .store .now) _ _ (met k .0) (met k .1)
-    (dirty-win (a .win) (k .cut .given .0 .0) (c .damaged .result) (own b .stored .rep) (c .damaged .ensures)) (c .before .before .before .fill-area .ensures)
+    let f = filled (own b) (k .cut .given .0 .0) _ (a .colour) (a .store .now) _ _ (met k .0) (met k .1)
+    (dirty-win (a .win) (k .cut .given .0 .0) (c .damaged .result) (own b .stored .rep) (c .damaged .ensures)) (c .before .before .before .fill-area .ensures) in
+    (f .0, f .1, c .damaged .ensures .past)
 
 returns-2 : tie.Need-returns-2
 returns-2 c =
     let b = c .before .before .before in
     let a = b .before .before .before .before .before .args in
     let q = own (b .before) in
-    rw (c .unpainted .ensures) (not-filled q (a .colour) (a .store .now) (apart-is (fits q) (b .intersect .ensures) (c .before .enum-told .given .1)))
+    let n = not-filled q (a .colour) (a .store .now) (apart-is (fits q) (b .intersect .ensures) (c .before .enum-told .given .1)) in
+    rw (c .unpainted .ensures) (n .0, n .1, refl)
 
 returns-3 : tie.Need-returns-3
 returns-3 c =
