@@ -11,7 +11,8 @@ use Rattle.geom.specs.Lists.{numbers}
 use Rattle.sheet.specs.declared.Count.{Count}
 use Rattle.look.specs.declared.Look as View
 use Rattle.rules.specs.Group.{Group, allowedC, fresh}
-use Rattle.rules.specs.Calls.{Call, Made, after}
+use Rattle.rules.specs.Calls.{Call, Mark, Made, after}
+use Rattle.rules.specs.Panels.{Write, callOf}
 use Rattle.rules.specs.Conditions.{lentStore, lentScreen}
 use Rattle.rules.specs.Demand1 as Rule
 use Rattle.rules.specs.Demand1.{questions, Query, queryQuestions, Reply, reply, refusal, locatedNumbers}
@@ -28,7 +29,7 @@ use Rattle.windows.specs.declared.Placed.{Placed}
 use Rattle.windows.specs.declared.Listing.{Listing}
 use Rattle.windows.specs.declared.InView.{InView}
 use Rattle.windows.specs.declared.ForPos.{ForPos}
-use Rattle.windows.specs.View.{group, Meets, MeetsStore, MeetsAltered, MeetsScreen, MeetsId, MeetsEvent, Starts, Lists, Shares, Prints, Hits, Looks, Locates, placed}
+use Rattle.windows.specs.View.{group, Meets, MeetsStore, MeetsAltered, MeetsMark, MeetsScreen, MeetsId, MeetsEvent, Starts, Lists, Shares, Prints, Hits, Looks, Locates, placed}
 use Rattle.windows.specs.Run.{calls, Run}
 
 -- The calls that were made ------------------------------------------------------------------------------------------
@@ -64,8 +65,10 @@ pub record NextCall (s : Session) : Type 0 where
   pub call : (k : Call) (r : Done) → Meets k s r → Answered s k (r .answer) (r .session)
   pub stored : (k : Call) (r : Done) (lent left : List ℕ) → lentStore k ≡ some lent → MeetsStore k s r left
       → Answered s k (r .answer) (r .session) × (r .answer ≢ 0 → left ≡ lent)
-  pub altered : (k : Call) (r : Written) (lent left : List ℕ) → lentStore k ≡ some lent → MeetsAltered k s r left
-      → Answered s k (r .answer) (r .session) × (r .answer ≢ 0 → (left ≡ lent) × (r .altered ≡ 0))
+  pub altered : (id : ℕ) (u : Write) (r : Written) (lent left : List ℕ) → lentStore (callOf id u lent) ≡ some lent
+      → MeetsAltered id u lent s r left
+      → Answered s (callOf id u lent) (r .answer) (r .session) × (r .answer ≢ 0 → (left ≡ lent) × (r .altered ≡ 0))
+  pub marked : (id : ℕ) (r : Done) → MeetsMark id s r → Answered s (Mark id) (r .answer) (r .session)
   pub drawn : (k : Call) (r : Done) (lent left : List ℕ) → lentScreen k ≡ some lent → MeetsScreen k s r left
       → Answered s k (r .answer) (r .session) × (r .answer ≢ 0 → left ≡ lent)
   pub created : (k : Call) (r : Created) → MeetsId k s r

@@ -6,7 +6,8 @@ use mathlib.Core.List.{List, [], _∷_, _++_}
 use mathlib.Core.Option.{Option, none, some, Option·none-ne-some}
 use Rattle.geom.specs.Lists.{numbers}
 use Rattle.rules.specs.Group.{Group, start}
-use Rattle.rules.specs.Calls.{Call, Made, does, after}
+use Rattle.rules.specs.Calls.{Call, Mark, Made, does, after}
+use Rattle.rules.specs.Panels.{callOf}
 use Rattle.rules.specs.Conditions.{lentStore, lentScreen}
 use Rattle.rules.specs.Demand1 as Rule
 use Rattle.rules.specs.Demand1.{Unchanged, Answers, Query, Reply, reply, replies, Replies, locatedNumbers}
@@ -67,9 +68,11 @@ module _ (s : Session) (rules : (k : Call) → Answers (group s) k) (queries : (
       record {
         call = answered;
         stored = λ k r lent left l h. (answered k r (h .meets), λ ne. h .stored ∙ unchanged k r (h .meets) ne .store lent l);
-        altered = λ k r lent left l h.
+        altered = λ id u r lent left l h.
+            let k = callOf id u lent in
             let m = h .meets .meets in
-            (answered k _ m, λ ne. let u = unchanged k _ m ne in (h .meets .stored ∙ u .store lent l, h .altered ∙ u .altered));
+            (answered k _ m, λ ne. let o = unchanged k _ m ne in (h .meets .stored ∙ o .store lent l, h .altered ∙ o .altered));
+        marked = λ id r h. answered (Mark id) r (h .meets);
         drawn = λ k r lent left l h. (answered k r (h .meets), λ ne. h .shown ∙ unchanged k r (h .meets) ne .screen lent l);
         created = λ k r h. (answered k _ (h .meets), λ ne. no-id (r .id) (h .id ∙ unchanged k _ (h .meets) ne .id));
         popped = λ k r h. (answered k _ (h .meets), λ ne. no-event (r .event) (h .event ∙ unchanged k _ (h .meets) ne .event));
