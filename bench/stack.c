@@ -80,10 +80,10 @@ static void scene(int windows) {
         if (k == 0)
             roq_resize(s, 0, WIDTH, HEIGHT, store, 16 * C);
         else if (k % 2)
-            roq_resize(s, (uint16_t)k, WIDTH, 20, store, 16 * C), roq_move(s, (uint16_t)k, 0, at);
+            roq_resize(s, (uint32_t)k, WIDTH, 20, store, 16 * C), roq_move(s, (uint32_t)k, 0, at);
         else
-            roq_resize(s, (uint16_t)k, 20, HEIGHT, store, 16 * C), roq_move(s, (uint16_t)k, at, 0);
-        roq_show(s, (uint16_t)k);
+            roq_resize(s, (uint32_t)k, 20, HEIGHT, store, 16 * C), roq_move(s, (uint32_t)k, at, 0);
+        roq_show(s, (uint32_t)k);
     }
     roq_add_display(s, whole);
     roq_maximise(s, 0, store, 16 * C);

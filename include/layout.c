@@ -10,7 +10,7 @@ SIZE(RoqPos, 8);
 SIZE(RoqDims, 8);
 SIZE(RoqRect, 16);
 SIZE(RoqEvent, 20);
-SIZE(RoqSession, 5744);
+SIZE(RoqSession, 5784);
 SIZE(RoqCreated, 8);
 SIZE(RoqPopped, 24);
 SIZE(RoqAltered, 16);
@@ -62,33 +62,34 @@ static RoqRect rect(uint32_t x, uint32_t y, uint32_t w, uint32_t h) {
 /* A walk over the two windows that are shown, in the session's last words. */
 static void walk(void) {
     EXPECT(roq_portion(s, 8, 8, store, 16 * C, screen, 64) == 20);
-    EXPECT(roq_begin(s, true) == 0 && s->words[702] == 0 && (s->words[703] & 0xffff) == 0x0101);
-    EXPECT(roq_portion(s, 8, 8, store, 16 * C, screen, 63) == 8 && s->words[702] == 0);
-    EXPECT(roq_portion(s, 8, 8, store, 16 * C, screen, 64) == 0 && s->words[702] == 1);
-    EXPECT(roq_portion(s, 8, 8, store, 16 * C, screen, 64) == 0 && (s->words[703] & 0xff) == 0);
+    EXPECT(roq_begin(s, true) == 0 && s->words[707] == 0 && (s->words[708] & 0xffff) == 0x0101);
+    EXPECT(roq_portion(s, 8, 8, store, 16 * C, screen, 63) == 8 && s->words[707] == 0);
+    EXPECT(roq_portion(s, 8, 8, store, 16 * C, screen, 64) == 0 && s->words[707] == 1);
+    EXPECT(roq_portion(s, 8, 8, store, 16 * C, screen, 64) == 0 && (s->words[708] & 0xff) == 0);
     EXPECT(roq_portion(s, 8, 8, store, 16 * C, screen, 64) == 20);
 }
 
-/* Dimming, a byte behind the focus; each switch owes a full redraw; a pixel that a redraw writes, and the store's, which stays. */
+/* Dimming, a byte in the word behind the focus; each switch owes a full redraw; a pixel that a redraw writes, and the
+ * store's, which stays. */
 static void dims(void) {
     EXPECT(roq_resize(s, 7, 1, 1, store, 16 * C) == 0 && roq_fill(s, 7, rect(0, 0, 1, 1), 0x80ff8001, store, 16 * C).answer == 0);
     EXPECT(roq_redraw(s, false, 8, 8, store, 16 * C, screen, 64) == 0 && screen[0] == 0x80ff8001);
-    EXPECT(roq_dim(s, false) == 0 && (s->words[701] >> 48 & 0xff) == 0 && (s->words[704] & 0xff) == 0);
-    EXPECT(roq_dim(s, true) == 0 && (s->words[701] >> 48 & 0xff) == 1 && (s->words[704] & 0xff) == 1);
+    EXPECT(roq_dim(s, false) == 0 && (s->words[706] & 0xff) == 0 && (s->words[709] & 0xff) == 0);
+    EXPECT(roq_dim(s, true) == 0 && (s->words[706] & 0xff) == 1 && (s->words[709] & 0xff) == 1);
     EXPECT(roq_redraw(s, false, 8, 8, store, 16 * C, screen, 64) == 0 && screen[0] == 0x80ff4000 && store[7 * C] == 0x80ff8001);
-    EXPECT(roq_dim(s, false) == 0 && (s->words[701] >> 48 & 0xff) == 0 && roq_redraw(s, false, 8, 8, store, 16 * C, screen, 64) == 0);
+    EXPECT(roq_dim(s, false) == 0 && (s->words[706] & 0xff) == 0 && roq_redraw(s, false, 8, 8, store, 16 * C, screen, 64) == 0);
     EXPECT(screen[0] == 0x80ff8001 && roq_resize(s, 7, 0, 0, store, 16 * C) == 0);
 }
 
 /* The layers, a byte for each id in two words; a change owes a full redraw, the focus stays, and what is set stays set. */
 static void layers(void) {
     EXPECT(roq_redraw(s, false, 8, 8, store, 16 * C, screen, 64) == 0 && roq_set_layer(s, 7, 0) == 0);
-    EXPECT((s->words[704] & 0xff) == 0 && s->words[705] == 0 && s->words[706] == 0);
-    EXPECT(roq_set_layer(s, 7, 1) == 0 && (s->words[704] & 0xff) == 1 && s->words[705] >> 56 == 1 && roq_focus(s) == LAST);
-    EXPECT(roq_set_layer(s, 7, 2) == 17 && roq_set_layer(s, 16, 2) == 3 && s->words[705] >> 56 == 1 && s->words[706] == 0);
+    EXPECT((s->words[709] & 0xff) == 0 && s->words[710] == 0 && s->words[711] == 0);
+    EXPECT(roq_set_layer(s, 7, 1) == 0 && (s->words[709] & 0xff) == 1 && s->words[710] >> 56 == 1 && roq_focus(s) == LAST);
+    EXPECT(roq_set_layer(s, 7, 2) == 17 && roq_set_layer(s, 16, 2) == 3 && s->words[710] >> 56 == 1 && s->words[711] == 0);
     EXPECT(roq_hide(s, 7) == 0 && roq_set_layer(s, 7, 0) == 0 && roq_show(s, 7) == 0 && roq_set_layer(s, LAST, 1) == 0);
-    EXPECT(s->words[705] == 0 && s->words[706] >> 56 == 1 && roq_focus(s) == 7 && roq_drop(s, LAST) == 0);
-    EXPECT(roq_create(s).id == LAST && s->words[706] == 0);
+    EXPECT(s->words[710] == 0 && s->words[711] >> 56 == 1 && roq_focus(s) == 7 && roq_drop(s, LAST) == 0);
+    EXPECT(roq_create(s).id == LAST && s->words[711] == 0);
     EXPECT(roq_resize(s, LAST, 200, 150, store, 16 * C) == 0 && roq_move(s, LAST, 3000, 4000) == 0 && roq_show(s, LAST) == 0);
     EXPECT(roq_redraw(s, false, 8, 8, store, 16 * C, screen, 64) == 0);
 }
@@ -97,20 +98,20 @@ static void layers(void) {
  * takes the display that it is on, a refused update_dims changes nothing, and a move clears the flag. */
 static void displays(void) {
     RoqDisplay none = roq_display_at(s, 5, 6);
-    EXPECT(none.answer == 0 && !none.on && is_rect(none.rect, 0, 0, 0, 0) && (s->words[717] & 0xff) == 0 && s->words[707] == 0 && s->words[708] == 0);
-    EXPECT(roq_add_display(s, rect(1, 2, 3, 32768)) == 5 && roq_add_display(s, rect(1, 2, 0, 4)) == 15 && (s->words[717] & 0xff) == 0);
-    EXPECT(roq_add_display(s, rect(100, 200, 30, 40)) == 0 && s->words[709] == (UINT64_C(40) << 48 | UINT64_C(30) << 32 | 200 << 16 | 100));
+    EXPECT(none.answer == 0 && !none.on && is_rect(none.rect, 0, 0, 0, 0) && (s->words[722] & 0xff) == 0 && s->words[712] == 0 && s->words[713] == 0);
+    EXPECT(roq_add_display(s, rect(1, 2, 3, 32768)) == 5 && roq_add_display(s, rect(1, 2, 0, 4)) == 15 && (s->words[722] & 0xff) == 0);
+    EXPECT(roq_add_display(s, rect(100, 200, 30, 40)) == 0 && s->words[714] == (UINT64_C(40) << 48 | UINT64_C(30) << 32 | 200 << 16 | 100));
     for (uint32_t i = 1; i < 8; i++)
-        EXPECT(roq_add_display(s, rect(1000 * i, 1, 8, 1)) == 0 && (s->words[717] & 0xff) == i + 1);
-    EXPECT(roq_add_display(s, rect(0, 0, 1, 1)) == 16 && s->words[716] == (UINT64_C(1) << 48 | UINT64_C(8) << 32 | 1 << 16 | 7000));
+        EXPECT(roq_add_display(s, rect(1000 * i, 1, 8, 1)) == 0 && (s->words[722] & 0xff) == i + 1);
+    EXPECT(roq_add_display(s, rect(0, 0, 1, 1)) == 16 && s->words[721] == (UINT64_C(1) << 48 | UINT64_C(8) << 32 | 1 << 16 | 7000));
     RoqDisplay on = roq_display_at(s, 129, 239), near = roq_display_at(s, 130, 239);
     EXPECT(on.answer == 0 && on.on && is_rect(on.rect, 100, 200, 30, 40) && roq_display_at(s, 32768, 0).answer == 5);
     EXPECT(near.answer == 0 && !near.on && is_rect(near.rect, 100, 200, 30, 40));
     EXPECT(roq_move(s, 7, 110, 210) == 0 && roq_maximise(s, 7, store, 16 * C - 1) == 1 && roq_maximise(s, 16, store, 16 * C) == 3);
-    EXPECT(roq_maximise(s, 7, store, 16 * C) == 0 && is_rect(roq_rect_of(s, 7).rect, 100, 200, 30, 40) && s->words[707] >> 56 == 1);
+    EXPECT(roq_maximise(s, 7, store, 16 * C) == 0 && is_rect(roq_rect_of(s, 7).rect, 100, 200, 30, 40) && s->words[712] >> 56 == 1);
     EXPECT(roq_pop(s, 7).event.kind == ROQ_RESIZE && roq_update_dims(s, store, 16 * C - 1) == 1 && roq_update_dims(s, store, 16 * C) == 0);
-    EXPECT(is_rect(roq_rect_of(s, LAST).rect, 3000, 1, 200, 150) && s->words[707] >> 56 == 1 && s->words[708] == 0);
-    EXPECT(roq_resize(s, 7, 0, 0, store, 16 * C) == 0 && s->words[707] == 0 && roq_move(s, 7, 0, 0) == 0);
+    EXPECT(is_rect(roq_rect_of(s, LAST).rect, 3000, 1, 200, 150) && s->words[712] >> 56 == 1 && s->words[713] == 0);
+    EXPECT(roq_resize(s, 7, 0, 0, store, 16 * C) == 0 && s->words[712] == 0 && roq_move(s, 7, 0, 0) == 0);
     EXPECT(roq_move(s, LAST, 3000, 4000) == 0 && roq_redraw(s, false, 8, 8, store, 16 * C, screen, 64) == 0);
 }
 
@@ -119,12 +120,13 @@ static RoqEvent mouse(uint8_t kind, uint32_t x, uint32_t y, uint8_t button, uint
     return e;
 }
 
-/* The window that took the last MouseDown, in the byte behind dimming, or 16; a release off it, at its last pixel, and one that it refuses. */
+/* The window that took the last MouseDown, in the upper half of that word, or 16; a release off it, at its last pixel,
+ * and one that it refuses. */
 static void releases(void) {
-    EXPECT(s->words[701] >> 56 == 16 && roq_route(s, mouse(ROQ_MOUSE_DOWN, 3001, 4002, 1, 0)) == 0 && s->words[701] >> 56 == LAST);
+    EXPECT(s->words[706] >> 32 == 16 && roq_route(s, mouse(ROQ_MOUSE_DOWN, 3001, 4002, 1, 0)) == 0 && s->words[706] >> 32 == LAST);
     EXPECT(roq_pop(s, LAST).event.kind == ROQ_RESIZE && roq_pop(s, LAST).event.kind == ROQ_MOUSE_DOWN);
-    EXPECT(roq_route(s, mouse(ROQ_MOUSE_UP, 3001, 40000, 1, 0)) == 5 && s->words[701] >> 56 == LAST);
-    EXPECT(roq_route(s, mouse(ROQ_MOUSE_UP, 9, 9000, 1, 0)) == 0 && s->words[701] >> 56 == 16);
+    EXPECT(roq_route(s, mouse(ROQ_MOUSE_UP, 3001, 40000, 1, 0)) == 5 && s->words[706] >> 32 == LAST);
+    EXPECT(roq_route(s, mouse(ROQ_MOUSE_UP, 9, 9000, 1, 0)) == 0 && s->words[706] >> 32 == 16);
     RoqEvent up = roq_pop(s, LAST).event;
     EXPECT(up.kind == ROQ_MOUSE_UP && up.x == 0 && up.y == 149 && up.button == 1);
     EXPECT(roq_route(s, mouse(ROQ_MOUSE_UP, 9, 9000, 1, 0)) == 11);
@@ -187,8 +189,8 @@ static void looks(void) {
 /* A session as large as the library's: its last words hold C, the focus, dimming and the window of the last MouseDown, the walk's next place,
  * whether it is on and full, the debt, the layers, the flags and the displays; nothing is written beyond. */
 static void session(void) {
-    EXPECT(roq_start(s, C) == 0 && (uint32_t)s->words[701] == C);
-    for (int id = 0; id < 16; id++) {
+    EXPECT(roq_start(s, C) == 0 && (uint32_t)s->words[705] == C);
+    for (uint32_t id = 0; id < 16; id++) {
         RoqCreated made = roq_create(s);
         EXPECT(made.answer == 0 && made.id == id);
     }
@@ -196,9 +198,9 @@ static void session(void) {
     EXPECT(none.answer == 4 && none.id == ROQ_NO_ID);
     EXPECT(roq_resize(s, LAST, 200, 150, store, 16 * C) == 0 && roq_move(s, LAST, 3000, 4000) == 0);
     EXPECT(roq_show(s, 7) == 0 && roq_show(s, LAST) == 0 && roq_focus(s) == LAST);
-    EXPECT((s->words[701] >> 32 & 0xffff) == LAST && (s->words[704] & 0xff) == 1);
+    EXPECT(s->words[705] >> 32 == LAST && (s->words[709] & 0xff) == 1);
     EXPECT(roq_mark(s, LAST) == 0 && roq_redraw(s, false, 8, 8, store, 16 * C, screen, 64) == 0);
-    EXPECT((s->words[704] & 0xff) == 0);
+    EXPECT((s->words[709] & 0xff) == 0);
     walk();
     dims();
     layers();

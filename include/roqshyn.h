@@ -63,10 +63,11 @@
  * least one pixel between a button and the edge; else it counts as let go on the button. There is no call to raise a window: hide and show it,
  * before its press is routed, since a hide forgets the press; roq_hits says which window that will be.
  *
- * Limits. Ids are 16 bits wide. A larger number is cut on its way into the call and may then be an id in use, as 65,536 is 0: check it before;
- * the Rust bindings do. A pixel has red in bits 16 to 23, green in 8 to 15, blue in 0 to 7; the top byte is kept as it is. No call takes as much
- * as 16 KiB of stack: measured by include/test, not proved. roq_start comes first. Without it a session of zeros answers as one with C = 0,
- * measured and not promised: windows are created and shown, but a call that is lent a store with any pixel answers 1, and nothing is drawn. */
+ * Limits. Ids are 0 to 15. Any other number may be given; it is no window's, and question 3 is answered with a no. A
+ * pixel has red in bits 16 to 23, green in 8 to 15, blue in 0 to 7; the top byte is kept as it is. No call takes as much
+ * as 16 KiB of stack: measured by include/test, not proved. roq_start comes first. Without it a session of zeros answers
+ * as one with C = 0, measured and not promised: windows are created and shown, but a call that is lent a store with any
+ * pixel answers 1, and nothing is drawn. */
 #ifndef ROQSHYN_H
 #define ROQSHYN_H
 
@@ -115,51 +116,50 @@ typedef struct RoqEvent {
 
 /* ---- A session ---- */
 
-/* 5,744 bytes. */
+/* 5,784 bytes. */
 typedef struct RoqSession {
-    uint64_t words[718];
+    uint64_t words[723];
 } RoqSession;
 
 /* Begins a session without windows, whose windows will have room for c pixels each. Asks 2; on a no it begins one all the same, with
  * C = 1. Before the call the memory holds zeros (RoqSession s = {0};) or a session, which ends, also on a no. */
 uint32_t roq_start(RoqSession *s, uint32_t c);
 
-/* The id that there is not. */
-#define ROQ_NO_ID 65535
+/* The id that there is not, which no window has. */
+#define ROQ_NO_ID UINT32_MAX
 
 /* What a create gives: on a no the id is ROQ_NO_ID. */
 typedef struct RoqCreated {
-    uint32_t answer;
-    uint16_t id;
+    uint32_t answer, id;
 } RoqCreated;
 
 /* A window with the smallest unused id, at (0,0), of size (0,0), hidden, on layer 0, not maximised. Asks 4. */
 RoqCreated roq_create(RoqSession *s);
 
 /* Puts a window on top of its layer and gives it the focus; does nothing where it is shown. Asks 3. */
-uint32_t roq_show(RoqSession *s, uint16_t id);
+uint32_t roq_show(RoqSession *s, uint32_t id);
 
 /* Takes a window off the screen; a focus goes to the next lower one, from the lowest to the one that is lowest then, and a MouseUp does not
  * come to it any more. Does nothing where it is hidden. Asks 3. */
-uint32_t roq_hide(RoqSession *s, uint16_t id);
+uint32_t roq_hide(RoqSession *s, uint32_t id);
 
 /* Hides a window and frees its id; its pixels stay in the store. Asks 3. */
-uint32_t roq_drop(RoqSession *s, uint16_t id);
+uint32_t roq_drop(RoqSession *s, uint32_t id);
 
 /* Has the next redraw draw a window's damage, or all that is seen of it where it has none. Asks 3. */
-uint32_t roq_mark(RoqSession *s, uint16_t id);
+uint32_t roq_mark(RoqSession *s, uint32_t id);
 
 /* Places a window's top left corner; it is not maximised then. Asks 3, 5. */
-uint32_t roq_move(RoqSession *s, uint16_t id, uint32_t x, uint32_t y);
+uint32_t roq_move(RoqSession *s, uint32_t id, uint32_t x, uint32_t y);
 
 /* Puts a window on layer 0 or 1. The shown windows of layer 1 stand above all of layer 0, so that none of layer 0 covers them or takes a press
  * on them. A shown window goes to the top of its new layer; the focus stays where it is. To give the layer that it has changes nothing. Asks
  * 3, 17. */
-uint32_t roq_set_layer(RoqSession *s, uint16_t id, uint32_t layer);
+uint32_t roq_set_layer(RoqSession *s, uint32_t id, uint32_t layer);
 
 /* Gives a window another size: the pixels of both sizes stay, all others of its C become 0. Queues a Resize for it, if there is room. It is
  * not maximised then. Writes the store. Asks 1, 3, 5, 6. */
-uint32_t roq_resize(RoqSession *s, uint16_t id, uint32_t w, uint32_t h, uint32_t *store, size_t store_len);
+uint32_t roq_resize(RoqSession *s, uint32_t id, uint32_t w, uint32_t h, uint32_t *store, size_t store_len);
 
 /* Adds a display, which is a rectangle of the one screen; displays may overlap. There are up to eight, in order of adding, and none is taken
  * away. Asks 5, 15, 16. */
@@ -178,7 +178,7 @@ RoqDisplay roq_display_at(const RoqSession *s, uint32_t x, uint32_t y);
 
 /* A window takes the display that its position is on, corner and size, as by roq_resize, or (0,0,0,0) if it is on none. It is maximised until a
  * roq_move or roq_resize of it is accepted. Question 6 is of the size that it takes. Writes the store. Asks 1, 3, 6. */
-uint32_t roq_maximise(RoqSession *s, uint16_t id, uint32_t *store, size_t store_len);
+uint32_t roq_maximise(RoqSession *s, uint32_t id, uint32_t *store, size_t store_len);
 
 /* Puts all windows where displays are, hidden ones too. A maximised one takes the display that its position is on, or else the closest, as by
  * roq_resize, and stays maximised. Another on no display comes to the closest: its corner at most to 20 pixels before the right and bottom end,
@@ -194,11 +194,11 @@ typedef struct RoqAltered {
 
 /* Fills the part of the area, relative to the window, that lies in it, and counts the pixels of the store that it altered: 0 where the
  * panel was painted for nothing. Writes the store. Asks 1, 3, 5. */
-RoqAltered roq_fill(RoqSession *s, uint16_t id, RoqRect area, uint32_t colour, uint32_t *store, size_t store_len);
+RoqAltered roq_fill(RoqSession *s, uint32_t id, RoqRect area, uint32_t colour, uint32_t *store, size_t store_len);
 
 /* Rows of the area, relative to the window, take successive chunks of `stride` data, cut to the area's width; data may end early, and
  * what lies outside the window is left out. Counts the pixels that it altered. Reads the data, writes the store. Asks 1, 3, 5, 7. */
-RoqAltered roq_blit(RoqSession *s, uint16_t id, RoqRect area, size_t stride, const uint32_t *data, size_t data_len, uint32_t *store,
+RoqAltered roq_blit(RoqSession *s, uint32_t id, RoqRect area, size_t stride, const uint32_t *data, size_t data_len, uint32_t *store,
                     size_t store_len);
 
 /* Hands an event on: keys and Text to the focus, if it is shown; pointer events to the topmost window at the point, relative to it;
@@ -216,7 +216,7 @@ typedef struct RoqPopped {
 } RoqPopped;
 
 /* The oldest event of a window's queue, or else its unread MouseMove. Asks 3, 10. */
-RoqPopped roq_pop(RoqSession *s, uint16_t id);
+RoqPopped roq_pop(RoqSession *s, uint32_t id);
 
 /* Draws the shown windows on the screen, lowest first: everything where `told` or where a full redraw is owed, else the marked windows. Reads
  * the store, writes the screen. Asks 1, 8. */
@@ -246,7 +246,7 @@ typedef struct RoqListing {
 
 /* The visible rectangles of a window, relative to it, as x, y, w, h each. Writes the front of the list; 1,984 numbers always suffice.
  * A hidden window has none. Asks 3, 9. */
-RoqListing roq_visible(const RoqSession *s, uint16_t id, uint32_t *list, size_t list_len);
+RoqListing roq_visible(const RoqSession *s, uint32_t id, uint32_t *list, size_t list_len);
 
 /* How much of a window is in view: on a no percent and remainder are 0. */
 typedef struct RoqShare {
@@ -255,7 +255,7 @@ typedef struct RoqShare {
 
 /* 100 x its unobscured pixels, divided by w x h, as whole percent and remainder: 100 x the pixels = percent x w x h + remainder. Pixels
  * off the screen count too. Asks 3, 24. */
-RoqShare roq_share(const RoqSession *s, uint16_t id);
+RoqShare roq_share(const RoqSession *s, uint32_t id);
 
 /* Which windows lie under up to 32 points, given as x, y each: for each point, in their order, three numbers, the window that a press there
  * would go to and the point relative to it, or 16, 0, 0 where there is none. Nothing is delivered, and a full queue changes no answer.
@@ -272,7 +272,7 @@ typedef struct RoqLook {
 /* Fills a target of tw by th pixels with what a look shows of a window, shown or hidden: target pixel (i,j) is the window's pixel at
  * (x + i / factor, y + j / factor), each sum rounded down, and 0 outside the window. A corner number of -0.0 counts as 0; any double may be
  * given, NaNs too. Reads the store, writes every pixel of the target; what the window shows is not dimmed. Asks 1, 3, 22, 23. */
-uint32_t roq_look(const RoqSession *s, uint16_t id, RoqLook look, uint32_t tw, uint32_t th, const uint32_t *store, size_t store_len,
+uint32_t roq_look(const RoqSession *s, uint32_t id, RoqLook look, uint32_t tw, uint32_t th, const uint32_t *store, size_t store_len,
                   uint32_t *target, size_t target_len);
 
 /* The visible part of a window, relative to it, as a sheet for the plan printer: packed bits, most significant first. They are the count of bands
@@ -281,10 +281,10 @@ uint32_t roq_look(const RoqSession *s, uint16_t id, RoqLook look, uint32_t tw, u
  * interval. Bands go down and intervals rightward; no two intervals of a band touch, and bands that touch differ in their intervals, so that sheets
  * are equal exactly where their pixels are. Zero bits fill the last byte. A window that is hidden, wholly covered or without pixels has one zero
  * byte. Gives the count of bytes. Writes the front of the buffer; 2,048 bytes always suffice. Asks 3, 19. */
-RoqListing roq_sheet(const RoqSession *s, uint16_t id, uint8_t *bytes, size_t bytes_len);
+RoqListing roq_sheet(const RoqSession *s, uint32_t id, uint8_t *bytes, size_t bytes_len);
 
 /* The window that has the focus; 0 where none is shown. Asks nothing. */
-uint16_t roq_focus(const RoqSession *s);
+uint32_t roq_focus(const RoqSession *s);
 
 /* Where a window is: on a no (0,0,0,0). */
 typedef struct RoqPlaced {
@@ -293,7 +293,7 @@ typedef struct RoqPlaced {
 } RoqPlaced;
 
 /* A window's position and size. Asks 3. */
-RoqPlaced roq_rect_of(const RoqSession *s, uint16_t id);
+RoqPlaced roq_rect_of(const RoqSession *s, uint32_t id);
 
 /* ---- Rectangles alone: these ask 14 ---- */
 

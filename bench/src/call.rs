@@ -8,35 +8,35 @@ pub struct Area(pub u32, pub u32, pub u32, pub u32);
 #[derive(Clone, Debug)]
 pub enum Call {
     Create,
-    Show(u16),
-    Hide(u16),
-    Drop(u16),
-    Mark(u16),
-    Move(u16, u32, u32),
-    Layer(u16, u32),
-    Resize(u16, u32, u32),
+    Show(u32),
+    Hide(u32),
+    Drop(u32),
+    Mark(u32),
+    Move(u32, u32, u32),
+    Layer(u32, u32),
+    Resize(u32, u32, u32),
     Display(Area),
     DisplayAt(u32, u32),
-    Maximise(u16),
+    Maximise(u32),
     UpdateDims,
-    Fill(u16, Area, u32),
+    Fill(u32, Area, u32),
     /// The data have the area's width as their stride.
-    Blit(u16, Area, Vec<u32>),
+    Blit(u32, Area, Vec<u32>),
     Press(u32, u32),
     Release(u32, u32),
     /// A MouseMove.
     Point(u32, u32),
-    Pop(u16),
+    Pop(u32),
     Redraw(bool),
     Begin(bool),
     Portion,
     Dim(bool),
-    Visible(u16),
-    Share(u16),
+    Visible(u32),
+    Share(u32),
     Hits(Vec<Pos>),
     /// At window 0, from a corner on: a factor, or none to fit. The screen is the target.
     Look(f64, f64, Option<f64>),
-    Sheet(u16),
+    Sheet(u32),
     /// The last sheet that was written.
     ReadSheet,
     Busiest(Vec<u32>),
@@ -104,7 +104,7 @@ pub enum Reply {
 /// All that a side shows of itself.
 #[derive(PartialEq)]
 pub struct State {
-    pub focus: u16,
+    pub focus: u32,
     /// Of each window.
     pub visible: Vec<Vec<Area>>,
     pub pixels: Vec<Vec<u32>>,

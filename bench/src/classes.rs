@@ -99,7 +99,7 @@ fn order() -> Vec<Class> {
 }
 
 /// To and fro.
-fn moves(id: u16) -> Vec<Call> {
+fn moves(id: u32) -> Vec<Call> {
     let (x, y) = (u32::from(id) * STEP.0, u32::from(id) * STEP.1);
     vec![Call::Move(id, x + 1, y + 1), Call::Move(id, x, y)]
 }

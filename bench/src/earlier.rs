@@ -43,13 +43,13 @@ pub fn has_displays() -> bool {
 pub fn has(class: &Class) -> bool {
     let mut session = Session::start(1).expect("C is 1");
     if let [Call::Share(_)] = class.timed[..] {
-        return session.share(Id::from(0_u16)) == Err(Error::UnknownId);
+        return session.share(Id::from(0)) == Err(Error::UnknownId);
     }
     if let [Call::Sheet(_) | Call::ReadSheet] = class.timed[..] {
-        return session.sheet(Id::from(0_u16), &mut []) == Err(Error::UnknownId);
+        return session.sheet(Id::from(0), &mut []) == Err(Error::UnknownId);
     }
     if let [Call::Layer(..), ..] = class.timed[..] {
-        return session.set_layer(Id::from(0_u16), 0) == Err(Error::UnknownId);
+        return session.set_layer(Id::from(0), 0) == Err(Error::UnknownId);
     }
     if let [Call::Maximise(_) | Call::UpdateDims | Call::DisplayAt(..), ..] = class.timed[..] {
         return has_displays();
@@ -60,7 +60,7 @@ pub fn has(class: &Class) -> bool {
     match class.beside {
         Beside::Undivided => session.begin(false).is_ok(),
         Beside::Table | Beside::Bright => session.dim(false).is_ok(),
-        Beside::Floats => session.look(Id::from(0_u16), Look::fit(), 1, 1, &[0; 16], &mut [0]) == Err(Error::UnknownId),
+        Beside::Floats => session.look(Id::from(0), Look::fit(), 1, 1, &[0; 16], &mut [0]) == Err(Error::UnknownId),
         Beside::OnePass | Beside::Square => busiest(&[]).is_ok(),
         _ => true,
     }

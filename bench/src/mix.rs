@@ -9,7 +9,7 @@ const GRIP: u32 = 20;
 
 /// The panel that is dragged, where it lies at first, and how far an event drags it.
 pub struct Drag {
-    pub id: u16,
+    pub id: u32,
     pub start: (u32, u32),
     pub step: (u32, u32),
 }

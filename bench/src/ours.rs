@@ -43,8 +43,8 @@ impl Ours {
         }
     }
 
-    fn pixels(&self, id: u16) -> Vec<u32> {
-        let start = usize::from(id) * self.c;
+    fn pixels(&self, id: u32) -> Vec<u32> {
+        let start = id as usize * self.c;
         match self.session.rect_of(Id::from(id)) {
             Ok(Rect { dims, .. }) => self.store[start..start + (dims.w * dims.h) as usize].to_vec(),
             Err(_) => Vec::new(),
@@ -91,9 +91,9 @@ impl Ours {
     }
 
     /// The visible rectangles of a window, as far as they lie on the screen.
-    fn pieces(&mut self, id: u16) -> Vec<Piece> {
+    fn pieces(&mut self, id: u32) -> Vec<Piece> {
         let Rect { pos: Pos { x, y }, dims } = self.session.rect_of(Id::from(id)).unwrap_or_default();
-        let from = usize::from(id) * self.c;
+        let from = id as usize * self.c;
         let visible = self.visible(id);
         let piece = |Area(left, top, width, height)| {
             let (x, y) = (x + left, y + top);
@@ -103,7 +103,7 @@ impl Ours {
         visible.into_iter().map(piece).collect()
     }
 
-    fn visible(&mut self, id: u16) -> Vec<Area> {
+    fn visible(&mut self, id: u32) -> Vec<Area> {
         let seen = self.session.visible(Id::from(id), &mut self.list).unwrap_or_default();
         seen.iter().map(area).collect()
     }
@@ -114,12 +114,12 @@ impl Ours {
 
     /// Hands on what a look at window 0 is lent: the window's pixels, its width and height, the target and its width.
     pub fn look_by(&mut self, look: impl FnOnce(&[u32], usize, usize, &mut [u32], usize)) {
-        let size = self.session.rect_of(Id::from(0_u16)).unwrap_or_default().dims;
+        let size = self.session.rect_of(Id::from(0)).unwrap_or_default().dims;
         look(&self.store[..self.c], size.w as usize, size.h as usize, &mut self.screen, self.width as usize);
     }
 
     /// The share of a window by the areas of its visible list.
-    pub fn listed_share(&mut self, id: u16) -> Result<Share, Error> {
+    pub fn listed_share(&mut self, id: u32) -> Result<Share, Error> {
         let dims = self.session.rect_of(Id::from(id)).unwrap_or_default().dims;
         let seen = self.session.visible(Id::from(id), &mut self.list).unwrap_or_default();
         shares::share(seen.iter().map(|r| r.dims.w * r.dims.h).sum(), dims.w * dims.h)
@@ -162,7 +162,7 @@ impl Side for Ours {
             }
             Call::Look(x, y, factor) => {
                 let look = Look { x, y, zoom: factor.map_or(Zoom::Fit, Zoom::Factor) };
-                answer(s.look(Id::from(0_u16), look, self.width, self.height, &self.store, &mut self.screen))
+                answer(s.look(Id::from(0), look, self.width, self.height, &self.store, &mut self.screen))
             }
             Call::Sheet(id) => {
                 let sheet = s.sheet(Id::from(id), &mut self.bytes);
@@ -207,7 +207,7 @@ impl Side for Ours {
 
     fn state(&mut self) -> State {
         State {
-            focus: u32::from(self.session.focus()) as u16,
+            focus: u32::from(self.session.focus()),
             visible: (0..16).map(|id| self.visible(id)).collect(),
             pixels: (0..16).map(|id| self.pixels(id)).collect(),
             screen: self.screen.clone(),

@@ -206,27 +206,27 @@ impl Side for Pixman {
                 return Reply::Id(self.windows.len() as u32 - 1);
             }
             Call::Resize(id, w, h) => {
-                self.windows[usize::from(id)] = Window { at: Area(0, 0, w, h), picture: Picture::new(w, h) };
+                self.windows[id as usize] = Window { at: Area(0, 0, w, h), picture: Picture::new(w, h) };
             }
             Call::Display(region) => self.displays.push(region),
             Call::Maximise(id) => {
-                let at = self.windows[usize::from(id)].at;
+                let at = self.windows[id as usize].at;
                 let has = |d: &&Area| (d.0..d.0 + d.2).contains(&at.0) && (d.1..d.1 + d.3).contains(&at.1);
                 let display = *self.displays.iter().find(has).expect("a display");
                 let picture = Picture::new(display.2, display.3);
-                self.windows[usize::from(id)] = Window { at: display, picture };
+                self.windows[id as usize] = Window { at: display, picture };
             }
             Call::Pop(_) => return Reply::Event(Some(Popped::Resize)),
-            Call::Fill(id, area, colour) => self.windows[usize::from(id)].picture.fill(area, colour),
+            Call::Fill(id, area, colour) => self.windows[id as usize].picture.fill(area, colour),
             Call::Move(id, x, y) => {
-                let at = &mut self.windows[usize::from(id)].at;
+                let at = &mut self.windows[id as usize].at;
                 *at = Area(x, y, at.2, at.3);
             }
             Call::Show(_) => {}
             Call::Redraw(true) => self.redraw(),
-            Call::Visible(id) => return Reply::Count(self.seen(usize::from(id)).rectangles().len()),
-            Call::Share(id) => return Reply::Share(self.share(usize::from(id))),
-            Call::Sheet(id) => self.sheet = Some((usize::from(id), self.seen(usize::from(id)))),
+            Call::Visible(id) => return Reply::Count(self.seen(id as usize).rectangles().len()),
+            Call::Share(id) => return Reply::Share(self.share(id as usize)),
+            Call::Sheet(id) => self.sheet = Some((id as usize, self.seen(id as usize))),
             Call::ReadSheet => {
                 let (id, _) = self.sheet.as_ref().expect("a sheet");
                 return Reply::Count(self.seen(*id).rectangles().len());
@@ -245,7 +245,7 @@ impl Side for Pixman {
         let mut visible: Vec<Vec<Area>> = (0..self.windows.len()).map(|id| self.relative(id, &self.seen(id))).collect();
         pixels.resize(16, Vec::new());
         visible.resize(16, Vec::new());
-        let (focus, screen) = (self.windows.len() as u16 - 1, self.screen.pixels.clone());
+        let (focus, screen) = (self.windows.len() as u32 - 1, self.screen.pixels.clone());
         let sheet = self.sheet.as_ref().map_or(Vec::new(), |(id, region)| self.relative(*id, region));
         State { focus, visible, pixels, screen, points: Vec::new(), sheet }
     }

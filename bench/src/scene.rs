@@ -27,9 +27,9 @@ fn scene(width: u32, height: u32, places: &[Area]) -> Scene {
 }
 
 /// The same, brought to their places by these calls, of which one queues an event.
-fn placed(width: u32, height: u32, places: &[Area], come: impl Fn(u16, Area) -> [Call; 2]) -> Scene {
+fn placed(width: u32, height: u32, places: &[Area], come: impl Fn(u32, Area) -> [Call; 2]) -> Scene {
     let mut setup = Vec::new();
-    for (id, &place) in (0u16..).zip(places) {
+    for (id, &place) in (0u32..).zip(places) {
         let (colour, Area(_, _, w, h)) = (0x0020_3040 + 0x000f_0b07 * u32::from(id), place);
         setup.push(Call::Create);
         setup.extend(come(id, place));
@@ -41,12 +41,12 @@ fn placed(width: u32, height: u32, places: &[Area], come: impl Fn(u16, Area) -> 
     Scene { width, height, c, setup, common: true }
 }
 
-fn resized(id: u16, Area(x, y, w, h): Area) -> [Call; 2] {
+fn resized(id: u32, Area(x, y, w, h): Area) -> [Call; 2] {
     [Call::Resize(id, w, h), Call::Move(id, x, y)]
 }
 
 /// The place is a display.
-fn maximised(id: u16, Area(x, y, ..): Area) -> [Call; 2] {
+fn maximised(id: u32, Area(x, y, ..): Area) -> [Call; 2] {
     [Call::Move(id, x + 100, y + 50), Call::Maximise(id)]
 }
 

@@ -93,28 +93,28 @@ impl Side for Theirs {
         let g = &mut self.group;
         match *call {
             Call::Create => return Reply::Id(g.create() as u32),
-            Call::Pop(id) => return Reply::Event(g.pop(u32::from(id)).map(popped)),
-            Call::Visible(id) => return Reply::Count(g.visible(u32::from(id)).len()),
+            Call::Pop(id) => return Reply::Event(g.pop(id).map(popped)),
+            Call::Visible(id) => return Reply::Count(g.visible(id).len()),
             Call::DisplayAt(x, y) => return self.display_at(x, y),
             Call::Press(x, y) => return Reply::Answer(self.route(Event::MouseDown(x, y, 1))),
             Call::Release(x, y) => return Reply::Answer(self.route(Event::MouseUp(x, y, 1))),
             Call::Point(x, y) => return Reply::Answer(self.route(Event::MouseMove(x, y, 0, 0))),
-            Call::Show(id) => g.show(u32::from(id)),
-            Call::Hide(id) => g.hide(u32::from(id)),
-            Call::Drop(id) => g.drop(u32::from(id)),
-            Call::Mark(id) => g.mark(u32::from(id)),
-            Call::Move(id, x, y) => g.move_window(u32::from(id), x, y),
+            Call::Show(id) => g.show(id),
+            Call::Hide(id) => g.hide(id),
+            Call::Drop(id) => g.drop(id),
+            Call::Mark(id) => g.mark(id),
+            Call::Move(id, x, y) => g.move_window(id, x, y),
             // It has no layers: hidden and shown, the window is on top too.
             Call::Layer(id, _) => {
-                g.hide(u32::from(id));
-                g.show(u32::from(id));
+                g.hide(id);
+                g.show(id);
             }
-            Call::Resize(id, w, h) => g.resize(u32::from(id), w, h),
+            Call::Resize(id, w, h) => g.resize(id, w, h),
             Call::Display(region) => self.displays.push(rect(region)),
-            Call::Maximise(id) => g.maximise(u32::from(id)),
+            Call::Maximise(id) => g.maximise(id),
             Call::UpdateDims => g.update_dims(),
-            Call::Fill(id, a, colour) => g.fill(u32::from(id), rect(a), colour),
-            Call::Blit(id, a, ref data) => g.blit(u32::from(id), rect(a), data, a.2 as usize),
+            Call::Fill(id, a, colour) => g.fill(id, rect(a), colour),
+            Call::Blit(id, a, ref data) => g.blit(id, rect(a), data, a.2 as usize),
             Call::Redraw(told) => g.redraw(told || self.owed),
             Call::Hits(ref points) => {
                 self.points.clear();
@@ -141,7 +141,7 @@ impl Side for Theirs {
 
     fn state(&mut self) -> State {
         State {
-            focus: self.group.focus(),
+            focus: u32::from(self.group.focus()),
             visible: (0..16).map(|id| self.group.visible(id).iter().map(area).collect()).collect(),
             pixels: (0..16).map(|id| self.pixels(id)).collect(),
             screen: self.screen.lock().clone(),

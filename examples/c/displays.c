@@ -31,19 +31,19 @@ static RoqRect rect(uint32_t x, uint32_t y, uint32_t w, uint32_t h) {
 
 /* ---- Drawing: windows 0 to 7 are plans, 8 to 15 panels, in the order of their displays ---- */
 
-static void fill(uint16_t id, uint32_t x, uint32_t y, uint32_t w, uint32_t h, uint32_t colour) {
+static void fill(uint32_t id, uint32_t x, uint32_t y, uint32_t w, uint32_t h, uint32_t colour) {
     must("fill", roq_fill(&s, id, rect(x, y, w, h), colour, store, STORE).answer);
 }
 
 /* A digit of 3 by 5 squares: an octal digit is a row. */
-static void digit(uint16_t id, uint32_t value, uint32_t x, uint32_t y, uint32_t size, uint32_t ink) {
+static void digit(uint32_t id, uint32_t value, uint32_t x, uint32_t y, uint32_t size, uint32_t ink) {
     static const uint16_t rows[] = {026227, 061747, 061617, 055711, 074616, 034757, 071122, 075757};
     for (uint32_t i = 0; i < 15; i++)
         if (rows[value] >> (14 - i) & 1) fill(id, x + i % 3 * size, y + i / 3 * size, size, size, ink);
 }
 
 /* A frame, two tracks that go on from display to display, and a crossover between them. */
-static void paint_plan(uint16_t id) {
+static void paint_plan(uint32_t id) {
     fill(id, 0, 0, W, H, DARK);
     fill(id, 4, 4, W - 8, H - 8, GROUND);
     fill(id, 0, 320, W, 12, RAIL);
@@ -55,7 +55,7 @@ static void paint_plan(uint16_t id) {
 }
 
 /* As large as the panel is, with its buttons in the middle. */
-static void paint_panel(uint16_t id) {
+static void paint_panel(uint32_t id) {
     RoqDims size = roq_rect_of(&s, id).rect.dims;
     uint32_t x = size.w / 2 - 120, y = size.h / 2 - 48;
     fill(id, 0, 0, size.w, size.h, DARK);
@@ -68,7 +68,7 @@ static void paint_panel(uint16_t id) {
 
 /* A window that has another size paints itself, and is marked, or it would not be shown. */
 static void hear(void) {
-    for (uint16_t id = 0; id < 16; id++)
+    for (uint32_t id = 0; id < 16; id++)
         while (roq_pop(&s, id).event.kind == ROQ_RESIZE) {
             if (id < DISPLAYS) paint_plan(id);
             else paint_panel(id);
@@ -82,14 +82,14 @@ static void display(uint32_t k) {
     must("add_display", roq_add_display(&s, rect(k * W, 0, W, H)));
 }
 
-static void plan(uint16_t k) {
+static void plan(uint32_t k) {
     must("create", roq_create(&s).answer);
     must("move", roq_move(&s, k, k * W + 100, 50));
     must("maximise", roq_maximise(&s, k, store, STORE));
     must("show", roq_show(&s, k));
 }
 
-static void panel(uint16_t k) {
+static void panel(uint32_t k) {
     must("create", roq_create(&s).answer);
     must("resize", roq_resize(&s, DISPLAYS + k, PW, PH, store, STORE));
     must("move", roq_move(&s, DISPLAYS + k, k * W + 100, 100));
@@ -103,7 +103,7 @@ static void draw(void) {
 
 /* ---- What is told ---- */
 
-static void tell_window(const char *what, uint16_t id) {
+static void tell_window(const char *what, uint32_t id) {
     RoqRect at = roq_rect_of(&s, id).rect;
     printf("  %s at (%u,%u), %u by %u\n", what, (unsigned)at.pos.x, (unsigned)at.pos.y, (unsigned)at.dims.w, (unsigned)at.dims.h);
 }
@@ -144,11 +144,11 @@ static void picture(const char *name) {
 
 int main(int count, char **words) {
     must("start", roq_start(&s, C));
-    for (uint16_t k = 1; k < DISPLAYS; k++)
+    for (uint32_t k = 1; k < DISPLAYS; k++)
         display(k);
-    for (uint16_t k = 0; k < DISPLAYS; k++)
+    for (uint32_t k = 0; k < DISPLAYS; k++)
         plan(k);
-    for (uint16_t k = 0; k < DISPLAYS; k++)
+    for (uint32_t k = 0; k < DISPLAYS; k++)
         panel(k);
     must("maximise", roq_maximise(&s, DISPLAYS + 4, store, STORE));
     must("move", roq_move(&s, DISPLAYS + 7, WIDTH + 100, 300));

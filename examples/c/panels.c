@@ -35,12 +35,12 @@ static void say_altered(RoqAltered written) {
         say(written.answer);
 }
 
-static void fill(uint16_t id, uint32_t x, uint32_t y, uint32_t w, uint32_t h, uint32_t colour) {
+static void fill(uint32_t id, uint32_t x, uint32_t y, uint32_t w, uint32_t h, uint32_t colour) {
     RoqRect area = {{x, y}, {w, h}};
     say_altered(roq_fill(&s, id, area, colour, store, STORE));
 }
 
-static void visible(uint16_t id) {
+static void visible(uint32_t id) {
     uint32_t list[1984];
     RoqListing seen = roq_visible(&s, id, list, 1984);
     if (seen.answer != 0) {
@@ -63,7 +63,7 @@ static void finger(uint32_t x, uint32_t y) {
     say(roq_route(&s, e));
 }
 
-static void pop(uint16_t id) {
+static void pop(uint32_t id) {
     RoqPopped popped = roq_pop(&s, id);
     RoqEvent e = popped.event;
     printf("%u", (unsigned)popped.answer);

@@ -24,7 +24,7 @@ static void must(const char *call, uint32_t answer) {
 
 /* ---- The station ---- */
 
-static uint16_t window(uint32_t x, uint32_t y, uint32_t w, uint32_t h) {
+static uint32_t window(uint32_t x, uint32_t y, uint32_t w, uint32_t h) {
     RoqCreated made = roq_create(&s);
     must("create", made.answer);
     must("resize", roq_resize(&s, made.id, w, h, store, STORE));
@@ -33,7 +33,7 @@ static uint16_t window(uint32_t x, uint32_t y, uint32_t w, uint32_t h) {
     return made.id;
 }
 
-static size_t send_sheet(uint16_t id, uint8_t *bytes) {
+static size_t send_sheet(uint32_t id, uint8_t *bytes) {
     RoqListing sheet = roq_sheet(&s, id, bytes, BYTES);
     must("sheet", sheet.answer);
     printf("bytes sent: %zu", sheet.count);
@@ -78,9 +78,9 @@ static void receive_sheet(const uint8_t *bytes, size_t len) {
 int main(void) {
     static uint8_t bytes[BYTES + 1];
     must("start", roq_start(&s, C));
-    uint16_t plan = window(0, 0, W, H);
+    uint32_t plan = window(0, 0, W, H);
     window(4, 2, 12, 5);
-    uint16_t panel = window(10, 4, 14, 5);
+    uint32_t panel = window(10, 4, 14, 5);
     window(32, 9, 12, 6);
 
     size_t len = send_sheet(plan, bytes);

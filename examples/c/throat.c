@@ -18,12 +18,12 @@ static void must(uint32_t answer) {
         exit((int)answer);
 }
 
-static void fill(uint16_t id, uint32_t x, uint32_t y, uint32_t w, uint32_t h, uint32_t colour) {
+static void fill(uint32_t id, uint32_t x, uint32_t y, uint32_t w, uint32_t h, uint32_t colour) {
     RoqRect area = {{x, y}, {w, h}};
     must(roq_fill(&s, id, area, colour, store, STORE).answer);
 }
 
-static void window(uint16_t id, uint32_t x, uint32_t y, uint32_t w, uint32_t h, uint32_t colour) {
+static void window(uint32_t id, uint32_t x, uint32_t y, uint32_t w, uint32_t h, uint32_t colour) {
     must(roq_create(&s).answer);
     must(roq_resize(&s, id, w, h, store, STORE));
     fill(id, 0, 0, w, h, colour);

@@ -33,12 +33,12 @@ static uint64_t now(void) {
     return (uint64_t)t.tv_sec * 1000000000 + (uint64_t)t.tv_nsec;
 }
 
-static void fill(uint16_t id, uint32_t x, uint32_t y, uint32_t w, uint32_t h, uint32_t colour) {
+static void fill(uint32_t id, uint32_t x, uint32_t y, uint32_t w, uint32_t h, uint32_t colour) {
     RoqRect area = {{x, y}, {w, h}};
     must(roq_fill(&s, id, area, colour, store, STORE).answer);
 }
 
-static void window(uint16_t id, uint32_t x, uint32_t y, uint32_t w, uint32_t h) {
+static void window(uint32_t id, uint32_t x, uint32_t y, uint32_t w, uint32_t h) {
     must(roq_create(&s).answer);
     must(roq_resize(&s, id, w, h, store, STORE));
     must(roq_pop(&s, id).answer);
@@ -50,9 +50,9 @@ static void window(uint16_t id, uint32_t x, uint32_t y, uint32_t w, uint32_t h) 
 /* The plans lie below the panels; the throttle is shown last and has the focus. */
 static void scene(void) {
     must(roq_start(&s, C));
-    for (uint16_t k = 0; k < 8; k++)
+    for (uint32_t k = 0; k < 8; k++)
         window(k, k * W, 0, W, HEIGHT);
-    for (uint16_t k = 0; k < 8; k++)
+    for (uint32_t k = 0; k < 8; k++)
         window(8 + k, k * W + 100, 100, 300, 200);
 }
 

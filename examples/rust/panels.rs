@@ -4,8 +4,8 @@ use roqshyn::{Error, Event, Located, Pos, Rect, Session, MOST_RECTS, WINDOWS};
 const C: u32 = 72;
 const WIDTH: u32 = 12;
 const HEIGHT: u32 = 6;
-const PLAN: u8 = 0;
-const PANEL: u8 = 1;
+const PLAN: u32 = 0;
+const PANEL: u32 = 1;
 
 struct Panels {
     session: Session,
@@ -47,17 +47,17 @@ impl Panels {
     fn create(&mut self) {
         say(self.session.create().map(|id| numbers(&[id.into()])));
     }
-    fn resize(&mut self, id: u8, w: u32, h: u32) {
+    fn resize(&mut self, id: u32, w: u32, h: u32) {
         done(self.session.resize(id.into(), w, h, &mut self.store));
     }
-    fn fill(&mut self, id: u8, area: Rect, colour: u32) {
+    fn fill(&mut self, id: u32, area: Rect, colour: u32) {
         say(self.session.fill(id.into(), area, colour, &mut self.store).map(|altered| format!(" {altered}")));
     }
-    fn blit(&mut self, id: u8, area: Rect, data: &[u32]) {
+    fn blit(&mut self, id: u32, area: Rect, data: &[u32]) {
         let stride = area.dims.w as usize;
         say(self.session.blit(id.into(), area, stride, data, &mut self.store).map(|altered| format!(" {altered}")));
     }
-    fn visible(&mut self, id: u8) {
+    fn visible(&mut self, id: u32) {
         let mut list = [Rect::default(); MOST_RECTS];
         let seen = self.session.visible(id.into(), &mut list);
         say(seen.map(|seen| format!(" {}{}", seen.len(), seen.iter().map(rect).collect::<String>())));
@@ -68,7 +68,7 @@ impl Panels {
     fn finger(&mut self, x: u32, y: u32) {
         done(self.session.route(Event::mouse_move(Pos::new(x, y))));
     }
-    fn pop(&mut self, id: u8) {
+    fn pop(&mut self, id: u32) {
         say(self.session.pop(id.into()).map(named));
     }
     /// Draws, and shows the screen.

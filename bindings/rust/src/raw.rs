@@ -17,7 +17,7 @@ pub struct Event {
 
 #[repr(C)]
 pub struct Session {
-    pub words: [u64; 718],
+    pub words: [u64; 723],
 }
 
 impl Session {
@@ -27,7 +27,7 @@ impl Session {
 #[repr(C)]
 pub struct Created {
     pub answer: u32,
-    pub id: u16,
+    pub id: u32,
 }
 
 #[repr(C)]
@@ -125,32 +125,32 @@ pub struct Second {
 extern "C" {
     pub fn roq_start(s: *mut Session, c: u32) -> u32;
     pub fn roq_create(s: *mut Session) -> Created;
-    pub fn roq_show(s: *mut Session, id: u16) -> u32;
-    pub fn roq_hide(s: *mut Session, id: u16) -> u32;
-    pub fn roq_drop(s: *mut Session, id: u16) -> u32;
-    pub fn roq_mark(s: *mut Session, id: u16) -> u32;
-    pub fn roq_move(s: *mut Session, id: u16, x: u32, y: u32) -> u32;
-    pub fn roq_set_layer(s: *mut Session, id: u16, layer: u32) -> u32;
-    pub fn roq_resize(s: *mut Session, id: u16, w: u32, h: u32, store: *mut u32, store_len: usize) -> u32;
+    pub fn roq_show(s: *mut Session, id: u32) -> u32;
+    pub fn roq_hide(s: *mut Session, id: u32) -> u32;
+    pub fn roq_drop(s: *mut Session, id: u32) -> u32;
+    pub fn roq_mark(s: *mut Session, id: u32) -> u32;
+    pub fn roq_move(s: *mut Session, id: u32, x: u32, y: u32) -> u32;
+    pub fn roq_set_layer(s: *mut Session, id: u32, layer: u32) -> u32;
+    pub fn roq_resize(s: *mut Session, id: u32, w: u32, h: u32, store: *mut u32, store_len: usize) -> u32;
     pub fn roq_add_display(s: *mut Session, region: Rect) -> u32;
     pub fn roq_display_at(s: *const Session, x: u32, y: u32) -> Display;
-    pub fn roq_maximise(s: *mut Session, id: u16, store: *mut u32, store_len: usize) -> u32;
+    pub fn roq_maximise(s: *mut Session, id: u32, store: *mut u32, store_len: usize) -> u32;
     pub fn roq_update_dims(s: *mut Session, store: *mut u32, store_len: usize) -> u32;
-    pub fn roq_fill(s: *mut Session, id: u16, area: Rect, colour: u32, store: *mut u32, store_len: usize) -> Altered;
-    pub fn roq_blit(s: *mut Session, id: u16, area: Rect, stride: usize, data: *const u32, data_len: usize, store: *mut u32, store_len: usize) -> Altered;
+    pub fn roq_fill(s: *mut Session, id: u32, area: Rect, colour: u32, store: *mut u32, store_len: usize) -> Altered;
+    pub fn roq_blit(s: *mut Session, id: u32, area: Rect, stride: usize, data: *const u32, data_len: usize, store: *mut u32, store_len: usize) -> Altered;
     pub fn roq_route(s: *mut Session, e: Event) -> u32;
-    pub fn roq_pop(s: *mut Session, id: u16) -> Popped;
+    pub fn roq_pop(s: *mut Session, id: u32) -> Popped;
     pub fn roq_redraw(s: *mut Session, told: bool, width: u32, height: u32, store: *const u32, store_len: usize, screen: *mut u32, screen_len: usize) -> u32;
     pub fn roq_begin(s: *mut Session, told: bool) -> u32;
     pub fn roq_portion(s: *mut Session, width: u32, height: u32, store: *const u32, store_len: usize, screen: *mut u32, screen_len: usize) -> u32;
     pub fn roq_dim(s: *mut Session, on: bool) -> u32;
-    pub fn roq_visible(s: *const Session, id: u16, list: *mut u32, list_len: usize) -> Listing;
-    pub fn roq_share(s: *const Session, id: u16) -> Share;
+    pub fn roq_visible(s: *const Session, id: u32, list: *mut u32, list_len: usize) -> Listing;
+    pub fn roq_share(s: *const Session, id: u32) -> Share;
     pub fn roq_hits(s: *const Session, points: *const u32, points_len: usize, answers: *mut u32, answers_len: usize) -> u32;
-    pub fn roq_look(s: *const Session, id: u16, look: Look, tw: u32, th: u32, store: *const u32, store_len: usize, target: *mut u32, target_len: usize) -> u32;
-    pub fn roq_sheet(s: *const Session, id: u16, bytes: *mut u8, bytes_len: usize) -> Listing;
-    pub fn roq_focus(s: *const Session) -> u16;
-    pub fn roq_rect_of(s: *const Session, id: u16) -> Placed;
+    pub fn roq_look(s: *const Session, id: u32, look: Look, tw: u32, th: u32, store: *const u32, store_len: usize, target: *mut u32, target_len: usize) -> u32;
+    pub fn roq_sheet(s: *const Session, id: u32, bytes: *mut u8, bytes_len: usize) -> Listing;
+    pub fn roq_focus(s: *const Session) -> u32;
+    pub fn roq_rect_of(s: *const Session, id: u32) -> Placed;
     pub fn roq_contains(r: Rect, pt: Pos) -> Tested;
     pub fn roq_contains_rect(a: Rect, b: Rect) -> Tested;
     pub fn roq_within(r: Rect, w: u32, h: u32) -> Tested;

@@ -40,7 +40,7 @@ pub struct Hit {
 impl Hit {
     /// The window, if there is one.
     pub fn id(self) -> Option<Id> {
-        Id::try_from(self.window).ok().filter(|_| self.window < WINDOWS as u32)
+        (self.window < WINDOWS as u32).then_some(Id(self.window))
     }
 }
 

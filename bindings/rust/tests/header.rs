@@ -30,7 +30,6 @@ fn code() -> String {
 fn rust_type(c: &str) -> String {
     match c {
         "uint8_t" => "u8",
-        "uint16_t" => "u16",
         "uint32_t" => "u32",
         "uint64_t" => "u64",
         "int16_t" => "i16",

@@ -37,16 +37,49 @@ fn a_start_is_refused() {
 #[test]
 fn ids() {
     let mut session = Session::start(1).unwrap();
-    for number in 0..16_u8 {
+    for number in 0..16 {
         assert_eq!(session.create(), Ok(Id::from(number)));
     }
     assert_eq!(session.create(), Err(Error::NoFreeId));
-    // 65,536 cut to 16 bits would be window 0.
-    assert_eq!(Id::try_from(65_536).and_then(|id| session.show(id)), Err(Error::UnknownId));
-    assert_eq!(Id::try_from(-1), Err(Error::UnknownId));
-    assert_eq!(session.show(Id::from(16_u8)), Err(Error::UnknownId));
-    assert_eq!(session.drop(Id::from(3_u8)), Ok(()));
-    assert_eq!(session.create(), Ok(Id::from(3_u8)));
+    assert_eq!(session.drop(Id::from(3)), Ok(()));
+    assert_eq!(session.create(), Ok(Id::from(3)));
+}
+
+/// The session as the library has it in memory.
+fn bytes(session: &Session) -> Vec<u8> {
+    let start = (session as *const Session).cast::<u8>();
+    // SAFETY: the session is words alone, and all of them were set when it was begun.
+    unsafe { std::slice::from_raw_parts(start, size_of::<Session>()) }.to_vec()
+}
+
+/// 65,536 cut to 16 bits would be the plan.
+#[test]
+fn ids_that_no_window_has() {
+    let Station { mut session, mut store, .. } = station();
+    let (before, pixels, area) = (bytes(&session), store.clone(), Rect::new(0, 0, 1, 1));
+    for number in [16, 65_535, 65_536, 4_294_967_295] {
+        let id = Id::from(number);
+        let answers = [
+            session.show(id).err(),
+            session.hide(id).err(),
+            session.drop(id).err(),
+            session.mark(id).err(),
+            session.move_window(id, 1, 1).err(),
+            session.set_layer(id, 1).err(),
+            session.resize(id, 1, 1, &mut store).err(),
+            session.maximise(id, &mut store).err(),
+            session.fill(id, area, 9, &mut store).err(),
+            session.blit(id, area, 1, &[9], &mut store).err(),
+            session.pop(id).err(),
+            session.visible(id, &mut []).err(),
+            session.share(id).err(),
+            session.look(id, Look::fit(), 1, 1, &store, &mut [0]).err(),
+            session.sheet(id, &mut []).err(),
+            session.rect_of(id).err(),
+        ];
+        assert_eq!(answers, [Some(Error::UnknownId); 16], "{number}");
+        assert!(bytes(&session) == before && store == pixels, "{number}");
+    }
 }
 
 #[test]
@@ -182,7 +215,7 @@ fn sheets() {
     assert_eq!(read_sheet(&sheet[1..], &mut list), Err(Error::NoSheet));
     assert_eq!((sheet.len(), bytes[29]), (29, 9));
     assert_eq!(session.sheet(plan, &mut bytes[..28]), Err(Error::SheetLength));
-    assert_eq!(session.sheet(Id::from(2_u8), &mut bytes), Err(Error::UnknownId));
+    assert_eq!(session.sheet(Id::from(2), &mut bytes), Err(Error::UnknownId));
     assert_eq!((session.hide(panel), session.sheet(panel, &mut bytes)), (Ok(()), Ok(&[0][..])));
     assert_eq!((read_sheet(&[0], &mut []), read_sheet(&[], &mut [])), (Ok(&[][..]), Err(Error::NoSheet)));
 }

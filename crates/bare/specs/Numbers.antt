@@ -1,5 +1,5 @@
 -- The numbers of a line as the library's calls take them.
-use Prim.Native.Nat.{ℕ, _+_, _*_, min}
+use Prim.Native.Nat.{ℕ, _+_, _*_}
 use mathlib.Core.List.{List}
 use lib.ListN.{getD}
 use lib.Ieee.{Float, binary64, ofBits}
@@ -15,9 +15,9 @@ Sound l ns = Shaped (l .kind) (l .count) (l .name) ns
 abbrev pub num : List ℕ → ℕ → ℕ
 num ns i = getD ns i 0
 
--- the window that a line names: a number above 15 is no window's, and becomes 16
+-- the window that a line names: its first number, whatever it is
 abbrev pub idOf : List ℕ → ℕ
-idOf ns = min (num ns 0) 16
+idOf ns = num ns 0
 
 -- the rectangle of the four numbers from place i on
 abbrev pub rectAt : List ℕ → ℕ → Rect

@@ -7,15 +7,11 @@ use geom::Pos;
 use geom::Rect;
 use order::WinId;
 
-// The number of a window: one above 15 is no window's, and becomes 16.
+// The window that a line names. Any number is handed on, and one that no window has is answered by 3.
 pub fn id(ns: &[u32; 4200]) -> WinId
     ensures { λ r. ⌜ r .0 ≡ idOf (now (ns .entry)) ⌝ }
 {
-    let n = ns[0];
-    if n < 16 {
-        return WinId(n as u16);
-    }
-    WinId(16)
+    WinId(ns[0])
 }
 
 pub fn pos(ns: &[u32; 4200], at: usize) -> Pos

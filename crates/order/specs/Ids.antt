@@ -14,6 +14,6 @@ num i = i .0
 abbrev pub ids : ℕ → List WinId → List ℕ
 ids n l = map num (take n l)
 
--- the window that is remembered: a number below 16 is its id, and any other says that there is none
-abbrev pub heldOf : ℕ → Option ℕ
-heldOf n = cond (ltb n 16) (some n) none
+-- the window that is remembered: an id below 16 is its own, and any other says that there is none
+abbrev pub heldOf : WinId → Option ℕ
+heldOf i = cond (ltb (i .0) 16) (some (i .0)) none

@@ -18,7 +18,7 @@ pub mod rects;
 
 // The number of a window, 0 to 15. Any other number is answered by 3.
 #[repr(C)]
-pub struct WinId(pub u16);
+pub struct WinId(pub u32);
 
 // A place in the render order, 0 for the lowest window.
 #[repr(C)]

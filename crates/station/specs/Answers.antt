@@ -13,10 +13,10 @@ use Rattle.station.specs.declared.values.RoqPopped.{RoqPopped}
 use Rattle.station.specs.declared.values.RoqDisplay.{RoqDisplay}
 use Rattle.station.specs.Events.{numbersOf}
 
--- "an id … asked for is then absent": 65,535, which is no window's
+-- "an id … asked for is then absent": 4,294,967,295, which is no window's
 pub record Creates (s t : Session) (r : RoqCreated) : Type 0 where
   pub meets : Meets Create s (done t (r .answer))
-  pub id : r .id .0 ≡ idOr 65535 (does (group s) Create .id)
+  pub id : r .id .0 ≡ idOr 4294967295 (does (group s) Create .id)
 
 -- "an … event asked for is then absent": its kind is 0
 pub record Pops (id : ℕ) (s t : Session) (r : RoqPopped) : Type 0 where

@@ -26,7 +26,7 @@ use windows::inner::events::aim_event;
 use windows::inner::events::nobody;
 use windows::inner::one;
 
-// The answer and the id: 65,535 where the call was refused.
+// The answer and the id: 4,294,967,295 where the call was refused.
 #[repr(C)]
 pub struct RoqCreated {
     pub answer: u32,
@@ -64,13 +64,13 @@ pub struct Taken {
     pub popped: RoqPopped,
 }
 
-// 65,535 for no id.
+// 4,294,967,295 for no id.
 fn number_of(id: NewId) -> WinId
-    ensures { λ r. ⌜ r .0 ≡ idOr 65535 (idOf id) ⌝ }
+    ensures { λ r. ⌜ r .0 ≡ idOr 4294967295 (idOf id) ⌝ }
 {
     match id {
         NewId::Id(at) => at,
-        NewId::Absent => WinId(65535),
+        NewId::Absent => WinId(4294967295),
     }
 }
 

@@ -5,8 +5,13 @@ use mathlib.Core.List.{List, [], _∷_}
 use mathlib.Core.Option.{Option, none, some}
 use Rattle.geom.specs.declared.Rect.{Rect}
 use Rattle.geom.specs.Geom.{isEmpty, contains}
+use Rattle.order.specs.declared.WinId.{WinId}
 use Rattle.topmost.specs.declared.Hit.{Hit}
 use Rattle.topmost.specs.declared.Hit.the-variants.{Window, Nobody}
+
+-- the constant `NOBODY`
+abbrev pub nobody : WinId
+nobody = record { 0 = 16 }
 
 abbrev pub hitOf : Hit → Option ℕ
 hitOf (Window id) = some (id .0)

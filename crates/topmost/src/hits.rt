@@ -46,7 +46,7 @@ fn look(id: WinId, r: Rect, points: &[u32], answers: &mut [u32], i: usize)
         let x = points[2 * i];
         let y = points[2 * i + 1];
         if contains(r, x, y) {
-            put(answers, i, id.0 as u32, x - r.pos.x, y - r.pos.y);
+            put(answers, i, id.0, x - r.pos.x, y - r.pos.y);
         }
     }
 }

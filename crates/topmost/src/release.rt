@@ -1,5 +1,5 @@
-// A release stays with its press: document 02, N1. The number of the window that took the last MouseDown, the window that an event at a point
-// is for, and the pixel of a window that is nearest to the point.
+// A release stays with its press: document 02, N1. The window that took the last MouseDown, the window that an event at
+// a point is for, and the pixel of a window that is nearest to the point.
 ghost use mathlib.Core.Path.{_≡_};
 ghost use Prim.Native.Nat.{_-_, _<_};
 ghost use Rattle.rules.specs.Order.{forget};
@@ -13,29 +13,36 @@ use geom::inner::is_empty;
 use order::WinId;
 use window::damage::Area;
 
-// Who is remembered where no window is: a number that no window has.
-pub const NOBODY: u8 = 16;
+// Who is remembered where no window is: an id that no window has.
+pub const NOBODY: WinId = WinId(16);
 
 // Who is remembered once a window is hidden: any other window stays.
-pub fn forget(held: u8, id: WinId) -> u8
+pub fn forget(held: WinId, id: WinId) -> WinId
     ensures { λ r. ⌜ heldOf r ≡ forget (id .0) (heldOf held) ⌝ }
 {
-    if held as u16 == id.0 {
+    if held.0 == id.0 {
         return NOBODY;
     }
     held
 }
 
 // The window `held`, if it is one and has pixels; else the topmost one at the point.
-pub fn taker(areas: [Area; 16], order: [WinId; 16], shown: usize, held: u8, x: u32, y: u32) -> Hit
+pub fn taker(
+    areas: [Area; 16],
+    order: [WinId; 16],
+    shown: usize,
+    held: WinId,
+    x: u32,
+    y: u32,
+) -> Hit
     requires { ⌜ Shown areas order shown ⌝ }
     ensures { λ r. ⌜ hitOf r ≡ takerAt (frameAt areas) x y (ids shown order) (heldOf held) ⌝ }
 {
-    if held < 16 {
-        let at = held as usize;
+    if held.0 < 16 {
+        let at = held.0 as usize;
         let area = areas[at];
         if !is_empty(area.rect()) {
-            return Hit::Window(WinId(held as u16));
+            return Hit::Window(held);
         }
     }
     topmost(areas, order, shown, x, y)

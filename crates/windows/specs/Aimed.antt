@@ -7,6 +7,8 @@ use Rattle.window.specs.declared.Event.{Event}
 use Rattle.window.specs.declared.Event.the-variants.{Resize}
 use Rattle.window.specs.declared.Window.{Window}
 use Rattle.rules.specs.Calls.{Pop}
+use Rattle.order.specs.declared.WinId.{WinId}
+use Rattle.topmost.specs.Topmost.{nobody}
 use Rattle.windows.specs.declared.Session.{Session}
 use Rattle.windows.specs.declared.Shared.{Shared}
 use Rattle.windows.specs.declared.Changed.{Changed}
@@ -22,14 +24,14 @@ use Rattle.windows.specs.Events.{Tellable, ToldTo}
 
 -- no window is told, and this is the answer
 abbrev pub toNobody : ℕ → Aim
-toNobody answer = record { at = 0; what = record { told = false; held = 16; answer = answer; event = Resize } }
+toNobody answer = record { at = 0; what = record { told = false; held = nobody; answer = answer; event = Resize } }
 
 -- the window at this place is told, and this one is remembered once it took the event
-abbrev pub toWindow : ℕ → Event → ℕ → Aim
+abbrev pub toWindow : ℕ → Event → WinId → Aim
 toWindow at e held = record { at = at; what = record { told = true; held = held; answer = 0; event = e } }
 
 -- another window is remembered, if the answer is 0; a refused call leaves this too
-abbrev pub remembered : ℕ → ℕ → Shared → Shared
+abbrev pub remembered : ℕ → WinId → Shared → Shared
 remembered answer held k = cond (eqb answer 0) (holding held k) k
 
 -- a window was told, or is as it was

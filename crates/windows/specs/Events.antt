@@ -14,21 +14,23 @@ use Rattle.window.specs.Window.{Win, pushed, cursorTo}
 use Rattle.window.specs.Held.{winOf, RepWindow}
 use Rattle.window.specs.Inner.{Queued}
 use Rattle.rules.specs.Events.{withQueue, withCursor}
+use Rattle.order.specs.declared.WinId.{WinId}
+use Rattle.topmost.specs.Topmost.{nobody}
 use Rattle.windows.specs.declared.inner.events.Target.{Target}
 use Rattle.windows.specs.declared.inner.events.Target.the-variants.{Nobody, Focus, Point}
 use Rattle.windows.specs.declared.inner.events.Told.{Told}
 
 -- keys go to the focus, pointer events to a point, where a release alone is for the window that is remembered, `held`; a Resize goes nowhere, and
 -- a KeyFire is refused
-abbrev pub targetOf : Event → ℕ → Target
+abbrev pub targetOf : Event → WinId → Target
 targetOf Resize held = Nobody 0
 targetOf (KeyDown v) held = Focus
 targetOf (KeyUp v) held = Focus
 targetOf (KeyFire v) held = Nobody 21
 targetOf (Text v) held = Focus
-targetOf (MouseMove x y dx dy) held = Point 16 x y
-targetOf (MouseDown x y b) held = Point 16 x y
-targetOf (MouseClick x y b n) held = Point 16 x y
+targetOf (MouseMove x y dx dy) held = Point nobody x y
+targetOf (MouseDown x y b) held = Point nobody x y
+targetOf (MouseClick x y b n) held = Point nobody x y
 targetOf (MouseUp x y b) held = Point held x y
 
 -- a pointer event at another point

@@ -35,8 +35,8 @@ noted u k = record { order = k .order; shown = k .shown; c = k .c; focus = k .fo
 abbrev pub dimming : Bool → Shared → Shared
 dimming on k = record { order = k .order; shown = k .shown; c = k .c; focus = k .focus; dimmed = on; held = k .held; due = k .due; layers = k .layers; maximised = k .maximised }
 
--- the number of the window that is remembered
-abbrev pub holding : ℕ → Shared → Shared
+-- the window that is remembered
+abbrev pub holding : WinId → Shared → Shared
 holding h k = record { order = k .order; shown = k .shown; c = k .c; focus = k .focus; dimmed = k .dimmed; held = h; due = k .due; layers = k .layers; maximised = k .maximised }
 
 -- the layers of the windows by their numbers

@@ -29,9 +29,10 @@ mod share;
 mod sheets;
 mod zoom;
 
-// What the windows share: the render order, which holds the shown ones in its first `shown` places, lowest first; C; the focus; whether dimming
-// is on; `held`, the number of the window that took the last MouseDown, while it is remembered, else 16; what is still to be drawn; and the layer
-// of each window by its number, 0 or 1, which is not looked at where the number is not in use.
+// What the windows share: the render order, which holds the shown ones in its first `shown` places, lowest first; C; the
+// focus; whether dimming is on; `held`, the window that took the last MouseDown, while it is remembered, else `NOBODY`;
+// what is still to be drawn; and the layer of each window by its number, 0 or 1, which is not looked at where the number
+// is not in use.
 #[repr(C)]
 pub struct Shared {
     pub order: [WinId; 16],
@@ -39,7 +40,7 @@ pub struct Shared {
     pub c: u32,
     pub focus: WinId,
     pub dimmed: bool,
-    pub held: u8,
+    pub held: WinId,
     pub due: Due,
     pub layers: [u8; 16],
     pub maximised: [bool; 16],

@@ -19,6 +19,7 @@ use Rattle.rules.specs.Group.{win}
 use Rattle.rules.specs.Order.{shown}
 use Rattle.geom.specs.Nearest.{nearestX, nearestY}
 use Rattle.rules.specs.Calls.{Route, does}
+use Rattle.order.specs.declared.WinId.{WinId}
 use Rattle.order.specs.Ids.{heldOf}
 use Rattle.order.specs.Frames.{frameAt}
 use Rattle.windows.specs.declared.Session.{Session}
@@ -38,7 +39,7 @@ use Rattle.windows.proofs.laws.Frames.{Found}
 use Rattle.windows.proofs.laws.Routing.{point-tellable, held-point, pointed, topped, near, to-point, window-told}
 
 module _ (Q : Done → Type 0) (s : Session) where
-  pub aims-window : (at : ℕ) (i : Event) (m : ℕ) → at < 16 → Tellable i
+  pub aims-window : (at : ℕ) (i : Event) (m : WinId) → at < 16 → Tellable i
       → ((t : Told) → ToldTo (windowAt s at) i t → Q (done (put at (t .window) (remembered (t .answer) m (s .shared)) s) (t .answer)))
       → Aims Q s (toWindow at i m)
   aims-window at i m l able told = record { inside = l; able = λ _. able; told = λ _. told; kept = λ q. clash refl q }
@@ -60,13 +61,13 @@ module _ (Q : Done → Type 0) (s : Session) where
       by false q = subst Put (sym (h .kept q)) (subst (λ (u : Session). Q (done u (t .what .answer))) (sym (put-back s (t .at) refl refl)) (a .kept q))
 
 -- the window that an event at a point is for because it is remembered is shown
-pub held-known : (e : Event) (s : Session) (m x y : ℕ) → Given s → targetOf e (s .shared .held) ≡ Point m x y
+pub held-known : (e : Event) (s : Session) (m : WinId) (x y : ℕ) → Given s → targetOf e (s .shared .held) ≡ Point m x y
     → (id : ℕ) → heldOf m ≡ some id → shown (group s) id ≡ true
 unfolding group
 held-known e s m x y h k =
     held-point (λ n. (id : ℕ) → heldOf n ≡ some id → shown (group s) id ≡ true) e k (λ id q. absurd (Option·none-ne-some id q)) (given-ok s h .held-shown)
 
-module _ (e : Event) (s : Session) (areas : List Area) (m x y id : ℕ) (h : Given s) (k : targetOf e (s .shared .held) ≡ Point m x y)
+module _ (e : Event) (s : Session) (areas : List Area) (m : WinId) (x y id : ℕ) (h : Given s) (k : targetOf e (s .shared .held) ≡ Point m x y)
     (at : Found s areas x y (heldOf m) id) where
   frame-is : frameAt areas id ≡ win (group s) id .at
   frame-is = at .frame ∙ sym (ap (λ (w : Win). w .at) (win-at s id (at .used)))
@@ -87,7 +88,7 @@ module _ (e : Event) (s : Session) (areas : List Area) (m x y id : ℕ) (h : Giv
   -- at the window that the search found, at its pixel nearest to the point
   pub aims-point : small x && small y ≡ true → (i : Event)
       → i ≡ atPoint e (nearestX (frameAt areas id) x - left (frameAt areas id)) (nearestY (frameAt areas id) y - top (frameAt areas id))
-      → (n : ℕ) → heldOf n ≡ heldAfter e (some id) (heldOf (s .shared .held)) → Aims (Meets (Route e) s) s (toWindow id i n)
+      → (n : WinId) → heldOf n ≡ heldAfter e (some id) (heldOf (s .shared .held)) → Aims (Meets (Route e) s) s (toWindow id i n)
   unfolding group
   aims-point l i is n stands =
       let low-x : x ≤ 32767 = leb-true x 32767 (fst (small x) (small y) l) in

@@ -20,10 +20,10 @@ use Rattle.windows.proofs.laws.Shared.{debt-shared}
 use Rattle.windows.proofs.laws.Places.{has-place, is-shown, in-order, isnt-shown}
 
 -- the session with the order, the focus and the window remembered that the code made, before and after a full redraw is owed
-abbrev left : Session → List WinId → WinId → ℕ → Session
+abbrev left : Session → List WinId → WinId → WinId → Session
 left s order focus held = sharing (holding held (ordered order (s .shared .shown - 1) focus (s .shared))) s
 
-abbrev after : Session → List WinId → WinId → ℕ → Session
+abbrev after : Session → List WinId → WinId → WinId → Session
 after s order focus held = sharing (indebted (holding held (ordered order (s .shared .shown - 1) focus (s .shared)))) s
 
 module _ (s : Session) (h : Given s) (id : ℕ) where
@@ -36,10 +36,10 @@ module _ (s : Session) (h : Given s) (id : ℕ) where
     closed : ids (s .shared .shown - 1) order ≡ without id (ids (s .shared .shown) (s .shared .order))
     closed = ids-closed id (s .shared .shown) p (s .shared .order) order (has-place s h id p at) (in-order s h id p at) q
 
-    left-rep : (focus : WinId) (held : ℕ) → Rep (left s order focus held)
+    left-rep : (focus held : WinId) → Rep (left s order focus held)
     left-rep focus held = record { windows = h .rep .windows; order = q .all; shown = omega (arith, h .rep .shown); each = h .rep .each; displays = h .rep .displays }
 
-    pub hidden-now : (focus : WinId) (held : ℕ)
+    pub hidden-now : (focus held : WinId)
         → focus .0 ≡ cond (eqb (s .shared .focus .0) id) (getD (ids (s .shared .shown - 1) order) (p - 1) 0) (s .shared .focus .0)
         → heldOf held ≡ forget id (heldOf (s .shared .held))
         → (group (after s order focus held) ≡ hidden id (group s)) × Rep (after s order focus held)

@@ -15,7 +15,9 @@ use Rattle.geom.specs.Nearest.{nearestX, nearestY}
 use Rattle.rules.specs.Events as Rule
 use Rattle.rules.specs.Events.{topmost, holder}
 use Rattle.rules.specs.Calls.{Route, does}
+use Rattle.order.specs.declared.WinId.{WinId}
 use Rattle.order.specs.Ids.{heldOf}
+use Rattle.topmost.specs.Topmost as Topmost
 use Rattle.windows.specs.declared.Session.{Session}
 use Rattle.windows.specs.declared.inner.events.Target.{Target}
 use Rattle.windows.specs.declared.inner.events.Target.the-variants.{Nobody, Focus, Point}
@@ -35,7 +37,7 @@ Low (Nobody n) = ⊥
 Low Focus = Unit {0}
 Low (Point m x y) = (x ≤ 32767) × (y ≤ 32767)
 
-tellable : (e : Event) (m : ℕ) → Low (targetOf e m) → Tellable e
+tellable : (e : Event) (m : WinId) → Low (targetOf e m) → Tellable e
 tellable Resize m h = absurd h
 tellable (KeyDown v) m h = tt
 tellable (KeyUp v) m h = tt
@@ -46,7 +48,7 @@ tellable (MouseDown x y b) m h = h
 tellable (MouseClick x y b n) m h = h
 tellable (MouseUp x y b) m h = h
 
-pub key-tellable : (e : Event) (m : ℕ) → targetOf e m ≡ Focus → Tellable e
+pub key-tellable : (e : Event) (m : WinId) → targetOf e m ≡ Focus → Tellable e
 key-tellable e m k = tellable e m (subst Low (sym k) tt)
 
 -- a pointer event may be told at any point of a window
@@ -55,7 +57,7 @@ IsPoint (Nobody n) = ⊥
 IsPoint Focus = ⊥
 IsPoint (Point m x y) = Unit {0}
 
-at-point : (e : Event) (m : ℕ) → IsPoint (targetOf e m) → (x y : ℕ) → x ≤ 32767 → y ≤ 32767 → Tellable (atPoint e x y)
+at-point : (e : Event) (m : WinId) → IsPoint (targetOf e m) → (x y : ℕ) → x ≤ 32767 → y ≤ 32767 → Tellable (atPoint e x y)
 at-point Resize m p x y h k = absurd p
 at-point (KeyDown v) m p x y h k = absurd p
 at-point (KeyUp v) m p x y h k = absurd p
@@ -66,16 +68,16 @@ at-point (MouseDown _ _ b) m p x y h k = (h, k)
 at-point (MouseClick _ _ b n) m p x y h k = (h, k)
 at-point (MouseUp _ _ b) m p x y h k = (h, k)
 
-pub point-tellable : (e : Event) (m : ℕ) {n px py : ℕ} → targetOf e m ≡ Point n px py → (x y : ℕ) → x ≤ 32767 → y ≤ 32767 → Tellable (atPoint e x y)
+pub point-tellable : (e : Event) (m : WinId) {n : WinId} {px py : ℕ} → targetOf e m ≡ Point n px py → (x y : ℕ) → x ≤ 32767 → y ≤ 32767 → Tellable (atPoint e x y)
 point-tellable e m p = at-point e m (subst IsPoint (sym p) tt)
 
 -- at a point an event is for nobody that is remembered, or for the one that is
-abbrev AtPoint : (ℕ → Type 0) → Target → Type 0
+abbrev AtPoint : (WinId → Type 0) → Target → Type 0
 AtPoint P (Nobody n) = Unit {0}
 AtPoint P Focus = Unit {0}
 AtPoint P (Point m x y) = P m
 
-by-point : (P : ℕ → Type 0) (e : Event) (m : ℕ) → P 16 → P m → AtPoint P (targetOf e m)
+by-point : (P : WinId → Type 0) (e : Event) (m : WinId) → P Topmost.nobody → P m → AtPoint P (targetOf e m)
 by-point P Resize m p q = tt
 by-point P (KeyDown v) m p q = tt
 by-point P (KeyUp v) m p q = tt
@@ -86,7 +88,7 @@ by-point P (MouseDown x y b) m p q = p
 by-point P (MouseClick x y b n) m p q = p
 by-point P (MouseUp x y b) m p q = q
 
-pub held-point : (P : ℕ → Type 0) (e : Event) {m n x y : ℕ} → targetOf e m ≡ Point n x y → P 16 → P m → P n
+pub held-point : (P : WinId → Type 0) (e : Event) {m n : WinId} {x y : ℕ} → targetOf e m ≡ Point n x y → P Topmost.nobody → P m → P n
 held-point P e {m} k p q = subst (AtPoint P) k (by-point P e m p q)
 
 -- The rule by the target ---------------------------------------------------------------------------------------------
@@ -126,7 +128,7 @@ routed g e (Nobody n) = leaves ((n is eqb n 0) ∷ []) g g
 routed g e Focus = keyed g e (g .focus)
 routed g e (Point m x y) = released g e x y (holder g (heldOf m))
 
-route-is : (g : Group) (e : Event) (m : ℕ) → heldOf m ≡ g .held → does g (Route e) ≡ routed g e (targetOf e m)
+route-is : (g : Group) (e : Event) (m : WinId) → heldOf m ≡ g .held → does g (Route e) ≡ routed g e (targetOf e m)
 unfolding does Rule.route
 route-is g Resize m q = refl
 route-is g (KeyDown v) m q = refl
@@ -170,7 +172,7 @@ module _ (s : Session) (e : Event) (h : Given s) where
     focus-told n u t to =
         tells (Route e) s (s .shared .focus .0) e t h u to (s .shared .held) (group s .held) refl (keyAsks (group s) e (s .shared .focus .0)) to-focus (rw n)
 
-  module _ (m x y : ℕ) (k : targetOf e (s .shared .held) ≡ Point m x y) where
+  module _ (m : WinId) (x y : ℕ) (k : targetOf e (s .shared .held) ≡ Point m x y) where
     pub to-point : {o : Option ℕ} → holder (group s) (heldOf m) ≡ o → does (group s) (Route e) ≡ released (group s) e x y o
     to-point q = aimed k ∙ ap (released (group s) e x y) q
 
@@ -187,6 +189,6 @@ module _ (s : Session) (e : Event) (h : Given s) where
 
   -- to a window, for which the event is `i`
   pub window-told : (i : ℕ → Event) (x y id : ℕ) (held : Option ℕ) → does (group s) (Route e) ≡ pointed (group s) i x y (some id) held
-      → small x && small y ≡ true → windowAt s id .used ≡ true → (m : ℕ) → heldOf m ≡ held → (t : Told) → ToldTo (windowAt s id) (i id) t
+      → small x && small y ≡ true → windowAt s id .used ≡ true → (m : WinId) → heldOf m ≡ held → (t : Told) → ToldTo (windowAt s id) (i id) t
       → Meets (Route e) s (done (put id (t .window) (remembered (t .answer) m (s .shared)) s) (t .answer))
   window-told i x y id held d l u m stands t to = tells (Route e) s id (i id) t h u to m held stands (pointAsks (group s) i x y (some id)) d (rw l)

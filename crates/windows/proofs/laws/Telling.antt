@@ -25,6 +25,7 @@ use Rattle.window.proofs.Event.{the-type}
 use Rattle.rules.specs.Group.{Group, Outcome, win, setWin, withHeld, leaves}
 use Rattle.rules.specs.Events.{withQueue, withCursor}
 use Rattle.rules.specs.Calls.{Call, does}
+use Rattle.order.specs.declared.WinId.{WinId}
 use Rattle.order.specs.Ids.{heldOf}
 use Rattle.windows.specs.declared.Shared.{Shared}
 use Rattle.windows.specs.declared.Session.{Session}
@@ -109,19 +110,19 @@ module _ (w : Window) (r : RepWindow w) (e : Event) where
 -- The window of a session --------------------------------------------------------------------------------------------
 
 -- a window put back, and another one remembered
-held-group : (s : Session) (id : ℕ) (v : Window) (m : ℕ) → v .used ≡ true
+held-group : (s : Session) (id : ℕ) (v : Window) (m : WinId) → v .used ≡ true
     → group (put id v (holding m (s .shared)) s) ≡ withHeld (heldOf m) (setWin id (some (winOf v)) (group s))
 unfolding group
 held-group s id v m u = ap (λ (g : Group). withHeld (heldOf m) g) (put-group s id v u)
 
-held-rep : (s : Session) (id : ℕ) (v : Window) (m : ℕ) → Rep s → RepWindow v → Rep (put id v (holding m (s .shared)) s)
+held-rep : (s : Session) (id : ℕ) (v : Window) (m : WinId) → Rep s → RepWindow v → Rep (put id v (holding m (s .shared)) s)
 held-rep s id v m r h =
     let q = put-rep s id v r h in
     record { windows = q .windows; order = q .order; shown = q .shown; each = q .each; displays = q .displays }
 
 -- a call whose last question is 12, and which tells one window; `held` is remembered then, which m stands for
 module _ (k : Call) (s : Session) (id : ℕ) (e : Event) (t : Told) (h : Given s) (u : windowAt s id .used ≡ true) (to : ToldTo (windowAt s id) e t)
-    (m : ℕ) (held : Option ℕ) (stands : heldOf m ≡ held)
+    (m : WinId) (held : Option ℕ) (stands : heldOf m ≡ held)
     (qs : List Question) (d : does (group s) k ≡ leaves qs (group s) (withHeld held (setWin id (some (told (win (group s) id) e)) (group s))))
     (a : asked qs ≡ asked ((12 is takes (win (group s) id) e) ∷ [])) where
   answers : asked qs ≡ t .answer

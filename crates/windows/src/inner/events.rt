@@ -32,7 +32,7 @@ use window::Window;
 pub enum Target {
     Nobody { answer: u32 },
     Focus,
-    Point { held: u8, x: u32, y: u32 },
+    Point { held: WinId, x: u32, y: u32 },
 }
 
 // A window that was told of an event, and the answer: 12 where its queue was full.
@@ -44,7 +44,7 @@ pub struct Told {
 // What a window is told, if `told`, and which one is remembered once it took the event; else the answer.
 pub struct Message {
     pub told: bool,
-    pub held: u8,
+    pub held: WinId,
     pub answer: u32,
     pub event: Event,
 }
@@ -63,7 +63,7 @@ pub struct PoppedOne {
 }
 
 // Only a release is for the window that is remembered.
-fn target_of(e: Event, held: u8) -> Target
+fn target_of(e: Event, held: WinId) -> Target
     ensures { λ t. ⌜ t ≡ targetOf e held ⌝ }
 {
     match e {
@@ -108,17 +108,17 @@ fn at_point(e: Event, x: u32, y: u32) -> Event
     }
 }
 
-// Who is remembered once the window at that place took an event: a MouseDown's window, until a MouseUp was taken, by any.
-fn held_after(e: Event, at: usize, held: u8) -> u8
-    requires { ⌜ at < 16 ⌝ }
-    ensures { λ r. ⌜ heldOf r ≡ heldAfter e (some at) (heldOf held) ⌝ }
+// Who is remembered once this window took an event: a MouseDown's window, until a MouseUp was taken, by any.
+fn held_after(e: Event, id: WinId, held: WinId) -> WinId
+    requires { ⌜ id .0 < 16 ⌝ }
+    ensures { λ r. ⌜ heldOf r ≡ heldAfter e (some (id .0)) (heldOf held) ⌝ }
 {
     match e {
         Event::MouseDown {
             x: _,
             y: _,
             button: _,
-        } => at as u8,
+        } => id,
         Event::MouseUp {
             x: _,
             y: _,
@@ -166,7 +166,8 @@ pub fn tell(win: Window, mut shared: Shared, m: Message) -> Changed
         let told = push_event(win, e);
         let window = told.window;
         if told.answer == 0 {
-            shared.held = m.held;
+            let held = m.held;
+            shared.held = held;
         }
         return Changed {
             window,
@@ -194,7 +195,7 @@ pub fn nobody(answer: u32) -> Aim
     Aim { at: 0, what }
 }
 
-fn to_window(at: usize, event: Event, held: u8) -> Aim
+fn to_window(at: usize, event: Event, held: WinId) -> Aim
     ensures { λ r. ⌜ r ≡ toWindow at event held ⌝ }
 {
     let what = Message {
@@ -234,7 +235,7 @@ fn aim_key(s: Session, e: Event) -> Aim
 }
 
 // At the window that takes it, at the pixel nearest to the point: in the topmost window that contains the point, the point itself.
-fn aim_pointer(s: Session, e: Event, held: u8, x: u32, y: u32) -> Aim
+fn aim_pointer(s: Session, e: Event, held: WinId, x: u32, y: u32) -> Aim
     requires { ⌜ Given s × (targetOf e (s .shared .held) ≡ Target.Point held x y) ⌝ }
     ensures { λ r. ⌜ Aims (Meets (Call.Route e) s) s r ⌝ }
 {
@@ -250,7 +251,7 @@ fn aim_pointer(s: Session, e: Event, held: u8, x: u32, y: u32) -> Aim
                 let column = nearest(area.x as u32, area.w as u32, x);
                 let row = nearest(area.y as u32, area.h as u32, y);
                 let inside = at_point(e, column, row);
-                to_window(at, inside, held_after(e, at, s.shared.held))
+                to_window(at, inside, held_after(e, id, s.shared.held))
             }
             Hit::Nobody => nobody(11),
         }

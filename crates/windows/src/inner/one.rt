@@ -49,7 +49,7 @@ pub fn free_slot(s: Session) -> FreeSlot
     let at = first_free(used);
     FreeSlot {
         at,
-        id: WinId(at as u16),
+        id: WinId(at as u32),
     }
 }
 

@@ -14,7 +14,7 @@ number-of-requires c κs = search needs
 returns : tie.Need-returns
 returns c s f h q id is same =
     let made = c .before .before .before .create .ensures s f h q id is same in
-    record { meets = made .meets; id = c .before .before .number-of .ensures ∙ ap (idOr 65535) (made .id) }
+    record { meets = made .meets; id = c .before .before .number-of .ensures ∙ ap (idOr 4294967295) (made .id) }
 
 pub create-spec : {M : Type 1} → statement M
 create-spec = tie.close (tie.spec create-requires number-of-requires returns)

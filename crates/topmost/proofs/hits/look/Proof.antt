@@ -41,9 +41,6 @@ shared-slice-read-y c = search needs
 contains-requires : tie.Need-contains-requires
 contains-requires c κs = search needs
 
-cast-put : tie.Need-cast-put
-cast-put c = search needs
-
 -- the window has the point
 has : (c : tie.Then2)
     → let a = c .before .before .before .before .before .before .before .before .args in
@@ -51,10 +48,10 @@ has : (c : tie.Then2)
 has c = says-in _ _ _ .fact (sym (c .before .contains .ensures) ∙ c .if2 .taken)
 
 sub-put : tie.Need-sub-put
-sub-put c = has (c .before .before .before) .west
+sub-put c = has (c .before .before) .west
 
 sub-put-2 : tie.Need-sub-put-2
-sub-put-2 c = has (c .before .before .before .before) .north
+sub-put-2 c = has (c .before .before .before) .north
 
 put-requires : tie.Need-put-requires
 put-requires c κs = search needs
@@ -64,7 +61,7 @@ same-length c = search needs
 
 returns : tie.Need-returns
 returns c =
-    let t = c .before .before .before .before .before .before .before in
+    let t = c .before .before .before .before .before .before in
     let i = t .before .before .before .before in
     let a = i .before .before .before .before .args in
     takes (a .id .0) (a .r) (a .points .now) (a .answers .now) (a .i) _ (i .if1 .taken) (sym (t .before .contains .ensures) ∙ t .if2 .taken)
@@ -95,7 +92,6 @@ look-spec =
     mul-y-2
     shared-slice-read-y
     contains-requires
-    cast-put
     sub-put
     sub-put-2
     put-requires

@@ -6,22 +6,23 @@ use mathlib.Core.Option.{none, some}
 use lib.Dec.{ltb}
 use borrow.Author.Tests.{eq-eqb, ne-eqb}
 use Rattle.rules.specs.Order as Rule
+use Rattle.order.specs.declared.WinId.{WinId}
 use Rattle.order.specs.Ids.{heldOf}
 use Rattle.topmost.proofs.release.forget.Statement.{statement}
 use Rattle.topmost.proofs.release.forget.Tie as tie
 
-hidden : (held id : ℕ) → held ≡ id → none ≡ Rule.forget id (heldOf held)
-hidden held id e = go (ltb held 16)
+hidden : (held : WinId) (id : ℕ) → held .0 ≡ id → none ≡ Rule.forget id (heldOf held)
+hidden held id e = go (ltb (held .0) 16)
   where
-    go : (b : Bool) → none ≡ Rule.forget id (cond b (some held) none)
-    go true = rw (eq-eqb held id e) refl
+    go : (b : Bool) → none ≡ Rule.forget id (cond b (some (held .0)) none)
+    go true = rw (eq-eqb (held .0) id e) refl
     go false = refl
 
-another : (held id : ℕ) → (held ≡ id → ⊥) → heldOf held ≡ Rule.forget id (heldOf held)
-another held id n = go (ltb held 16)
+another : (held : WinId) (id : ℕ) → (held .0 ≡ id → ⊥) → heldOf held ≡ Rule.forget id (heldOf held)
+another held id n = go (ltb (held .0) 16)
   where
-    go : (b : Bool) → cond b (some held) none ≡ Rule.forget id (cond b (some held) none)
-    go true = rw (ne-eqb held id n) refl
+    go : (b : Bool) → cond b (some (held .0)) none ≡ Rule.forget id (cond b (some (held .0)) none)
+    go true = rw (ne-eqb (held .0) id n) refl
     go false = refl
 
 returns : tie.Need-returns

@@ -8,21 +8,25 @@ use mathlib.Core.Option.{none, some}
 use borrow.Author.Tests.{lt-ltb, le-ltb, not-true, not-false}
 use Rattle.geom.specs.declared.Rect.{Rect}
 use Rattle.geom.specs.Geom.{isEmpty}
+use Rattle.order.specs.declared.WinId.{WinId}
 use Rattle.order.specs.Ids.{heldOf}
 use Rattle.topmost.specs.Topmost.{topmostAt, takerAt}
 use borrow.Author.Needs.{needs}
 use Rattle.topmost.proofs.release.taker.Statement.{statement}
 use Rattle.topmost.proofs.release.taker.Tie as tie
 
-module _ (frame : ℕ → Rect) (x y : ℕ) (os : List ℕ) (held : ℕ) where
-  remembered : held < 16 → isEmpty (frame held) ≡ false → some held ≡ takerAt frame x y os (heldOf held)
-  remembered l e = rw (lt-ltb held 16 l, e) refl
+module _ (frame : ℕ → Rect) (x y : ℕ) (os : List ℕ) (held : WinId) where
+  remembered : held .0 < 16 → isEmpty (frame (held .0)) ≡ false → some (held .0) ≡ takerAt frame x y os (heldOf held)
+  remembered l e = rw (lt-ltb (held .0) 16 l, e) refl
 
-  no-pixels : held < 16 → isEmpty (frame held) ≡ true → topmostAt frame x y os none ≡ takerAt frame x y os (heldOf held)
-  no-pixels l e = rw (lt-ltb held 16 l, e) refl
+  no-pixels : held .0 < 16 → isEmpty (frame (held .0)) ≡ true → topmostAt frame x y os none ≡ takerAt frame x y os (heldOf held)
+  no-pixels l e = rw (lt-ltb (held .0) 16 l, e) refl
 
-  nobody : 16 ≤ held → topmostAt frame x y os none ≡ takerAt frame x y os (heldOf held)
-  nobody l = rw (le-ltb held 16 l) refl
+  nobody : 16 ≤ held .0 → topmostAt frame x y os none ≡ takerAt frame x y os (heldOf held)
+  nobody l = rw (le-ltb (held .0) 16 l) refl
+
+cast-at : tie.Need-cast-at
+cast-at c = search needs
 
 mul-area : tie.Need-mul-area
 mul-area c = search needs
@@ -39,7 +43,7 @@ is-empty-requires c κs = search needs
 returns : tie.Need-returns
 returns c =
     let e = c .before in
-    remembered _ _ _ _ _ (e .before .before .before .if1 .taken)
+    remembered _ _ _ _ _ (e .before .before .before .before .if1 .taken)
     (ap isEmpty (sym (e .before .rect .ensures)) ∙ sym (e .is-empty .ensures) ∙ not-true _ (c .if2 .taken))
 
 topmost-requires : tie.Need-topmost-requires
@@ -48,8 +52,8 @@ topmost-requires c κs = search needs
 returns-2 : tie.Need-returns-2
 returns-2 c =
     c .topmost .ensures
-    ∙ ⊎-elim (λ w. no-pixels _ _ _ _ _ (w .0 .taken) (ap isEmpty (sym (w .2 .ensures)) ∙ sym (w .3 .ensures) ∙ not-false _ (w .4 .left))) (λ w. nobody _ _ _ _ _ (w .left))
+    ∙ ⊎-elim (λ w. no-pixels _ _ _ _ _ (w .0 .taken) (ap isEmpty (sym (w .3 .ensures)) ∙ sym (w .4 .ensures) ∙ not-false _ (w .5 .left))) (λ w. nobody _ _ _ _ _ (w .left))
     (c .before .if1 .came)
 
 pub taker-spec : {M : Type 1} → statement M
-taker-spec = tie.close (tie.spec mul-area array-copy-out-area rect-requires is-empty-requires returns topmost-requires returns-2)
+taker-spec = tie.close (tie.spec cast-at mul-area array-copy-out-area rect-requires is-empty-requires returns topmost-requires returns-2)

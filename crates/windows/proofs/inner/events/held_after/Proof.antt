@@ -29,16 +29,13 @@ stays (MouseUp x y b) to held k = absurd (miss (0 ∷ 1 ∷ 2 ∷ 3 ∷ 4 ∷ 5 
 enum-told : tie.Need-enum-told
 enum-told c = search needs
 
-cast-result : tie.Need-cast-result
-cast-result c = search needs
-
 enum-told-2 : tie.Need-enum-told-2
 enum-told-2 c = search needs
 
 returns : tie.Need-returns
 returns c =
     let s = c .before .before in
-    rw (lt-ltb (s .args .at) 16 (s .pre)) (sym (ap (λ (e : Event). heldAfter e (some (s .args .at)) (heldOf (s .args .held))) (c .enum-told .given .1)))
+    rw (lt-ltb (s .args .id .0) 16 (s .pre)) (sym (ap (λ (e : Event). heldAfter e (some (s .args .id .0)) (heldOf (s .args .held))) (c .enum-told .given .1)))
 
 returns-2 : tie.Need-returns-2
 returns-2 c = search needs
@@ -47,4 +44,4 @@ returns-3 : tie.Need-returns-3
 returns-3 c = stays (c .before .args .e) _ _ (c .match .keys3)
 
 pub held-after-spec : {M : Type 1} → statement M
-held-after-spec = tie.close (tie.spec enum-told cast-result enum-told-2 returns returns-2 returns-3)
+held-after-spec = tie.close (tie.spec enum-told enum-told-2 returns returns-2 returns-3)

@@ -1,13 +1,13 @@
 -- Each arm of the match gives the event, at which the rule computes.
-use Prim.Native.Nat.{ℕ}
 use mathlib.Core.Path.{_≡_, sym, ap}
 use Rattle.window.specs.declared.Event.{Event}
+use Rattle.order.specs.declared.WinId.{WinId}
 use Rattle.windows.specs.Events.{targetOf}
 use borrow.Author.Needs.{needs}
 use Rattle.windows.proofs.inner.events.target_of.Statement.{statement}
 use Rattle.windows.proofs.inner.events.target_of.Tie as tie
 
-by-event : (held : ℕ) {d e : Event} → d ≡ e → targetOf e held ≡ targetOf d held
+by-event : (held : WinId) {d e : Event} → d ≡ e → targetOf e held ≡ targetOf d held
 by-event held q = sym (ap (λ (o : Event). targetOf o held) q)
 
 enum-told : tie.Need-enum-told

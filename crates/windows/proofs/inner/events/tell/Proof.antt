@@ -10,11 +10,11 @@ push-event-requires c κs = let s = c .before in (s .pre .0, s .pre .1 (c .if1 .
 
 returns : tie.Need-returns
 returns c =
-    let p = c .before .before .before in
+    let p = c .before .before .before .before in
     record {
       told = λ _. p .push-event .ensures;
       kept = λ q. clash (p .before .if1 .taken) q;
-      shared = λ _. rw (eq-eqb (p .push-event .result .answer) 0 (c .if2 .taken)) refl;
+      shared = λ _. rw (eq-eqb (p .push-event .result .answer) 0 (c .before .if2 .taken)) refl;
     }
 
 returns-2 : tie.Need-returns-2

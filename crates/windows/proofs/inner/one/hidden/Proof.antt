@@ -23,7 +23,7 @@ use Rattle.windows.proofs.inner.one.hidden.Statement.{statement}
 use Rattle.windows.proofs.inner.one.hidden.Tie as tie
 
 -- the share without the window
-abbrev left : List WinId → WinId → ℕ → Shared → Shared
+abbrev left : List WinId → WinId → WinId → Shared → Shared
 left order focus held k = holding held (ordered order (k .shown - 1) focus k)
 
 few : (c : tie.Start) → c .args .shared .shown ≤ 16
