@@ -7,6 +7,7 @@ ghost use Rattle.rules.specs.Visible.{rectsOf};
 ghost use Rattle.rules.specs.Lent.{Lent};
 ghost use Rattle.bands.specs.Sort.{Sorted};
 ghost use Rattle.bands.specs.Scan.{RowMade};
+use geom::Pos;
 use geom::Rect;
 use geom::inner;
 use geom::inner::numbers::rect_at;
@@ -35,7 +36,8 @@ pub fn row(at: Rect, above: &[u32], n: usize, y: u32, nums: &mut [u32], e: usize
     let mut i: usize = 0;
     while i < n {
         let r = rect_at(above, i);
-        if inner::contains(r, r.pos.x, y) {
+        let hit = r.contains(Pos::new(r.pos.x, y));
+        if hit.yes {
             let stop = inner::least(r.pos.x, limit);
             if x < stop {
                 span(nums, e + 2 * k, x - left, stop - left);

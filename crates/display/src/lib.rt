@@ -13,7 +13,6 @@ use geom::Pos;
 use geom::Rect;
 use geom::inner::bottom;
 use geom::inner::clamp_pos;
-use geom::inner::contains;
 use geom::inner::dist_sq;
 use geom::inner::is_empty;
 use geom::inner::right;
@@ -111,7 +110,8 @@ impl Displays {
         while i < n {
             let surf = self.areas[i];
             let region = surf.rect();
-            if contains(region, pos.x, pos.y) {
+            let on = region.contains(pos);
+            if on.yes {
                 return AtPos::Display(region);
             }
             i += 1;

@@ -9,8 +9,8 @@ ghost use Rattle.rules.specs.Hits.{eachPoint};
 ghost use Rattle.order.specs.Ids.{ids};
 ghost use Rattle.order.specs.Frames.{frameAt, Shown};
 ghost use Rattle.topmost.specs.Hits.{three, atPoint, Written, toNobody, answered, hitIn};
+use geom::Pos;
 use geom::Rect;
-use geom::inner::contains;
 use order::WinId;
 use window::damage::Area;
 
@@ -45,7 +45,8 @@ fn look(id: WinId, r: Rect, points: &[u32], answers: &mut [u32], i: usize)
     if answers[3 * i] == 16 {
         let x = points[2 * i];
         let y = points[2 * i + 1];
-        if contains(r, x, y) {
+        let hit = r.contains(Pos::new(x, y));
+        if hit.yes {
             put(answers, i, id.0, x - r.pos.x, y - r.pos.y);
         }
     }

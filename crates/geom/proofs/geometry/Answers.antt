@@ -5,15 +5,16 @@ use mathlib.Core.Bool.{Bool, true, false, cond}
 use mathlib.Core.List.{[]}
 use mathlib.Core.Option.{Option, some, none, Option·some-injective, Option·none-ne-some, Option·some-ne-none}
 use native.Mathlib.Omega.{arith}
+use Rattle.geom.specs.declared.Pos.{Pos}
 use Rattle.geom.specs.declared.Rect.{Rect}
 use Rattle.geom.specs.declared.Tested.{Tested}
 use Rattle.geom.specs.declared.United.{United}
 use Rattle.geom.specs.declared.NotIntersect.{NotIntersect}
 use Rattle.geom.specs.declared.Intersection.{Intersection}
 use Rattle.geom.specs.declared.Intersection.the-variants.{Common, Apart, Refused}
-use Rattle.geom.specs.Geom.{rect, containsRect, meets, common, intersect, union, pieces}
+use Rattle.geom.specs.Geom.{rect, contains, containsRect, meets, common, intersect, union, pieces}
 use Rattle.geom.specs.Inner.{Fits}
-use Rattle.geom.specs.Bare.{Holds, bothFit, tested, bareContainsRect, bareUnion, Met, met, bareIntersect, barePieces, BareNotIntersect}
+use Rattle.geom.specs.Bare.{Holds, bothFit, tested, bareContains, bareContainsRect, bareUnion, Met, met, bareIntersect, barePieces, BareNotIntersect}
 use Rattle.geom.proofs.basics.Tests.{says-and}
 use Rattle.geom.proofs.geometry.Facts.{says-fits}
 
@@ -64,6 +65,10 @@ module _ (a b : Rect) where
   pieces-no r f n h = record { answer = rw f n; pieces = rw f h }
 
 -- What a caller learns whose rectangles fit ---------------------------------------------------------------------------
+
+-- of the point p, which has been made of two numbers
+pub contains-is : (r : Rect) (px py : ℕ) {p : Pos} {t : Tested} → Fits r → (p .x ≡ px) × (p .y ≡ py) → t ≡ bareContains r (p .x) (p .y) → t .yes ≡ contains r px py
+contains-is r px py f at e = ap (λ (t : Tested). t .yes) e ∙ rw (says-fits r .test f, at .0, at .1)
 
 module _ {a b : Rect} (f : Fits a × Fits b) where
   fit : bothFit a b ≡ true

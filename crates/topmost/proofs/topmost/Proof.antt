@@ -3,12 +3,11 @@ use Prim.Native.Nat.{ℕ, _-_, _≤_, _<_}
 use mathlib.Core.Path.{_≡_, refl, sym, ap, _∙_}
 use native.Mathlib.Omega.{arith}
 use lib.ListN.{getD}
-use borrow.Author.Tests.{le-leb}
 use Rattle.geom.specs.declared.Rect.{Rect}
-use Rattle.geom.specs.declared.Tested.{Tested}
-use Rattle.geom.specs.Geom.{right, bottom, contains}
-use Rattle.geom.specs.Bare.{bareContains}
-use Rattle.window.specs.Held.{Small}
+use Rattle.geom.specs.Geom.{contains}
+use Rattle.geom.specs.Inner.{Fits}
+use Rattle.geom.proofs.geometry.Answers.{contains-is}
+use Rattle.window.proofs.laws.Entries.{small-fits}
 use Rattle.order.specs.Order.{noId}
 use Rattle.order.specs.Frames.{frameAt}
 use Rattle.topmost.proofs.laws.Topmost.{Seeking, seek, gone, hit, miss}
@@ -26,13 +25,6 @@ abbrev μ-loop : tie.MeasureT-loop
 looked : (c : tie.In-loop Inv-loop μ-loop) → getD (c .before .before .args .t2) (c .before .loop .left - 1) noId .0 < 16
 looked c = c .before .before .pre .low _ (omega (arith, c .loop-test .taken, c .before .loop .inv .within))
 
--- a small rectangle passes question 14, so that the call gives the rule's answer
-small-yes : (r : Rect) (px py : ℕ) → Small r → bareContains r px py .yes ≡ contains r px py
-small-yes r px py h =
-    let e : right r ≤ 4294967295 = omega arith in
-    let f : bottom r ≤ 4294967295 = omega arith in
-    rw (le-leb (right r) 4294967295 e, le-leb (bottom r) 4294967295 f)
-
 -- the test is the rule's
 asks : (c : tie.After-contains Inv-loop μ-loop)
     → let l = c .before .before .before .before .before .before .before in
@@ -41,9 +33,10 @@ asks : (c : tie.After-contains Inv-loop μ-loop)
 asks c =
     let i = c .before .before .before .before .before .before in
     let s = i .before .before in
-    ap (λ (r : Tested). r .yes) (c .contains .ensures)
-    ∙ (λ i. bareContains (c .before .before .rect .ensures i) (c .before .new .ensures .0 i) (c .before .new .ensures .1 i) .yes)
-    ∙ small-yes _ (s .args .x) (s .args .y) (s .pre .small _ (looked i))
+    let r = c .before .before .rect in
+    let fits : Fits (r .result) = rw (r .ensures) (small-fits _ (s .pre .small _ (looked i))) in
+    contains-is (r .result) (s .args .x) (s .args .y) fits (c .before .new .ensures) (c .contains .ensures)
+    ∙ ap (λ (r : Rect). contains r (s .args .x) (s .args .y)) (r .ensures)
 
 loop-holds : tie.Need-loop-holds Inv-loop μ-loop
 loop-holds c = seek _ _ _ _ _

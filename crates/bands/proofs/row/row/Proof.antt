@@ -5,6 +5,8 @@ use Prim.Native.Nat.{_-_}
 use native.Mathlib.Omega.{arith}
 use lib.ListN.{length, length-set}
 use borrow.Author.Needs.{needs}
+use Rattle.geom.specs.Inner.{Fits}
+use Rattle.geom.proofs.geometry.Answers.{contains-is}
 use Rattle.window.proofs.laws.Entries.{small-fits}
 use Rattle.rules.proofs.Lent.{fits-at}
 use Rattle.bands.proofs.laws.Pass.{Passing, passing-none, passing-over, passing-on, passing-span, row-done, row-last}
@@ -17,6 +19,13 @@ Inv-loop above n y nums₀ e left limit x₀ k₀ i₀ nums x k i = Passing left
 abbrev μ-loop : tie.MeasureT-loop
 μ-loop above n y nums₀ e left limit x₀ k₀ i₀ nums x k i = n - i
 
+-- question 14 holds of a rectangle that was read
+fits : (c : tie.After-rect-at Inv-loop μ-loop) → Fits (c .rect-at .result)
+fits c =
+    let loop = c .before .before in
+    let start = loop .before .before .before .before in
+    rw (c .rect-at .ensures) (fits-at (start .args .n) (start .args .above .now) (loop .loop .i) (start .pre .0 .0) (c .before .loop-test .taken))
+
 right-requires : tie.Need-right-requires Inv-loop μ-loop
 right-requires c κs = let s = c .before .before in small-fits (s .args .at) (s .pre .0 .2)
 
@@ -28,11 +37,11 @@ loop-holds c =
 rect-at-requires : tie.Need-rect-at-requires Inv-loop μ-loop
 rect-at-requires c κs = omega arith
 
+new-requires : tie.Need-new-requires Inv-loop μ-loop
+new-requires c κs = search needs
+
 contains-requires : tie.Need-contains-requires Inv-loop μ-loop
-contains-requires c κs =
-    let loop = c .before .before in
-    let start = loop .before .before .before .before in
-    rw (c .rect-at .ensures) (fits-at (start .args .n) (start .args .above .now) (loop .loop .i) (start .pre .0 .0) (c .before .loop-test .taken))
+contains-requires c κs = search needs
 
 least-requires : tie.Need-least-requires Inv-loop μ-loop
 least-requires c κs = search needs
@@ -56,11 +65,7 @@ add-k : tie.Need-add-k Inv-loop μ-loop
 add-k c = omega arith
 
 right-requires-2 : tie.Need-right-requires-2 Inv-loop μ-loop
-right-requires-2 c κs =
-    let read = c .before .before .before .before in
-    let loop = read .before .before in
-    let start = loop .before .before .before .before in
-    rw (read .rect-at .ensures) (fits-at (start .args .n) (start .args .above .now) (loop .loop .i) (start .pre .0 .0) (read .before .loop-test .taken))
+right-requires-2 c κs = fits (c .before .before .before .before .before)
 
 greatest-requires : tie.Need-greatest-requires Inv-loop μ-loop
 greatest-requires c κs = search needs
@@ -73,14 +78,15 @@ loop-less c = omega arith
 
 loop-again : tie.Need-loop-again Inv-loop μ-loop
 loop-again c =
-    let read = c .before .before in
+    let made = c .before .before in
+    let read = made .before in
     let loop = read .before .before in
     let start = loop .before .before .before .before in
     let q = loop .loop .inv in
     let less = read .before .loop-test .taken in
     let r = read .rect-at .result in
     let er = read .rect-at .ensures in
-    let has = sym (c .before .contains .ensures) in
+    let has = sym (contains-is r (r .pos .x) (start .args .y) (fits read) (made .new .ensures) (c .before .contains .ensures)) in
     ⊎-elim
     (λ w. rw (w .5, w .6, w .7) (⊎-elim
     (λ v. rw (v .5, v .6) (passing-span q less r er (start .pre .0 .3) (has ∙ w .0 .taken) (w .3 .result) (w .1 .result) (w .4 .result) (w .1 .ensures) (w .3 .ensures) (w .4 .ensures)
@@ -139,6 +145,7 @@ row-spec =
     right-requires
     loop-holds
     rect-at-requires
+    new-requires
     contains-requires
     least-requires
     mul-span

@@ -5,6 +5,8 @@ use mathlib.Core.Option.{some}
 use native.Mathlib.Omega.{arith}
 use Rattle.geom.specs.declared.Rect.{Rect}
 use Rattle.geom.specs.Geom.{contains}
+use Rattle.geom.specs.Inner.{Fits}
+use Rattle.geom.proofs.geometry.Answers.{contains-is}
 use Rattle.display.proofs.laws.Regions.{region, screen-fits}
 use Rattle.display.proofs.laws.Search.{Passed, hit, miss, gone}
 use borrow.Author.Needs.{needs}
@@ -21,10 +23,13 @@ abbrev μ-loop : tie.MeasureT-loop
 told : (c : tie.After-contains Inv-loop μ-loop)
     → let l = c .before .before .before .before in
     let a = l .before .args in
-    contains (region (a .t1) (l .loop .i)) (a .pos .x) (a .pos .y) ≡ c .contains .result
+    contains (region (a .t1) (l .loop .i)) (a .pos .x) (a .pos .y) ≡ c .contains .result .yes
 told c =
-    let a = c .before .before .before .before .before .args in
-    ap (λ (r : Rect). contains r (a .pos .x) (a .pos .y)) (sym (c .before .rect .ensures)) ∙ sym (c .contains .ensures)
+    let l = c .before .before .before .before in
+    let a = l .before .args in
+    let r = c .before .rect in
+    let fits : Fits (r .result) = rw (r .ensures) (screen-fits (l .loop .inv .ok .each (l .loop .i) (omega (arith, l .loop .inv .count-is)))) in
+    ap (λ (r : Rect). contains r (a .pos .x) (a .pos .y)) (sym (r .ensures)) ∙ sym (contains-is (r .result) (a .pos .x) (a .pos .y) fits (refl, refl) (c .contains .ensures))
 
 cast-n : tie.Need-cast-n Inv-loop μ-loop
 cast-n c = search needs
@@ -42,9 +47,7 @@ rect-requires : tie.Need-rect-requires Inv-loop μ-loop
 rect-requires c κs = search needs
 
 contains-requires : tie.Need-contains-requires Inv-loop μ-loop
-contains-requires c κs =
-    let l = c .before .before .before .loop in
-    rw (c .rect .ensures) (screen-fits (l .inv .ok .each (l .i) (omega (arith, l .inv .count-is))))
+contains-requires c κs = search needs
 
 returns : tie.Need-returns Inv-loop μ-loop
 returns c =

@@ -1,8 +1,10 @@
 -- Three cases: the window has the point; it has not; a higher one had it.
 use Prim.Native.Nat.{_*_, _+_}
-use mathlib.Core.Path.{sym, _∙_}
+use mathlib.Core.Path.{_≡_, sym, _∙_}
 use lib.ListN.{getD}
+use Rattle.geom.specs.Geom.{contains}
 use Rattle.geom.proofs.geometry.Facts.{In, says-in}
+use Rattle.geom.proofs.geometry.Answers.{contains-is}
 use Rattle.topmost.proofs.laws.Hits.{takes, lacks, passes-over}
 use borrow.Author.Needs.{needs}
 use Rattle.topmost.proofs.hits.look.Statement.{statement}
@@ -38,14 +40,30 @@ mul-y-2 c = search needs
 shared-slice-read-y : tie.Need-shared-slice-read-y
 shared-slice-read-y c = search needs
 
+new-requires : tie.Need-new-requires
+new-requires c κs = search needs
+
 contains-requires : tie.Need-contains-requires
 contains-requires c κs = search needs
 
+-- from the test of the point back to that of the answer, and to the start
+abbrev unanswered : tie.After-contains → tie.Then1
+unanswered c = let point = c .before .before in point .before .before
+
+abbrev start : tie.After-contains → tie.Start
+start c = let test = unanswered c in test .before .before .before .before
+
+-- the test is the rule's
+asks : (c : tie.After-contains)
+    → let a = start c .args in
+    c .contains .result .yes ≡ contains (a .r) (getD (a .points .now) (2 * a .i) 0) (getD (a .points .now) (2 * a .i + 1) 0)
+asks c = contains-is (start c .args .r) _ _ (start c .pre .0) (c .before .new .ensures) (c .contains .ensures)
+
 -- the window has the point
 has : (c : tie.Then2)
-    → let a = c .before .before .before .before .before .before .before .before .args in
+    → let a = start (c .before) .args in
     In (a .r) (getD (a .points .now) (2 * a .i) 0) (getD (a .points .now) (2 * a .i + 1) 0)
-has c = says-in _ _ _ .fact (sym (c .before .contains .ensures) ∙ c .if2 .taken)
+has c = says-in _ _ _ .fact (sym (asks (c .before)) ∙ c .if2 .taken)
 
 sub-put : tie.Need-sub-put
 sub-put c = has (c .before .before) .west
@@ -61,16 +79,16 @@ same-length c = search needs
 
 returns : tie.Need-returns
 returns c =
-    let t = c .before .before .before .before .before .before in
-    let i = t .before .before .before .before in
-    let a = i .before .before .before .before .args in
-    takes (a .id .0) (a .r) (a .points .now) (a .answers .now) (a .i) _ (i .if1 .taken) (sym (t .before .contains .ensures) ∙ t .if2 .taken)
-    (c .before .before .put .ensures)
+    let p = c .before .before in
+    let t = p .before .before .before .before in
+    let a = start (t .before) .args in
+    takes (a .id .0) (a .r) (a .points .now) (a .answers .now) (a .i) _ (unanswered (t .before) .if1 .taken)
+    (sym (asks (t .before)) ∙ t .if2 .taken) (p .put .ensures)
 
 returns-2 : tie.Need-returns-2
 returns-2 c =
-    let a = c .before .before .before .before .before .before .before .before .args in
-    lacks (a .id .0) (a .r) (a .points .now) (a .answers .now) (a .i) (sym (c .before .contains .ensures) ∙ c .if2 .left)
+    let a = start (c .before) .args in
+    lacks (a .id .0) (a .r) (a .points .now) (a .answers .now) (a .i) (sym (asks (c .before)) ∙ c .if2 .left)
 
 returns-3 : tie.Need-returns-3
 returns-3 c =
@@ -91,6 +109,7 @@ look-spec =
     add-y
     mul-y-2
     shared-slice-read-y
+    new-requires
     contains-requires
     sub-put
     sub-put-2
