@@ -274,7 +274,7 @@ pub fn resize(
         answer = 3;
         if is_used(win, id) {
             answer = 5;
-            let size = Dims { w, h };
+            let size = Dims::new(w, h);
             if is_small_size(size) {
                 answer = 6;
                 if w * h <= shared.c {

@@ -36,12 +36,20 @@ product : (w h : ℕ) → (w ≤ 32767) × (h ≤ 32767) → w * h ≤ 107367628
 product w h p = let m : w * h ≤ 32767 * h = mul-le-mul-right h (p .0) in omega (arith, p .1)
 
 -- questions 1 and 3 are answered yes
-known : (c : tie.Then2) → let a = c .before .before .before .before .before .args in Writable (a .id .0) (a .win) (a .shared) (a .store .now)
+abbrev start : tie.Then2 → tie.Start
+start c = let test = c .before .before in test .before .before .before
+
+known : (c : tie.Then2) → let a = start c .args in Writable (a .id .0) (a .win) (a .shared) (a .store .now)
 known c = writable (c .before .before .if1 .taken) (c .before .is-used .ensures) (c .if2 .taken)
 
--- and question 5
-small : (c : tie.Then3) → let a = c .before .before .before .before .before .before .before .args in smallSize (a .w) (a .h) ≡ true
-small c = sym (c .before .is-small-size .ensures) ∙ c .if3 .taken
+-- question 5 is asked of the size that is made of the two numbers
+asks-5 : (c : tie.After-is-small-size) → let a = start (c .before .before) .args in smallSize (a .w) (a .h) ≡ c .is-small-size .result
+asks-5 c =
+    let n = c .before .new .ensures in
+    sym (λ i. smallSize (n .0 i) (n .1 i)) ∙ sym (c .is-small-size .ensures)
+
+small : (c : tie.Then3) → let a = start (c .before .before .before) .args in smallSize (a .w) (a .h) ≡ true
+small c = asks-5 (c .before) ∙ c .if3 .taken
 
 cast-c : tie.Need-cast-c
 cast-c c = search needs
@@ -52,12 +60,15 @@ mul-if1 c = search needs
 is-used-requires : tie.Need-is-used-requires
 is-used-requires c κs = search needs
 
+new-requires : tie.Need-new-requires
+new-requires c κs = search needs
+
 is-small-size-requires : tie.Need-is-small-size-requires
 is-small-size-requires c κs = search needs
 
 mul-if4 : tie.Need-mul-if4
 mul-if4 c =
-    let a = c .before .before .before .before .before .before .before .args in
+    let a = start (c .before .before .before) .args in
     omega (arith, product (a .w) (a .h) (small-size (a .w) (a .h) (small c)))
 
 cast-resized : tie.Need-cast-resized
@@ -65,27 +76,33 @@ cast-resized c = search needs
 
 mul-resized : tie.Need-mul-resized
 mul-resized c =
-    let t = c .before .before .before .before .before in
-    omega (arith, place (t .before .before .before .before .before .pre) (known t))
+    let f = c .before .before .before in
+    let t = f .before .before .before in
+    omega (arith, place (start t .pre) (known t))
 
 resized-requires : tie.Need-resized-requires
 resized-requires c κs =
     let f = c .before .before .before .before in
-    let t = f .before .before in
-    let s = t .before .before .before .before .before in
+    let n = f .before .before .new .ensures in
+    let t = f .before .before .before in
+    let s = start t in
     let b = small-size (s .args .w) (s .args .h) (small f) in
     let o = known t in
-    record {
+    rw (n .0, n .1)
+    (record {
       rep = rep (s .pre) o;
       room = ends (s .pre) o;
       old = size (s .pre) o .area≤;
       new = c .before .before .if4 .taken;
       width≤ = b .0;
       height≤ = b .1;
-    }
+    })
 
 flagged-requires : tie.Need-flagged-requires
-flagged-requires c κs = known (c .before .before .before .before .before .before .before .before .before) .low
+flagged-requires c κs =
+    let r = c .before .before .before in
+    let f = r .before .before .before .before in
+    known (f .before .before .before) .low
 
 owing-requires : tie.Need-owing-requires
 owing-requires c κs = search needs
@@ -98,25 +115,26 @@ returns c =
     let r = c .before .before .before .before in
     let g = r .before .before .before in
     let f = g .before .before in
-    let t = f .before .before in
-    let s = t .before .before .before .before .before in
+    let n = f .before .before .new .ensures in
+    let t = f .before .before .before in
+    let s = start t in
     let a = s .args in
     rw (c .owing .ensures, c .before .flagged .ensures)
-    (yes rule (known t) (flag-debt (a .id .0) false) (r .resized .result) _ (rw (small f, le-leb (a .w * a .h) (a .shared .c) (g .if4 .taken))) (r .resized .ensures))
+    (yes rule (known t) (flag-debt (a .id .0) false) (r .resized .result) _ (rw (small f, le-leb (a .w * a .h) (a .shared .c) (g .if4 .taken))) (rw (n .0, n .1) at (r .resized .ensures)))
 
 returns-2 : tie.Need-returns-2
 returns-2 c =
     let f = c .before .before in
-    let t = f .before .before in
-    let s = t .before .before .before .before .before in
+    let t = f .before .before .before in
+    let s = start t in
     let a = s .args in
     no rule (known t) 5 (rw (small f, lt-leb (a .w * a .h) (a .shared .c) (c .if4 .left)))
 
 returns-3 : tie.Need-returns-3
 returns-3 c =
-    let t = c .before .before in
-    let s = t .before .before .before .before .before in
-    let e : smallSize (s .args .w) (s .args .h) ≡ false = sym (c .before .is-small-size .ensures) ∙ c .if3 .left in
+    let t = c .before .before .before in
+    let s = start t in
+    let e : smallSize (s .args .w) (s .args .h) ≡ false = asks-5 (c .before) ∙ c .if3 .left in
     no rule (known t) 4 (rw e)
 
 returns-4 : tie.Need-returns-4
@@ -134,6 +152,7 @@ resize-spec =
     cast-c
     mul-if1
     is-used-requires
+    new-requires
     is-small-size-requires
     mul-if4
     cast-resized
