@@ -19,8 +19,8 @@ static const char *const names[] = {"", "W1", "W2", "W3", "W4", "W5", "W6"};
 static RoqSession s;
 static uint32_t store[STORE], screen[W * H];
 static bool reverse[PANELS + 1], stopped;          /* how the turnouts lie: normal (+) or reverse (-) */
-static uint16_t dragged = NOBODY, armed = NOBODY;  /* the window held by its bar, or by its button or knob */
-static uint16_t lit = NOBODY;                      /* the panel under the pointer */
+static uint32_t dragged = NOBODY, armed = NOBODY;  /* the window held by its bar, or by its button or knob */
+static uint32_t lit = NOBODY;                      /* the panel under the pointer */
 static uint32_t grab_x, grab_y;                    /* where in the panel the drag began */
 
 /* Every call here is one that the library takes: another answer is a mistake of ours. */
@@ -30,11 +30,11 @@ static void must(const char *call, uint32_t answer) {
     exit(1);
 }
 
-static bool is_panel(uint16_t id) {
+static bool is_panel(uint32_t id) {
     return id != PLAN && id <= PANELS;
 }
 
-static RoqPos at(uint16_t id) {
+static RoqPos at(uint32_t id) {
     return roq_rect_of(&s, id).rect.pos;
 }
 
@@ -44,17 +44,17 @@ static uint32_t between(int least, int value, int most) {
 
 /* ---- Drawing: what is written is marked, or it is not shown ---- */
 
-static void mark(uint16_t id) {
+static void mark(uint32_t id) {
     must("mark", roq_mark(&s, id));
 }
 
-static void fill(uint16_t id, uint32_t x, uint32_t y, uint32_t w, uint32_t h, uint32_t colour) {
+static void fill(uint32_t id, uint32_t x, uint32_t y, uint32_t w, uint32_t h, uint32_t colour) {
     RoqRect area = {{x, y}, {w, h}};
     must("fill", roq_fill(&s, id, area, colour, store, STORE).answer);
 }
 
 /* Letters of 3 by 5 squares: an octal digit is a row. */
-static void letters(uint16_t id, const char *text, uint32_t x, uint32_t y, uint32_t size, uint32_t ink) {
+static void letters(uint32_t id, const char *text, uint32_t x, uint32_t y, uint32_t size, uint32_t ink) {
     static const char known[] = "123456W+-STOP";
     static const uint16_t rows[] = {026227, 061747, 061617, 055711, 074616, 034757, 055577, 002720, 000700, 034216, 072222, 075557, 075744};
     for (; *text != 0; text++, x += 4 * size)
@@ -63,13 +63,13 @@ static void letters(uint16_t id, const char *text, uint32_t x, uint32_t y, uint3
 }
 
 /* A leg of a turnout on the plan: straight on, or across to the other track. */
-static void draw_leg(uint16_t n, bool across, uint32_t colour) {
+static void draw_leg(uint32_t n, bool across, uint32_t colour) {
     uint32_t x = 40 + 124 * (n - 1u), y = n % 2 ? 70 : 130;
     if (!across) fill(PLAN, x, y, 54, 6, colour);
     for (uint32_t i = 0; across && i < 13; i++) fill(PLAN, x + 4 * i, n % 2 ? y + 5 * i : y - 5 * i, 6, 6, colour);
 }
 
-static void draw_turnout(uint16_t n) {
+static void draw_turnout(uint32_t n) {
     draw_leg(n, !reverse[n], RAIL);
     draw_leg(n, reverse[n], ROUTE);
     mark(PLAN);
@@ -79,13 +79,13 @@ static void draw_plan(void) {
     fill(PLAN, 0, 0, W, H, GROUND);
     fill(PLAN, 0, 70, W, 6, RAIL);
     fill(PLAN, 0, 130, W, 6, RAIL);
-    for (uint16_t n = 1; n <= PANELS; n++) {
+    for (uint32_t n = 1; n <= PANELS; n++) {
         letters(PLAN, names[n], 44 + 124 * (n - 1u), n % 2 ? 44 : 148, 3, RAIL);
         draw_turnout(n);
     }
 }
 
-static void draw_panel(uint16_t id) {
+static void draw_panel(uint32_t id) {
     fill(id, 0, 0, PW, PH, DARK);
     fill(id, 1, 1, PW - 2, PH - 2, PAPER);
     fill(id, 1, 1, PW - 2, BAR, id == lit ? LIGHT : BLUE);
@@ -111,13 +111,13 @@ static void draw_stop(void) {
 }
 
 /* The window of a button or of the knob. */
-static void draw_button(uint16_t id) {
+static void draw_button(uint32_t id) {
     if (is_panel(id)) draw_panel(id);
     if (id == STOP) draw_stop();
 }
 
 /* A window on top of those before it. Ids come in their order from 0. */
-static void open_window(uint16_t id, uint32_t x, uint32_t y, uint32_t w, uint32_t h) {
+static void open_window(uint32_t id, uint32_t x, uint32_t y, uint32_t w, uint32_t h) {
     must("create", roq_create(&s).answer);
     must("resize", roq_resize(&s, id, w, h, store, STORE));
     must("move", roq_move(&s, id, x, y));
@@ -129,7 +129,7 @@ static void open_desk(void) {
     must("start", roq_start(&s, C));
     open_window(PLAN, 0, 0, W, H);
     draw_plan();
-    for (uint16_t id = 1; id <= PANELS; id++) {
+    for (uint32_t id = 1; id <= PANELS; id++) {
         open_window(id, 24 + (id - 1u) % 3 * 172, 230 + (id - 1u) / 3 * 122, PW, PH);
         draw_panel(id);
     }
@@ -158,7 +158,7 @@ static void set_stopped(bool on) {
 }
 
 /* STOP pops no press but those that come while the desk is stopped already (see pointer). */
-static void press(uint16_t id, uint32_t x, uint32_t y) {
+static void press(uint32_t id, uint32_t x, uint32_t y) {
     if (is_panel(id) && y <= BAR) dragged = id, grab_x = x, grab_y = y;
     if (is_panel(id) ? !in_button(x, y) : id != STOP || !in_end(LEFT, x, y)) return;
     armed = id;
@@ -167,7 +167,7 @@ static void press(uint16_t id, uint32_t x, uint32_t y) {
 
 /* What is held is held no more: its release, if it comes, throws and resets nothing. */
 static void give_up(void) {
-    uint16_t held = armed;
+    uint32_t held = armed;
     armed = dragged = NOBODY;
     draw_button(held);
 }
@@ -178,14 +178,14 @@ static void drag(RoqEvent move, RoqPos of) {
     if (dragged != NOBODY) must("move", roq_move(&s, dragged, between(0, x, W - PW), between(0, y, H - PH)));
 }
 
-static void throw_turnout(uint16_t id) {
+static void throw_turnout(uint32_t id) {
     reverse[id] = !reverse[id];
     printf("%s lies %s\n", names[id], reverse[id] ? "reverse" : "normal");
     draw_turnout(id);
 }
 
 /* A release comes to the window of its press, wherever it was let go; beside the window it comes at the edge, where there is no button. */
-static void let_go(uint16_t id, uint32_t x, uint32_t y) {
+static void let_go(uint32_t id, uint32_t x, uint32_t y) {
     if (id == dragged) printf("%s is at %u %u\n", names[id], (unsigned)at(id).x, (unsigned)at(id).y);
     dragged = NOBODY;
     if (id != armed) return;
@@ -197,21 +197,21 @@ static void let_go(uint16_t id, uint32_t x, uint32_t y) {
 /* ---- The pointer ---- */
 
 /* Who is under a point of the screen. */
-static uint16_t under(uint32_t x, uint32_t y) {
+static uint32_t under(uint32_t x, uint32_t y) {
     uint32_t point[2] = {x, y}, hit[3];
     must("hits", roq_hits(&s, point, 2, hit, 3));
-    return (uint16_t)hit[0]; /* 0 to 16: it is never cut */
+    return hit[0];
 }
 
 /* Puts a panel on top. The one with the focus is there already. */
-static void raise_panel(uint16_t id) {
+static void raise_panel(uint32_t id) {
     if (!is_panel(id) || id == roq_focus(&s)) return;
     must("hide", roq_hide(&s, id));
     must("show", roq_show(&s, id));
 }
 
-static void light(uint16_t id) {
-    uint16_t before = lit;
+static void light(uint32_t id) {
+    uint32_t before = lit;
     if (id == before) return;
     lit = id;
     if (is_panel(before)) draw_panel(before);
@@ -220,7 +220,7 @@ static void light(uint16_t id) {
 
 static void deliver(void) {
     RoqPopped popped;
-    for (uint16_t id = 0; id <= STOP; id++)
+    for (uint32_t id = 0; id <= STOP; id++)
         while ((popped = roq_pop(&s, id)).answer == 0) {
             RoqEvent e = popped.event;
             if (e.kind == ROQ_MOUSE_DOWN) press(id, e.x, e.y);
@@ -236,7 +236,7 @@ static void deliver(void) {
  * is remembered. Since STOP never pops it, that same press cannot begin the slide that resets. */
 static void pointer(uint8_t kind, int x, int y) {
     RoqEvent e = {.kind = kind, .x = between(0, x, W - 1), .y = between(0, y, H - 1), .button = kind != ROQ_MOUSE_MOVE};
-    uint16_t id = under(e.x, e.y);
+    uint32_t id = under(e.x, e.y);
     if (kind == ROQ_MOUSE_DOWN && id == STOP && !stopped) {
         set_stopped(true);
         light(id);
