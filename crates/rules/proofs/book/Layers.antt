@@ -9,14 +9,16 @@ use lib.Dec.{ltb, eqb}
 use lib.ListN.{getD}
 use borrow.Author.Tests.{le-ltb, eq-eqb, ne-eqb}
 use Rattle.geom.proofs.basics.Tests.{or-right, on-cond, cond-yes, cond-no}
-use Rattle.rules.specs.Group.{Group, giveLayer}
+use Rattle.rules.specs.Group.{Group, giveLayer, used}
 use Rattle.rules.specs.Order.{isIn, without, inserted, toTop, setOrder, shown}
+use Rattle.rules.specs.Repair.{atTop, raised}
 use Rattle.rules.specs.Book as Book
 use Rattle.rules.specs.Book.{Book, ofLayer, inLayers, changed}
-use Rattle.rules.proofs.group.Order.{isIn-here}
-use Rattle.rules.proofs.group.Layers.{Sorted}
+use Rattle.rules.proofs.group.Order.{isIn-here, without-absent}
+use Rattle.rules.proofs.group.Layers.{Sorted, without-sorted}
+use Rattle.rules.proofs.group.Inside.{on-raised}
 use Rattle.rules.proofs.group.Invariant.{Ok, low-set, others-sorted}
-use Rattle.rules.proofs.book.Rects.{SimRects, sim-layer, sim-order}
+use Rattle.rules.proofs.book.Rects.{SimRects, sim-layer, sim-win, sim-note, sim-reordered, sim-order}
 
 module _ (ls : List ℕ) where
   -- all of a list are of the layer, or none
@@ -58,12 +60,17 @@ module _ (ls : List ℕ) where
       go (suc (suc n)) m e f h k ih = absurd (omega arith)
       go (suc zero) (suc (suc m)) e f h k ih = absurd (omega arith)
 
+-- equal orders give the rule's
+in-layers-of : {b : Book} {g : Group} → SimRects b g → (id : ℕ) (o o′ : List ℕ) → o ≡ o′ → ((j : ℕ) → getD (g .layers) j 0 ≤ 1) → Sorted (g .layers) o′
+    → ofLayer (b .layers) 0 (o ++ (id ∷ [])) ++ ofLayer (b .layers) 1 (o ++ (id ∷ [])) ≡ inserted (g .layers) id o′
+in-layers-of {b} {g} sim id o o′ e low s =
+    (λ i. ofLayer (sim .same-layers i) 0 (e i ++ (id ∷ [])) ++ ofLayer (sim .same-layers i) 1 (e i ++ (id ∷ []))) ∙ in-layers (g .layers) id o′ low s
+
 -- a window is inserted into equal orders
 pub sim-inserted : {b : Book} {g : Group} → SimRects b g → (id f : ℕ) (o o′ : List ℕ) → o ≡ o′ → ((j : ℕ) → getD (g .layers) j 0 ≤ 1) → Sorted (g .layers) o′
     → SimRects (inLayers (o ++ (id ∷ [])) b) (setOrder (inserted (g .layers) id o′) f g)
 sim-inserted {b} {g} sim id f o o′ e low s =
-    sim-order sim _ _ f
-    ((λ i. ofLayer (sim .same-layers i) 0 (e i ++ (id ∷ [])) ++ ofLayer (sim .same-layers i) 1 (e i ++ (id ∷ []))) ∙ in-layers (g .layers) id o′ low s)
+    sim-order sim _ _ f (in-layers-of sim id o o′ e low s)
 
 -- its layer is changed
 pub sim-changed : {b : Book} {g : Group} → Ok g → SimRects b g → (id l : ℕ) → l ≤ 1
@@ -75,3 +82,15 @@ sim-changed {b} {g} ok sim id l h =
     (λ s. cond-yes (λ a. SimRects a to) (isIn id (b .order)) _ _ (t ∙ s)
     (sim-inserted (sim-layer sim id l) id (g .focus) _ _ (ap (without id) (sim .same-order)) (low-set id l g ok h) (others-sorted id l g ok)))
     (λ s. cond-no (λ a. SimRects a (giveLayer id l g)) (isIn id (b .order)) _ _ (t ∙ s) (sim-layer sim id l))
+
+-- it is raised, or shown
+pub sim-raised : {b : Book} {g : Group} → Ok g → SimRects b g → (id : ℕ) → used g id ≡ true → SimRects (inLayers (without id (b .order) ++ (id ∷ [])) b) (raised id g)
+sim-raised {b} {g} ok sim id u =
+    on-raised (SimRects (inLayers (without id (b .order) ++ (id ∷ [])) b)) (λ h s. sim-note s _ _) (λ h i w u e q s. sim-win s i w u e) id g u
+    (λ s. sim-inserted sim id id _ _ (others ∙ without-absent id (g .order) s) (ok .layers≤) (ok .sorted)) (λ s. sim-reordered sim _ _ id at-top)
+  where
+    others : without id (b .order) ≡ without id (g .order)
+    others = ap (without id) (sim .same-order)
+
+    at-top : inLayers (without id (b .order) ++ (id ∷ [])) b .order ≡ atTop id g
+    at-top = in-layers-of sim id _ _ others (ok .layers≤) (without-sorted (g .layers) id (g .order) (ok .sorted))

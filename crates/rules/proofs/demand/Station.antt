@@ -24,6 +24,7 @@ use Rattle.rules.specs.Redraw as Draw
 use Rattle.rules.specs.Walk as Walk
 use Rattle.rules.specs.Dim as Dimming
 use Rattle.rules.specs.Displays as Displays
+use Rattle.rules.specs.Repair as Repair
 use Rattle.rules.specs.Calls as Calls
 use Rattle.rules.specs.Calls.{does, byRule, after}
 use Rattle.rules.specs.Book as Book
@@ -32,7 +33,7 @@ use Rattle.rules.specs.Conditions as Conditions
 use Rattle.rules.specs.Conditions.{beforeLast, unmarked}
 use Rattle.rules.specs.Demand.{pixelOf, leftAt, Ended, Two}
 use Rattle.rules.specs.Layers.{Panel}
-use Rattle.rules.specs.Station.{before, first, between, second, picture, walk, last, back, lastBack, backPicture, meanwhile, lastMeanwhile, meanwhilePicture, switched, lastSwitched, switchedPicture, raised, lastRaised, raisedPicture, spread, lastSpread, spreadPicture}
+use Rattle.rules.specs.Station.{before, first, between, second, picture, walk, last, back, lastBack, backPicture, meanwhile, lastMeanwhile, meanwhilePicture, switched, lastSwitched, switchedPicture, raised, lastRaised, raisedPicture, spread, lastSpread, spreadPicture, inFront, lastInFront, inFrontPicture, inFrontBack, lastInFrontBack, inFrontBackPicture}
 
 -- no third window is shown
 none-else : {A : Type 0} (n : ℕ) → T (isIn (suc (suc n)) (0 ∷ 1 ∷ [])) → A
@@ -224,6 +225,66 @@ station-spread = (
       quiet = (tt, tt, (tt, tt, (tt, tt, (refl, tt, (refl, tt, (refl, tt, (tt, tt, (tt, tt, (tt, tt, (tt, tt, (refl, tt, (tt, tt, (tt, tt, (refl, tt, (refl, tt, (refl, refl, tt))))))))))))))));
       sized = (tt, (tt, (tt, (tt, (tt, (tt, (tt, (tt, (tt, (tt, ((refl, refl), (tt, (tt, (tt, (tt, ((refl, refl), tt))))))))))))))));
       marked = marked-spread;
+    };
+    between = tt;
+    unwritten = refl;
+  },
+  refl,
+)
+
+-- A raise ------------------------------------------------------------------------------------------------------------
+
+-- the same where window 0 is above window 1
+none-above : {A : Type 0} (n : ℕ) → T (isIn (suc (suc n)) (1 ∷ 0 ∷ [])) → A
+none-above n h =
+    or-cases (eqb 1 (suc (suc n))) (eqb 0 (suc (suc n)) || false) (is-true h) (λ e. absurd (omega (arith, eqb-true 1 (suc (suc n)) e)))
+    (λ e. or-cases (eqb 0 (suc (suc n))) false e (λ k. absurd (omega (arith, eqb-true 0 (suc (suc n)) k))) (λ k. clash k refl))
+
+marked-in-front : (id : ℕ) → T (isIn id (bookOf 4 (before ++ (first ∷ inFront)) .order))
+    → unmarked id (start 4 .group) false (beforeLast 4 id ((before ++ (first ∷ inFront)) ++ (lastInFront ∷ []))) ≡ false
+unfolding Geom.meets Geom.common Geom.contains Geom.containsRect Geom.union Geom.pieces Geom.around Geom.ifAny Lists.outside Lists.outsideAll Lists.meetsOf Lists.listIntersect Pixels.writeRows Pixels.resizedAt Window.addDirty Window.anyContains Window.merges Window.mergeOrAppend Window.pushed Group.create Group.mark Order.show Visible.visible Store.resize Store.fill Store.filledAt Draw.redraw Walk.begin Walk.portion Repair.raise Calls.does Calls.run Calls.after Book.turn Book.read Book.bookOf Conditions.upToLast Conditions.unmarked
+marked-in-front zero h = refl
+marked-in-front (suc zero) h = refl
+marked-in-front (suc (suc n)) h = none-above n h
+
+-- the conditions, that no full redraw is owed, and the screen
+pub station-in-front : Two 4 3 2 before first inFront lastInFront × (after 4 (before ++ (first ∷ inFront)) .owed ≡ false)
+    × (does (after 4 (before ++ (first ∷ inFront))) lastInFront .screen ≡ inFrontPicture)
+unfolding Geom.meets Geom.common Geom.contains Geom.containsRect Geom.union Geom.pieces Geom.around Geom.ifAny Lists.outside Lists.outsideAll Lists.meetsOf Lists.listIntersect Pixels.writeRows Pixels.resizedAt Window.addDirty Window.anyContains Window.merges Window.mergeOrAppend Window.pushed Group.create Group.mark Order.show Visible.visible Store.resize Store.fill Store.filledAt Draw.redraw Walk.begin Walk.portion Repair.raise Calls.does Calls.run Calls.after Conditions.Quiet Conditions.Sized Conditions.noRedraw Conditions.written
+station-in-front = (
+  record {
+    first = tt;
+    second = record {
+      ended = tt;
+      quiet = (tt, tt, (tt, tt, (tt, tt, (refl, tt, (refl, tt, (refl, tt, (tt, tt, (tt, tt, (tt, tt, (tt, tt, (refl, tt, (tt, tt, (refl, refl, tt)))))))))))));
+      sized = (tt, (tt, (tt, (tt, (tt, (tt, (tt, (tt, (tt, (tt, ((refl, refl), (tt, ((refl, refl), tt)))))))))))));
+      marked = marked-in-front;
+    };
+    between = tt;
+    unwritten = refl;
+  },
+  refl,
+  refl,
+)
+
+marked-in-front-back : (id : ℕ) → T (isIn id (bookOf 4 (before ++ (first ∷ inFrontBack)) .order))
+    → unmarked id (start 4 .group) false (beforeLast 4 id ((before ++ (first ∷ inFrontBack)) ++ (lastInFrontBack ∷ []))) ≡ false
+unfolding Geom.meets Geom.common Geom.contains Geom.containsRect Geom.union Geom.pieces Geom.around Geom.ifAny Lists.outside Lists.outsideAll Lists.meetsOf Lists.listIntersect Pixels.writeRows Pixels.resizedAt Window.addDirty Window.anyContains Window.merges Window.mergeOrAppend Window.pushed Group.create Group.mark Order.show Visible.visible Store.resize Store.fill Store.filledAt Draw.redraw Walk.begin Walk.portion Repair.raise Calls.does Calls.run Calls.after Book.turn Book.read Book.bookOf Conditions.upToLast Conditions.unmarked
+marked-in-front-back zero h = refl
+marked-in-front-back (suc zero) h = refl
+marked-in-front-back (suc (suc n)) h = none-above n h
+
+pub station-in-front-back : Two 4 3 2 before first inFrontBack lastInFrontBack
+    × (does (after 4 (before ++ (first ∷ inFrontBack))) lastInFrontBack .screen ≡ inFrontBackPicture)
+unfolding Geom.meets Geom.common Geom.contains Geom.containsRect Geom.union Geom.pieces Geom.around Geom.ifAny Lists.outside Lists.outsideAll Lists.meetsOf Lists.listIntersect Pixels.writeRows Pixels.resizedAt Window.addDirty Window.anyContains Window.merges Window.mergeOrAppend Window.pushed Group.create Group.mark Order.show Visible.visible Store.resize Store.fill Store.filledAt Draw.redraw Walk.begin Walk.portion Repair.raise Calls.does Calls.run Calls.after Conditions.Quiet Conditions.Sized Conditions.noRedraw Conditions.written
+station-in-front-back = (
+  record {
+    first = tt;
+    second = record {
+      ended = tt;
+      quiet = (tt, tt, (tt, tt, (tt, tt, (refl, tt, (refl, tt, (refl, tt, (tt, tt, (tt, tt, (tt, tt, (tt, tt, (refl, tt, (refl, tt, (tt, tt, (tt, tt, (refl, refl, (tt, tt, (refl, refl, (refl, refl, tt))))))))))))))))));
+      sized = (tt, (tt, (tt, (tt, (tt, (tt, (tt, (tt, (tt, (tt, ((refl, refl), (tt, (tt, (tt, ((refl, refl), (tt, ((refl, refl), ((refl, refl), tt))))))))))))))))));
+      marked = marked-in-front-back;
     };
     between = tt;
     unwritten = refl;

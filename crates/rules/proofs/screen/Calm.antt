@@ -1,21 +1,17 @@
--- What an accepted call that draws nothing keeps, if it owes no full redraw: the order, the debt, the walk and dimming, and of each shown window
--- its place, its damage, and its mark where it owes none.
-use Prim.Native.Nat.{ℕ, suc, _<_}
+-- An accepted call that draws nothing owes a full redraw, or is `Calm`, or mends what it changes (`Mends`): by cases
+-- over the calls.
+use Prim.Native.Nat.{ℕ, suc}
 use mathlib.Core.Bool.{Bool, true, false, cond, not, _&&_, _||_}
 use mathlib.Core.Path.{_≡_, refl, sym, ap}
 use mathlib.Core.List.{List, [], _∷_}
 use mathlib.Core.Option.{Option, none, some, Option·some-ne-none}
-use mathlib.Core.Logic.{_⊎_, inl, inr, _≢_}
+use mathlib.Core.Logic.{inr}
 use native.Mathlib.Omega.{arith}
 use lib.Dec.{leb, eqb}
 use lib.ListN.{length}
-use lib.Seq.{getD-set-other}
 use borrow.Author.Tests.{lt-leb, eq-eqb, ne-eqb}
 use Rattle.geom.specs.declared.Rect.{Rect}
-use Rattle.geom.specs.Geom.{width, height}
-use Rattle.geom.specs.Lists.{anyHas}
 use Rattle.geom.proofs.basics.Tests.{clash, both, snd, on-cond, cond-yes}
-use Rattle.geom.proofs.basics.Lists.{set-in}
 use Rattle.window.specs.declared.Event.{Event}
 use Rattle.window.specs.Window.{Win, newWin}
 use Rattle.window.proofs.laws.Damage.{addDirty-old}
@@ -23,76 +19,18 @@ use Rattle.rules.specs.Group as Group
 use Rattle.rules.specs.Store as Store
 use Rattle.rules.specs.Events as Events
 use Rattle.rules.specs.Displays as Displays
-use Rattle.rules.specs.Group.{Group, Walk, used, win, withHeld, withLayers, withDisplays, withMaximised, setWin, giveLayer, isOver, sentBack, theWin}
+use Rattle.rules.specs.Group.{Group, Walk, used, win, withHeld, withLayers, withDisplays, withMaximised, setWin, giveLayer, isOver, sentBack}
 use Rattle.rules.specs.Order.{isIn, without, inserted, shown}
-use Rattle.rules.specs.Events.{topmost, afterPop}
+use Rattle.rules.specs.Events.{afterPop}
 use Rattle.rules.specs.Walk.{doneOf}
-use Rattle.rules.specs.Calls.{Call, Create, Show, Hide, Drop, Mark, Pop, Move, Resize, Fill, Blit, Route, Redraw, Begin, Portion, Dim, SetLayer, AddDisplay, Maximise, UpdateDims, does, accepted}
+use Rattle.rules.specs.Repair.{pending, repairBy, whollyRepaired, repairAll, atTop, toFront, sameOrder, raisedShown, raised}
+use Rattle.rules.specs.Calls.{Call, Create, Show, Hide, Drop, Mark, Pop, Move, Resize, Fill, Blit, Route, Redraw, Begin, Portion, Dim, SetLayer, AddDisplay, Maximise, UpdateDims, Raise, does, accepted}
 use Rattle.rules.specs.Conditions.{deed, lentScreen, owesMark}
-use Rattle.rules.proofs.group.Topmost.{topmost-same}
-use Rattle.rules.proofs.group.Steps.{on-create, on-show, on-hide, on-drop, on-move, on-pop, on-key, on-to, on-pointed, on-route, on-dim, on-layer, on-add-display, on-resize, on-fill, on-blit}
-use Rattle.rules.proofs.group.Invariant.{Ok, used-below, free-place}
-
--- What is kept -------------------------------------------------------------------------------------------------------
-
--- of a window that was v: its place, its damage and more, and its mark where it owes none; f is what becomes of owing one
-pub record Keeps (v v′ : Win) (f : Bool → Bool) : Type 0 where
-  pub at : v′ .at ≡ v .at
-  pub damage : (col row : ℕ) → col < width (v .at) → row < height (v .at) → anyHas (v .damage) col row ≡ true → anyHas (v′ .damage) col row ≡ true
-  pub marks : (u : Bool) → f u ≡ false → ((u ≡ false) × (v′ .marked ≡ v .marked) × (v′ .damage ≡ v .damage)) ⊎ (v′ .marked ≡ true)
-
--- each window of the order keeps so much
-pub record Calm (g g′ : Group) (f : ℕ → Bool → Bool) : Type 0 where
-  pub c : g′ .c ≡ g .c
-  pub order : g′ .order ≡ g .order
-  pub owed : g′ .owed ≡ g .owed
-  pub walk : g′ .walk ≡ g .walk
-  pub dimmed : g′ .dimmed ≡ g .dimmed
-  pub each : (id : ℕ) → shown g id ≡ true → Keeps (win g id) (win g′ id) (f id)
-
--- the topmost window is the same
-pub calm-topmost : (g g′ : Group) (f : ℕ → Bool → Bool) → Calm g g′ f → (px py : ℕ) → topmost g′ px py ≡ topmost g px py
-calm-topmost g g′ f k px py = topmost-same g g′ px py (k .order) (λ id h. k .each id h .at)
-
--- Changes ------------------------------------------------------------------------------------------------------------
-
--- who owes no mark afterwards owed none before
-abbrev Keen : (Bool → Bool) → Type 0
-Keen f = (u : Bool) → f u ≡ false → u ≡ false
-
-keeps-same : (v v′ : Win) (f : Bool → Bool) → v′ .at ≡ v .at → v′ .marked ≡ v .marked → v′ .damage ≡ v .damage → Keen f → Keeps v v′ f
-keeps-same v v′ f a m d k = record { at = a; damage = λ col row x y h. rw d h; marks = λ u e. inl (k u e, m, d) }
-
--- nothing changes
-calm-refl : (g : Group) (f : ℕ → Bool → Bool) → ((id : ℕ) → Keen (f id)) → Calm g g f
-calm-refl g f k = record { c = refl; order = refl; owed = refl; walk = refl; dimmed = refl; each = λ id h. keeps-same (win g id) (win g id) (f id) refl refl refl (k id) }
-
--- a window is set
-calm-set : (g : Group) → Ok g → (i : ℕ) (v : Win) (f : ℕ → Bool → Bool) → (shown g i ≡ true → Keeps (win g i) v (f i))
-    → ((id : ℕ) → id ≢ i → Keen (f id)) → Calm g (setWin i (some v) g) f
-calm-set g ok i v f h k = record {
-  c = refl;
-  order = refl;
-  owed = refl;
-  walk = refl;
-  dimmed = refl;
-  each = λ id s.
-      set-in (λ o. Keeps (win g id) (theWin o) (f id)) (g .windows) i id (some v) none (λ e. rw e at (used-below g id (ok .shown-used id s)))
-      (λ e. rw e (h (rw e at s))) (λ ne. keeps-same (win g id) (win g id) (f id) refl refl refl (k id ne));
-}
-
--- a window that is not shown goes
-calm-free : (g : Group) (i : ℕ) (f : ℕ → Bool → Bool) → shown g i ≡ false → ((id : ℕ) → Keen (f id)) → Calm g (setWin i none g) f
-calm-free g i f h k = record {
-  c = refl;
-  order = refl;
-  owed = refl;
-  walk = refl;
-  dimmed = refl;
-  each = λ id s.
-      let e = getD-set-other (g .windows) i id none none (λ q. clash (rw q at s) h) in
-      keeps-same (win g id) (win (setWin i none g) id) (f id) (ap (λ w. theWin w .at) e) (ap (λ w. theWin w .marked) e) (ap (λ w. theWin w .damage) e) (k id);
-}
+use Rattle.rules.proofs.group.Steps.{on-create, on-show, on-hide, on-drop, on-move, on-pop, on-key, on-to, on-pointed, on-route, on-dim, on-layer, on-add-display, on-resize, on-fill, on-blit, on-raise}
+use Rattle.rules.proofs.group.Order.{same-order}
+use Rattle.rules.proofs.group.Invariant.{Ok, free-place}
+use Rattle.rules.proofs.screen.Keeps.{Keen, Calm, keeps-same, calm-refl, calm-set, calm-free, as-was}
+use Rattle.rules.proofs.screen.Mends.{Mends, raise-mends}
 
 -- Calls --------------------------------------------------------------------------------------------------------------
 
@@ -114,15 +52,17 @@ sent-back o none id s = refl
 sent-back [] (some v) id s = clash s refl
 sent-back (i ∷ o) (some v) id s = rw (lt-leb (suc (length o)) 0 (omega arith))
 
--- a call owes a full redraw, or keeps that much
-abbrev pub Stays : Group → Call → Group → Type 0
-Stays g k g′ = ((deed k .owes g ≡ true) × NoneFine g′) ⊎ Calm g g′ (flag g k)
+-- it is neither a write nor a mark: every window owes its mark as before
+abbrev pub SameFlags : Group → Call → Type 0
+SameFlags g k = (id : ℕ) (u : Bool) → flag g k id u ≡ u
+
+-- what an accepted call does that draws nothing: it owes a full redraw, or keeps that much, or mends what it changes
+pub data Stays (g : Group) (k : Call) (g′ : Group) : Type 0 where
+  is-owed : deed k .owes g ≡ true → NoneFine g′ → Stays g k g′
+  is-calm : Calm g g′ (flag g k) → Stays g k g′
+  is-mended : Mends g g′ → SameFlags g k → Stays g k g′
 
 module _ (g : Group) (ok : Ok g) where
-  -- most calls leave it as it was who owes a mark
-  abbrev as-was : ℕ → Bool → Bool
-  as-was id u = u
-
   as-it-was : Calm g g as-was
   as-it-was = calm-refl g as-was (λ id u e. e)
 
@@ -181,7 +121,7 @@ module _ (g : Group) (ok : Ok g) where
   unfolding does Group.create
   stays-create e =
       on-create (Stays g Create) g
-      (λ n f. inr (calm-aside (setWin n (some newWin) g) (g .held) (giveLayer n 0 g .layers) (g .displays) _ (flag g Create)
+      (λ n f. is-calm (calm-aside (setWin n (some newWin) g) (g .held) (giveLayer n 0 g .layers) (g .displays) _ (flag g Create)
       (calm-set g ok n newWin (flag g Create) (λ s. clash (ok .shown-used n s) (free-place g n f .1)) (λ id ne u q. rw (f, ne-eqb n id (λ k. ne (sym k))) at q))))
       (λ f. clash e (rw f))
 
@@ -189,7 +129,7 @@ module _ (g : Group) (ok : Ok g) where
   unfolding does Group.mark
   stays-mark i e =
       cond-yes (Stays g (Mark i)) _ _ _ e
-      (inr (calm-set g ok i _ (flag g (Mark i)) (λ s. record { at = refl; damage = λ col row x y h. h; marks = λ u e. inr refl })
+      (is-calm (calm-set g ok i _ (flag g (Mark i)) (λ s. record { at = refl; damage = λ col row x y h. h; marks = λ u e. inr refl })
       (λ id ne u e. rw (ne-eqb i id (λ k. ne (sym k))) at e)))
 
   pub resize-none-fine : (i w h : ℕ) (s : List ℕ) → accepted g (Resize i w h s) ≡ true → NoneFine (does g (Resize i w h s) .group)
@@ -204,36 +144,57 @@ module _ (g : Group) (ok : Ok g) where
   unfolding does Displays.updateDims
   update-none-fine s y = cond-yes NoneFine _ _ _ y (sent-back (g .order) (g .walk))
 
+  -- a window is repaired while a full redraw is owed or a walk is on
+  none-fine-by : (f : Win → Win) (i : ℕ) (h : Group) → pending h ≡ true → NoneFine (repairBy f i h)
+  none-fine-by f i h p = cond-yes NoneFine (pending h) _ _ p (sent-back (h .order) (h .walk))
+
+  stays-raise : (i : ℕ) → used g i ≡ true → Stays g (Raise i) (raised i g)
+  stays-raise i u =
+      on-cond (Stays g (Raise i)) (shown g i) (raisedShown i g) _
+      (λ s. on-cond (Stays g (Raise i)) (sameOrder (atTop i g) (g .order)) _ _ (λ q. is-calm (focussed q)) (λ q. changed s q (pending g) refl))
+      (λ s. is-owed (rw s) (sent-back (inserted (g .layers) i (g .order)) (g .walk)))
+    where
+      -- the order stays, and the focus is no part of what is drawn
+      focussed : sameOrder (atTop i g) (g .order) ≡ true → Calm g (toFront i g) as-was
+      focussed q =
+          record { c = refl; order = same-order (atTop i g) (g .order) q; owed = refl; walk = refl; dimmed = refl; each = as-it-was .each }
+
+      changed : shown g i ≡ true → sameOrder (atTop i g) (g .order) ≡ false → (t : Bool) → pending g ≡ t
+          → Stays g (Raise i) (repairAll i (toFront i g))
+      changed s q true p = is-owed (rw (s, p, q)) (none-fine-by whollyRepaired i (toFront i g) p)
+      changed s q false p = is-mended (raise-mends g ok i s p) (λ id u. refl)
+
   pub stays : (k : Call) → lentScreen k ≡ none → deed k .begins ≡ false → accepted g k ≡ true → Stays g k (does g k .group)
   unfolding does
   stays Create r b e = stays-create e
-  stays (Show i) r b e = on-show (Stays g (Show i)) g i (λ u. inl (snd (used g i) _ u, sent-back (inserted (g .layers) i (g .order)) (g .walk))) (λ u. inr as-it-was)
+  stays (Show i) r b e = on-show (Stays g (Show i)) g i (λ u. is-owed (snd (used g i) _ u) (sent-back (inserted (g .layers) i (g .order)) (g .walk))) (λ u. is-calm as-it-was)
   stays (Hide i) r b e =
-      on-hide (Stays g (Hide i)) g i (λ u. on-cond (Stays g (Hide i)) (shown g i) _ _ (λ s. inl (s, sent-back (without i (g .order)) (g .walk))) (λ s. inr as-it-was)) (λ u. inr as-it-was)
+      on-hide (Stays g (Hide i)) g i (λ u. on-cond (Stays g (Hide i)) (shown g i) _ _ (λ s. is-owed s (sent-back (without i (g .order)) (g .walk))) (λ s. is-calm as-it-was)) (λ u. is-calm as-it-was)
   stays (Drop i) r b e =
       on-drop (Stays g (Drop i)) g i
-      (λ u. on-cond (λ x. Stays g (Drop i) (setWin i none x)) (shown g i) _ _ (λ s. inl (s, sent-back (without i (g .order)) (g .walk))) (λ s. inr (calm-free g i as-was s (λ id u e. e))))
-      (λ u. inr as-it-was)
+      (λ u. on-cond (λ x. Stays g (Drop i) (setWin i none x)) (shown g i) _ _ (λ s. is-owed s (sent-back (without i (g .order)) (g .walk))) (λ s. is-calm (calm-free g i as-was s (λ id u e. e))))
+      (λ u. is-calm as-it-was)
   stays (Mark i) r b e = stays-mark i e
-  stays (Pop i) r b e = on-pop (Stays g (Pop i)) g i (λ u. inr (calm-pop i (win g i .queue) (win g i .cursor .«is_dirty»))) (λ u. inr as-it-was)
-  stays (Move i x y) r b e = on-move (Stays g (Move i x y)) g i x y (λ u. inl (refl, sent-back (g .order) (g .walk))) (λ u. inr as-it-was)
-  stays (Resize i w h s) r b e = on-resize (λ x t. Stays g (Resize i w h s) x) g i w h s (λ u. inl (refl, sent-back (g .order) (g .walk))) (λ u. inr as-it-was)
+  stays (Pop i) r b e = on-pop (Stays g (Pop i)) g i (λ u. is-calm (calm-pop i (win g i .queue) (win g i .cursor .«is_dirty»))) (λ u. is-calm as-it-was)
+  stays (Move i x y) r b e = on-move (Stays g (Move i x y)) g i x y (λ u. is-owed refl (sent-back (g .order) (g .walk))) (λ u. is-calm as-it-was)
+  stays (Resize i w h s) r b e = on-resize (λ x t. Stays g (Resize i w h s) x) g i w h s (λ u. is-owed refl (sent-back (g .order) (g .walk))) (λ u. is-calm as-it-was)
   stays (Fill i a v s) r b e =
-      on-fill (λ x t. Stays g (Fill i a v s) x) g i a v s (λ u m. inr (calm-damage i _)) (λ u m. inr (calm-write i)) (λ u. inr (calm-write i))
+      on-fill (λ x t. Stays g (Fill i a v s) x) g i a v s (λ u m. is-calm (calm-damage i _)) (λ u m. is-calm (calm-write i)) (λ u. is-calm (calm-write i))
   stays (Blit i a d stride s) r b e =
-      on-blit (λ x t. Stays g (Blit i a d stride s) x) g i a d stride s (λ u m. inr (calm-write i)) (λ u m. inr (calm-damage i _)) (λ u. inr (calm-write i))
-  stays (Route v) r b e = inr (calm-route v)
+      on-blit (λ x t. Stays g (Blit i a d stride s) x) g i a d stride s (λ u m. is-calm (calm-write i)) (λ u m. is-calm (calm-damage i _)) (λ u. is-calm (calm-write i))
+  stays (Route v) r b e = is-calm (calm-route v)
   stays (Redraw told w h s screen) r b e = absurd (Option·some-ne-none screen r)
   stays (Begin told) r b e = clash refl b
   stays (Portion w h s screen) r b e = absurd (Option·some-ne-none screen r)
-  stays (Dim on) r b e = on-dim (Stays g (Dim on)) g on (λ q. inl (rw q, sent-back (g .order) (g .walk))) (λ q. inr as-it-was)
+  stays (Dim on) r b e = on-dim (Stays g (Dim on)) g on (λ q. is-owed (rw q) (sent-back (g .order) (g .walk))) (λ q. is-calm as-it-was)
   stays (SetLayer i l) r b e =
       on-layer (Stays g (SetLayer i l)) g i l
       (λ u. on-cond (Stays g (SetLayer i l)) (shown g i) _ (giveLayer i l g)
-      (λ s. inl (both s (snd (used g i && leb l 1) _ u), sent-back (inserted (giveLayer i l g .layers) i (without i (g .order))) (g .walk)))
-      (λ s. inr (calm-aside g (g .held) (giveLayer i l g .layers) (g .displays) (g .maximised) as-was as-it-was)))
-      (λ u. inr as-it-was)
+      (λ s. is-owed (both s (snd (used g i && leb l 1) _ u)) (sent-back (inserted (giveLayer i l g .layers) i (without i (g .order))) (g .walk)))
+      (λ s. is-calm (calm-aside g (g .held) (giveLayer i l g .layers) (g .displays) (g .maximised) as-was as-it-was)))
+      (λ u. is-calm as-it-was)
   stays (AddDisplay d) r b e =
-      on-add-display (Stays g (AddDisplay d)) g d (λ u. inr (calm-aside g (g .held) (g .layers) _ (g .maximised) as-was as-it-was)) (λ u. inr as-it-was)
-  stays (Maximise i s) r b e = inl (refl, maximise-none-fine i s e)
-  stays (UpdateDims s) r b e = inl (refl, update-none-fine s e)
+      on-add-display (Stays g (AddDisplay d)) g d (λ u. is-calm (calm-aside g (g .held) (g .layers) _ (g .maximised) as-was as-it-was)) (λ u. is-calm as-it-was)
+  stays (Maximise i s) r b e = is-owed refl (maximise-none-fine i s e)
+  stays (UpdateDims s) r b e = is-owed refl (update-none-fine s e)
+  stays (Raise i) r b e = on-raise (Stays g (Raise i)) g i (λ u. stays-raise i u) (λ u. is-calm as-it-was)
