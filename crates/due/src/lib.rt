@@ -66,6 +66,14 @@ pub fn either(a: bool, b: bool) -> bool
 }
 
 impl Due {
+    // Whether a full redraw is owed or a walk is on: a repair of a window then owes a full redraw.
+    pub fn is_pending(self) -> bool
+        ensures { λ b. ⌜ b ≡ self .owed || self .walk .on ⌝ }
+    {
+        let walk = self.walk;
+        either(self.owed, walk.on)
+    }
+
     // A full redraw is owed, and a walk goes back to the bottom, in full.
     pub fn owing(self, shown: usize) -> Due
         ensures { λ r. ⌜ r ≡ owing self shown ⌝ }
