@@ -8,6 +8,7 @@ pub mod Frames
 pub mod Above
 pub mod Created
 pub mod Shown
+pub mod Raised
 pub mod Layered
 pub mod Hidden
 pub mod Store

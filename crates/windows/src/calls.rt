@@ -68,6 +68,16 @@ impl Session {
         self.put(at, d)
     }
 
+    // A shown window goes to the top of its layer; a press stays with its window.
+    pub fn raise(self, id: WinId) -> Done
+        requires { ⌜ Given self ⌝ }
+        ensures { λ r. ⌜ Meets (Call.Raise (id .0)) self r ⌝ }
+    {
+        let at = slot(id);
+        let d = one::raise(self.windows[at], self.shared, id);
+        self.put(at, d)
+    }
+
     pub fn hide(self, id: WinId) -> Done
         requires { ⌜ Given self ⌝ }
         ensures { λ r. ⌜ Meets (Call.Hide (id .0)) self r ⌝ }

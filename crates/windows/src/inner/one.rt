@@ -2,11 +2,17 @@
 // pointer both stand on them. A refused call hands back the window and what is shared as it got them.
 ghost use mathlib.Core.Path.{_≡_};
 ghost use mathlib.Core.Bool.{_&&_};
+ghost use mathlib.Core.Option.{some};
 ghost use Prim.Native.Nat.{_<_};
 ghost use lib.Dec.{ltb};
+ghost use Rattle.window.specs.Held.{RepWindow, winOf};
+ghost use Rattle.rules.specs.Repair.{whollyRepaired};
 ghost use Rattle.rules.specs.Calls.{Call};
+ghost use Rattle.order.specs.Ids.{ids};
+ghost use Rattle.order.specs.Order.{renderIdx};
 ghost use Rattle.windows.specs.View.{Given};
 ghost use Rattle.windows.specs.One.{At, Free, Held, SharedBy, MeetsAt, MeetsMarkAt, CreatesAt};
+ghost use Rattle.windows.specs.Pixels.{Becomes};
 ghost use Rattle.windows.specs.Walk.{Hides, PutsOn};
 use crate::Changed;
 use crate::CreatedOne;
@@ -16,6 +22,7 @@ use crate::Session;
 use crate::Shared;
 use crate::inner::frames::frames;
 use crate::inner::small::small_point;
+use order::Place;
 use order::RenderIdx;
 use order::WinId;
 use order::close_gap;
@@ -23,10 +30,12 @@ use order::focus_after;
 use order::frames::first_free;
 use order::get_render_idx;
 use order::layers::insert;
+use order::layers::is_top;
 use order::layers::to_top;
 use order::layers::with_layer;
 use topmost::release::forget;
 use window::Window;
+use window::damage::Damage;
 
 // Where the window of an id lies: at its number. For a number that no window has it is 0, and the call is refused, whatever lies there.
 pub fn slot(id: WinId) -> usize
@@ -154,6 +163,65 @@ pub fn show(win: Window, mut shared: Shared, id: WinId) -> Changed
         shared,
         answer,
     }
+}
+
+// The window marked, and all of it damaged.
+fn repaired(mut win: Window) -> Window
+    requires { ⌜ RepWindow win ⌝ }
+    ensures { λ r. ⌜ Becomes win (whollyRepaired (winOf win)) r ⌝ }
+{
+    let size = win.at;
+    let damage = Damage::whole(size.w as u32, size.h as u32);
+    win.damage = damage;
+    win.marked = true;
+    win
+}
+
+// The window at a place of the order goes to the top of its layer and gets the focus, and `held` stays. If the order
+// changed, all of the window is repaired: a full redraw is owed where one was owed or a walk is on, else it is marked.
+fn raise_shown(win: Window, mut shared: Shared, id: WinId, p: Place) -> Changed
+    requires { ⌜ Held (id .0) win shared × (some (p .0) ≡ renderIdx (id .0) (ids (shared .shown) (shared .order))) ⌝ }
+    ensures { λ r. ⌜ MeetsAt (Call.Raise (id .0)) (id .0) win shared r ⌝ }
+{
+    let n = shared.shown;
+    let order = shared.order;
+    let layers = shared.layers;
+    let due = shared.due;
+    shared.focus = id;
+    if is_top(layers, order, n, p, id) {
+        return Changed {
+            window: win,
+            shared,
+            answer: 0,
+        };
+    }
+    let moved = to_top(layers, order, n, p, id);
+    shared.order = moved;
+    if due.is_pending() {
+        return Changed {
+            window: win,
+            shared: shared.owing(),
+            answer: 0,
+        };
+    }
+    Changed {
+        window: repaired(win),
+        shared,
+        answer: 0,
+    }
+}
+
+// To the top of its layer, with the focus. A window that has no place is hidden or not in use, which show asks.
+pub fn raise(win: Window, shared: Shared, id: WinId) -> Changed
+    requires { ⌜ Held (id .0) win shared ⌝ }
+    ensures { λ r. ⌜ MeetsAt (Call.Raise (id .0)) (id .0) win shared r ⌝ }
+{
+    let order = shared.order;
+    let idx = get_render_idx(order, shared.shown, id);
+    if let RenderIdx::At(p) = idx {
+        return raise_shown(win, shared, id, p);
+    }
+    show(win, shared, id)
 }
 
 // What is shared, with this window of another layer, at its top if shown; as it is if the window has this layer.
