@@ -78,6 +78,20 @@ pub extern "C" fn roq_show(s: &mut Session, id: WinId) -> u32
 }
 
 #[no_mangle]
+pub extern "C" fn roq_raise(s: &mut Session, id: WinId) -> u32
+    requires { ⌜ Given (now s) ⌝ }
+    ensures { λ r. ⌜ Meets (Call.Raise (id .0)) (now (s .entry)) (done (now (s .exit)) r) ⌝ }
+{
+    let at = slot(id);
+    let d = one::raise((*s).windows[at], (*s).shared, id);
+    let w = d.window;
+    (*s).windows[at] = w;
+    let k = d.shared;
+    (*s).shared = k;
+    d.answer
+}
+
+#[no_mangle]
 pub extern "C" fn roq_hide(s: &mut Session, id: WinId) -> u32
     requires { ⌜ Given (now s) ⌝ }
     ensures { λ r. ⌜ Meets (Call.Hide (id .0)) (now (s .entry)) (done (now (s .exit)) r) ⌝ }
