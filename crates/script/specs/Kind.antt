@@ -175,6 +175,9 @@ read-sheet = 56
 abbrev pub lend-sheet : ℕ
 lend-sheet = 57
 
+abbrev pub raise : ℕ
+raise = 58
+
 -- the last of them
 abbrev pub last : ℕ
-last = lend-sheet
+last = raise

@@ -154,6 +154,7 @@ table =
     ∷ row "sheet" Kind.sheet 1
     ∷ rowMore "read-sheet" Kind.read-sheet 0
     ∷ row "lend-sheet" Kind.lend-sheet 1
+    ∷ row "raise" Kind.raise 1
     ∷ []
 
 abbrev pub sameWord : List ℕ → List ℕ → Bool

@@ -122,8 +122,10 @@ pub const READ_SHEET: u8 = 56;
 
 pub const LEND_SHEET: u8 = 57;
 
+pub const RAISE: u8 = 58;
+
 // The last of them.
-pub const LAST: u8 = LEND_SHEET;
+pub const LAST: u8 = RAISE;
 
 const WORDS: usize = LAST as usize - 1;
 
@@ -189,6 +191,7 @@ pub const ROWS: [u8; WORDS * ROW] = *b"\
     \x05\x01 sheet           \
     \x0a\x00+read-sheet      \
     \x0a\x01 lend-sheet      \
+    \x05\x01 raise           \
     ";
 
 pub fn wide(b: u8) -> usize
