@@ -42,6 +42,7 @@ static void every_call(uint32_t id) {
     refused("set_layer", id, roq_set_layer(&s, id, 1));
     refused("hide", id, roq_hide(&s, id));
     refused("show", id, roq_show(&s, id));
+    refused("raise", id, roq_raise(&s, id));
     refused("drop", id, roq_drop(&s, id));
 }
 

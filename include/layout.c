@@ -81,7 +81,8 @@ static void dims(void) {
     EXPECT(screen[0] == 0x80ff8001 && roq_resize(s, 7, 0, 0, store, 16 * C) == 0);
 }
 
-/* The layers, a byte for each id in two words; a change owes a full redraw, the focus stays, and what is set stays set. */
+/* The layers, a byte for each id in two words; a change owes a full redraw, the focus stays, and what is set stays
+ * set. A raise gives the focus, and owes no full redraw. */
 static void layers(void) {
     EXPECT(roq_redraw(s, false, 8, 8, store, 16 * C, screen, 64) == 0 && roq_set_layer(s, 7, 0) == 0);
     EXPECT((s->words[709] & 0xff) == 0 && s->words[710] == 0 && s->words[711] == 0);
@@ -92,6 +93,8 @@ static void layers(void) {
     EXPECT(roq_create(s).id == LAST && s->words[711] == 0);
     EXPECT(roq_resize(s, LAST, 200, 150, store, 16 * C) == 0 && roq_move(s, LAST, 3000, 4000) == 0 && roq_show(s, LAST) == 0);
     EXPECT(roq_redraw(s, false, 8, 8, store, 16 * C, screen, 64) == 0);
+    EXPECT(roq_raise(s, 7) == 0 && roq_focus(s) == 7 && roq_raise(s, 16) == 3 && roq_raise(s, LAST) == 0 && roq_focus(s) == LAST);
+    EXPECT((s->words[709] & 0xff) == 0 && roq_redraw(s, false, 8, 8, store, 16 * C, screen, 64) == 0);
 }
 
 /* A display in the word of its number, and their count in the last; the flags, a byte for each id in two words before them. A maximised window
@@ -120,11 +123,12 @@ static RoqEvent mouse(uint8_t kind, uint32_t x, uint32_t y, uint8_t button, uint
     return e;
 }
 
-/* The window that took the last MouseDown, in the upper half of that word, or 16; a release off it, at its last pixel,
- * and one that it refuses. */
+/* The window that took the last MouseDown, in the upper half of that word, or 16, also after a raise; a release off it,
+ * at its last pixel, and one that it refuses. */
 static void releases(void) {
     EXPECT(s->words[706] >> 32 == 16 && roq_route(s, mouse(ROQ_MOUSE_DOWN, 3001, 4002, 1, 0)) == 0 && s->words[706] >> 32 == LAST);
     EXPECT(roq_pop(s, LAST).event.kind == ROQ_RESIZE && roq_pop(s, LAST).event.kind == ROQ_MOUSE_DOWN);
+    EXPECT(roq_raise(s, 7) == 0 && s->words[706] >> 32 == LAST && roq_raise(s, LAST) == 0 && s->words[706] >> 32 == LAST);
     EXPECT(roq_route(s, mouse(ROQ_MOUSE_UP, 3001, 40000, 1, 0)) == 5 && s->words[706] >> 32 == LAST);
     EXPECT(roq_route(s, mouse(ROQ_MOUSE_UP, 9, 9000, 1, 0)) == 0 && s->words[706] >> 32 == 16);
     RoqEvent up = roq_pop(s, LAST).event;

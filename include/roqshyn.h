@@ -40,7 +40,8 @@
  * copy of the session that makes calls of its own is somebody else. A pixel under no shown window keeps its old value, also in a full redraw, so
  * keep a window of the screen's size lowest, such as the plan. A full redraw is owed, which draws everything, in a new session; after each
  * move, resize, maximise and update_dims that is accepted; and after each show, hide, change of a shown window's layer and switch of dimming that
- * changes something.
+ * changes something. A raise of a shown window has the next redraw draw that window too, and not everything; it owes
+ * a full redraw only where one is owed already or a walk is on. It does not stand for the mark after a write.
  *
  * Displays. Yard and station screens are rectangles of the one screen, up to eight of them in one session; they may overlap, and a position on
  * several is on the first that was added. A display is only where windows go when they are maximised or updated: a redraw draws on the whole
@@ -60,8 +61,8 @@
  * (request N1), unless the window was hidden or dropped meanwhile. A second MouseDown, of another finger or button, takes the first one's
  * place. Where no window is remembered, or the one remembered has no pixels, a MouseUp goes to the topmost window at its point, as every one
  * did before N1: so a panel acts on a release only if it took the press. A release beside its window comes at the window's edge, so leave at
- * least one pixel between a button and the edge; else it counts as let go on the button. There is no call to raise a window: hide and show it,
- * before its press is routed, since a hide forgets the press; roq_hits says which window that will be.
+ * least one pixel between a button and the edge; else it counts as let go on the button. A window is brought to the front by
+ * roq_raise, before its press is routed or after: a raise forgets no press. A hide does, also if a show follows.
  *
  * Limits. Ids are 0 to 15. Any other number may be given; it is no window's, and question 3 is answered with a no. A
  * pixel has red in bits 16 to 23, green in 8 to 15, blue in 0 to 7; the top byte is kept as it is. No call takes as much
@@ -138,6 +139,11 @@ RoqCreated roq_create(RoqSession *s);
 
 /* Puts a window on top of its layer and gives it the focus; does nothing where it is shown. Asks 3. */
 uint32_t roq_show(RoqSession *s, uint32_t id);
+
+/* Brings a window to the top of its layer and gives it the focus; the window that took the last MouseDown stays
+ * remembered. If the order changed, the next redraw draws all that is seen of the window; but where a full redraw is
+ * owed or a walk is on, one is owed then. A hidden window is shown, as by roq_show. Asks 3. */
+uint32_t roq_raise(RoqSession *s, uint32_t id);
 
 /* Takes a window off the screen; a focus goes to the next lower one, from the lowest to the one that is lowest then, and a MouseUp does not
  * come to it any more. Does nothing where it is hidden. Asks 3. */

@@ -126,6 +126,7 @@ extern "C" {
     pub fn roq_start(s: *mut Session, c: u32) -> u32;
     pub fn roq_create(s: *mut Session) -> Created;
     pub fn roq_show(s: *mut Session, id: u32) -> u32;
+    pub fn roq_raise(s: *mut Session, id: u32) -> u32;
     pub fn roq_hide(s: *mut Session, id: u32) -> u32;
     pub fn roq_drop(s: *mut Session, id: u32) -> u32;
     pub fn roq_mark(s: *mut Session, id: u32) -> u32;

@@ -109,6 +109,12 @@ impl Session {
         Error::checked(unsafe { raw::roq_show(&mut self.0, id.0) })
     }
 
+    /// Brings a window to the top of its layer and gives it the focus; it forgets no press. A hidden window is shown.
+    #[inline]
+    pub fn raise(&mut self, id: Id) -> Result<(), Error> {
+        Error::checked(unsafe { raw::roq_raise(&mut self.0, id.0) })
+    }
+
     /// Takes a window off the screen; nothing where it is hidden.
     #[inline]
     pub fn hide(&mut self, id: Id) -> Result<(), Error> {

@@ -125,6 +125,22 @@ fn a_panel_stays_on_top() {
 }
 
 #[test]
+fn a_raise_keeps_the_press() {
+    let Station { mut session, mut store, mut screen, plan, panel } = station();
+    assert_eq!(session.fill(panel, Rect::new(0, 0, 4, 3), 7, &mut store), Ok(12));
+    assert_eq!((session.redraw(false, 8, 8, &store, &mut screen), screen[3 * 8 + 2]), (Ok(()), 7));
+    assert_eq!((session.route(press(3, 4)), session.raise(plan), session.focus()), (Ok(()), Ok(()), plan));
+    assert_eq!((session.redraw(false, 8, 8, &store, &mut screen), screen[3 * 8 + 2]), (Ok(()), 0));
+    // The plan covers the panel, which took the press and so gets the release.
+    let up = |x, y| Event::MouseUp { at: Pos::new(x, y), button: 1 };
+    assert_eq!((session.route(up(0, 0)), session.pop(panel)), (Ok(()), Ok(Event::Resize)));
+    assert_eq!((session.pop(panel), session.pop(panel)), (Ok(press(1, 1)), Ok(up(0, 0))));
+    assert_eq!((session.hide(panel), session.raise(panel), session.focus()), (Ok(()), Ok(()), panel));
+    assert_eq!((session.redraw(false, 8, 8, &store, &mut screen), screen[3 * 8 + 2]), (Ok(()), 7));
+    assert_eq!(session.raise(Id::from(2)), Err(Error::UnknownId));
+}
+
+#[test]
 fn displays() {
     let Station { mut session, mut store, plan, panel, .. } = station();
     let (left, right) = (Rect::new(0, 0, 8, 8), Rect::new(20, 20, 10, 6));
