@@ -27,6 +27,7 @@ static const RoqEvent press = {25, 25, 0, 0, 0, ROQ_MOUSE_DOWN, 1, 0};
     CALL(roq_start, (s, C))                                                            \
     CALL(roq_create, (s))                                                              \
     CALL(roq_show, (s, 3))                                                             \
+    CALL(roq_raise, (s, 3))                                                            \
     CALL(roq_hide, (s, 3))                                                             \
     CALL(roq_drop, (s, 3))                                                             \
     CALL(roq_mark, (s, 3))                                                             \

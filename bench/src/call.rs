@@ -9,6 +9,7 @@ pub struct Area(pub u32, pub u32, pub u32, pub u32);
 pub enum Call {
     Create,
     Show(u32),
+    Raise(u32),
     Hide(u32),
     Drop(u32),
     Mark(u32),
@@ -48,6 +49,7 @@ impl Call {
         match self {
             Call::Create => "roq_create",
             Call::Show(_) => "roq_show",
+            Call::Raise(_) => "roq_raise",
             Call::Hide(_) => "roq_hide",
             Call::Drop(_) => "roq_drop",
             Call::Mark(_) => "roq_mark",

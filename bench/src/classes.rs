@@ -20,6 +20,7 @@ use crate::sheets;
 pub const LISTS: &str =
     "the original makes its visible lists here, we make them when a redraw or a visible list needs them";
 const LAYERS: &str = "the original has no layers: it hides the window and shows it again, and makes its visible lists";
+const RAISES: &str = "the original has no raise: it hides the window and shows it again, and makes its visible lists";
 const KEPT: &str = "the original kept it at the last show, hide, move or resize";
 pub const CLEARED: &str = "document 01 has us clear the rest of the window's C pixels; the limit is `memset` of C";
 const OTHER: &str = "the original draws something else (docs/DIFFERENCES.md)";
@@ -29,6 +30,8 @@ pub const MIX: &str = "a second of the station's mix";
 pub const MIX_OF_EIGHT: &str = "a second of the mix on eight displays";
 
 pub const LAYER: &str = "change of layer, 16 windows";
+pub const RAISE: &str = "raise, 16 windows";
+pub const RAISED: &str = "raise and redraw";
 
 /// Of a walk on eight displays: how the names of its classes begin, and how they go on.
 pub const ALL: &str = "all portions";
@@ -82,11 +85,13 @@ fn order() -> Vec<Class> {
     let made = vec![Call::Create, Call::Drop(15)];
     let shown = vec![Call::Hide(15), Call::Show(15)];
     // The lowest goes to the top of layer 1, and then of layer 0, where no window of layer 1 is left.
-    let raised = (0..16).flat_map(|id| [Call::Layer(id, 1), Call::Layer(id, 0)]).collect();
+    let layered = (0..16).flat_map(|id| [Call::Layer(id, 1), Call::Layer(id, 0)]).collect();
     let mut all = vec![
         Class::new("create or drop, 15 windows", cascade(15), made),
         Class::new("hide or show, 16 windows", cascade(16), shown).note(LISTS),
-        Class::new(LAYER, cascade(16), raised).note(LAYERS),
+        Class::new(LAYER, cascade(16), layered).note(LAYERS),
+        // The lowest each time, until all stand as they did.
+        Class::new(RAISE, cascade(16), (0..16).map(Call::Raise).collect()).note(RAISES),
     ];
     for (above, id) in [(0, 15), (3, 12), (15, 0)] {
         let name = format!("move, {above} windows above and {id} below");
@@ -154,6 +159,8 @@ fn redraws() -> Vec<Class> {
     let moved = moves(15).into_iter().flat_map(|call| [call, Call::Redraw(false)]).collect();
     let moved = Class::new("move and full redraw 800 by 480, windows: 16", cascade(16), moved).parts(2);
     all.push(moved.limit(Limit::Redraws));
+    let raised = (0..16).flat_map(|id| [Call::Raise(id), Call::Redraw(false)]).collect();
+    all.push(Class::new(format!("{RAISED} 800 by 480, windows: 16"), cascade(16), raised).parts(16));
     all.extend([4, 16].map(|n| lists(format!("full redraw 1 by 1, windows: {n}"), cascade(n))));
     for n in [4, 8, 16] {
         let name = format!("full redraw 800 by 480, crossing windows: {n}");

@@ -172,6 +172,7 @@ impl Side for Ours {
             Call::ReadSheet => return Reply::Count(self.read().map_or(0, <[_]>::len)),
             Call::Busiest(ref times) => return Reply::Second(busiest(times)),
             Call::Show(id) => answer(s.show(Id::from(id))),
+            Call::Raise(id) => answer(s.raise(Id::from(id))),
             Call::Hide(id) => answer(s.hide(Id::from(id))),
             Call::Drop(id) => answer(s.drop(Id::from(id))),
             Call::Mark(id) => answer(s.mark(Id::from(id))),

@@ -1,6 +1,6 @@
 //! What the times are held against.
 use crate::class::{Beside, Class};
-use crate::classes::{LAYER, MIX};
+use crate::classes::{LAYER, MIX, RAISE, RAISED};
 use crate::dims::DIMMED;
 use crate::displays::{DISPLAY_AT, MAXIMISE, UPDATE};
 use crate::looks::LOOK;
@@ -41,11 +41,13 @@ const WIDE_FILLS: &[&str] = &["fill 300 by", "fill 800 by", "fill 4000 by", "fil
 const NARROW_BLITS: &[&str] = &["blit 8 by", "blit 16 by", "blit 32 by", "blit 64 by", "blit 100 by"];
 const WIDE_BLITS: &[&str] = &["blit 300 by", "blit 800 by", "blit 4000 by", "blit 32767 by"];
 
-const TARGETS: [Target; 31] = [
+const TARGETS: [Target; 33] = [
     target("mark", Beside::Original, &["mark"], Time(1.0)),
     target("move", Beside::Original, &["move, "], Time(1.0)),
     target("show, hide", Beside::Original, &["hide or show"], Time(1.0)),
     target("change of layer", Beside::Original, &[LAYER], Time(1.0)),
+    target("raise", Beside::Original, &[RAISE], Time(1.0)),
+    target("raise and redraw", Beside::Original, &[RAISED], Time(1.0)),
     target("create, drop", Beside::Original, &["create or drop"], Time(1.0)),
     target("press", Beside::Original, &["press"], Time(0.4)),
     target("pop", Beside::Original, &["pop"], Time(2.0)),

@@ -104,8 +104,8 @@ impl Side for Theirs {
             Call::Drop(id) => g.drop(id),
             Call::Mark(id) => g.mark(id),
             Call::Move(id, x, y) => g.move_window(id, x, y),
-            // It has no layers: hidden and shown, the window is on top too.
-            Call::Layer(id, _) => {
+            // It has no layers and no raise: hidden and shown, the window is on top too.
+            Call::Layer(id, _) | Call::Raise(id) => {
                 g.hide(id);
                 g.show(id);
             }
@@ -128,8 +128,8 @@ impl Side for Theirs {
         match call {
             Call::Redraw(_) => self.owed = false,
             // A drop is none of these: the lists drop hidden windows only.
-            Call::Show(_) | Call::Hide(_) | Call::Move(..) | Call::Layer(..) | Call::Resize(..) => self.owed = true,
-            Call::Maximise(_) | Call::UpdateDims => self.owed = true,
+            Call::Show(_) | Call::Hide(_) | Call::Raise(_) | Call::Layer(..) => self.owed = true,
+            Call::Move(..) | Call::Resize(..) | Call::Maximise(_) | Call::UpdateDims => self.owed = true,
             _ => {}
         }
         Reply::Answer(0)
