@@ -58,6 +58,11 @@ static void press(uint32_t x, uint32_t y) {
     say(roq_route(&s, e));
 }
 
+static void release(uint32_t x, uint32_t y) {
+    RoqEvent e = {.kind = ROQ_MOUSE_UP, .x = x, .y = y, .button = 1};
+    say(roq_route(&s, e));
+}
+
 static void finger(uint32_t x, uint32_t y) {
     RoqEvent e = {.kind = ROQ_MOUSE_MOVE, .x = x, .y = y};
     say(roq_route(&s, e));
@@ -71,6 +76,8 @@ static void pop(uint32_t id) {
         printf(" Resize");
     else if (popped.answer == 0 && e.kind == ROQ_MOUSE_DOWN)
         printf(" MouseDown %u %u %u", (unsigned)e.x, (unsigned)e.y, (unsigned)e.button);
+    else if (popped.answer == 0 && e.kind == ROQ_MOUSE_UP)
+        printf(" MouseUp %u %u %u", (unsigned)e.x, (unsigned)e.y, (unsigned)e.button);
     else if (popped.answer == 0 && e.kind == ROQ_MOUSE_MOVE)
         printf(" MouseMove %u %u %d %d", (unsigned)e.x, (unsigned)e.y, e.dx, e.dy);
     printf("\n");
@@ -127,6 +134,18 @@ static void press_panels(void) {
         pop(0);
 }
 
+/* The plan is raised while the panel is pressed, and then the panel, which gets the release. */
+static void raise_both(void) {
+    press(5, 3);
+    say(roq_raise(&s, 0));
+    redraw();
+    release(1, 3);
+    say(roq_raise(&s, 1));
+    redraw();
+    for (int i = 0; i < 3; i++)
+        pop(1);
+}
+
 /* The panel stays above the plan, which is hidden and shown again. */
 static void keep_on_top(void) {
     say(roq_set_layer(&s, 1, 2));
@@ -161,6 +180,7 @@ int main(void) {
     fill(1, 1, 1, 2, 1, 5);
     say(roq_mark(&s, 1));
     redraw();
+    raise_both();
     keep_on_top();
     maximise();
     say(roq_drop(&s, 1));

@@ -38,6 +38,7 @@ fn named(event: Event) -> String {
     match event {
         Event::Resize => " Resize".to_string(),
         Event::MouseDown { at, button } => format!(" MouseDown {} {} {button}", at.x, at.y),
+        Event::MouseUp { at, button } => format!(" MouseUp {} {} {button}", at.x, at.y),
         Event::MouseMove { at, dx, dy } => format!(" MouseMove {} {} {dx} {dy}", at.x, at.y),
         other => format!(" {other:?}"),
     }
@@ -64,6 +65,9 @@ impl Panels {
     }
     fn press(&mut self, x: u32, y: u32) {
         done(self.session.route(Event::MouseDown { at: Pos::new(x, y), button: 1 }));
+    }
+    fn release(&mut self, x: u32, y: u32) {
+        done(self.session.route(Event::MouseUp { at: Pos::new(x, y), button: 1 }));
     }
     fn finger(&mut self, x: u32, y: u32) {
         done(self.session.route(Event::mouse_move(Pos::new(x, y))));
@@ -118,6 +122,17 @@ impl Panels {
         (0..3).for_each(|_| self.pop(PLAN));
     }
 
+    /// The plan is raised while the panel is pressed, and then the panel, which gets the release.
+    fn raise_both(&mut self) {
+        self.press(5, 3);
+        done(self.session.raise(PLAN.into()));
+        self.redraw();
+        self.release(1, 3);
+        done(self.session.raise(PANEL.into()));
+        self.redraw();
+        (0..3).for_each(|_| self.pop(PANEL));
+    }
+
     /// The panel stays above the plan, which is hidden and shown again.
     fn keep_on_top(&mut self) {
         done(self.session.set_layer(PANEL.into(), 2));
@@ -153,6 +168,7 @@ fn main() -> Result<(), Error> {
     panels.fill(PANEL, Rect::new(1, 1, 2, 1), 5);
     done(panels.session.mark(PANEL.into()));
     panels.redraw();
+    panels.raise_both();
     panels.keep_on_top();
     panels.maximise();
     done(panels.session.drop(PANEL.into()));
