@@ -21,10 +21,11 @@ pub enum Entry {
     NothingShown,
     MaximisedOff,
     FlagKept,
+    Raised,
 }
 
 impl Entry {
-    pub const ALL: [Entry; 19] = [
+    pub const ALL: [Entry; 20] = [
         Entry::SomeEntriesMet,
         Entry::PiecesApart,
         Entry::BarePixels,
@@ -44,6 +45,7 @@ impl Entry {
         Entry::NothingShown,
         Entry::MaximisedOff,
         Entry::FlagKept,
+        Entry::Raised,
     ];
 
     pub fn text(self) -> &'static str {
@@ -67,6 +69,7 @@ impl Entry {
             Entry::NothingShown => "an update with nothing shown",
             Entry::MaximisedOff => "an update, a maximised window on no display",
             Entry::FlagKept => "an update after a flag was cleared",
+            Entry::Raised => "a raise",
         }
     }
 }

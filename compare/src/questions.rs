@@ -62,6 +62,7 @@ pub fn answer(call: &Call, group: &Group, lent: &Lent, shadow: &Shadow) -> u8 {
         Call::Start(c) => first_no(&[(2, (1..=1_048_576).contains(c))]),
         Call::Create => first_no(&[(4, group.count() < 16)]),
         Call::Show(id) | Call::Hide(id) | Call::Drop(id) | Call::Mark(id) | Call::Pop(id) => first_no(&[used(*id)]),
+        Call::Raise(id) => first_no(&[used(*id)]),
         Call::Layer(id, layer) => first_no(&[used(*id), (17, *layer <= 1)]),
         Call::Display(region) => first_no(&[small_rect(region), (15, is_display(region)), (16, displays.count() < 8)]),
         Call::DisplayAt(x, y) => first_no(&[small(&[*x, *y])]),

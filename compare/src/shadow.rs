@@ -81,6 +81,7 @@ impl Shadow {
             Call::Portion(..) => Some(Entry::Portion),
             Call::Dim(on) => (*on && !self.dimmed).then_some(Entry::DimmingOn),
             Call::Layer(id, 1) if self.places.changes_layer(*id, 1) => Some(Entry::LayerOne),
+            Call::Raise(_) => Some(Entry::Raised),
             Call::DisplayAt(..) | Call::Maximise(_) | Call::UpdateDims => self.dims_entry(call),
             _ => self.list_entry(call),
         }
@@ -141,11 +142,15 @@ impl Shadow {
         }
         if let Some(places) = self.places.after(call) {
             let owes = places.owes(&self.places, call);
+            let raised = places.raised(&self.places, call);
             self.places = places;
             // "or that window is hidden"
             self.held = self.held.filter(|id| self.places.order.contains(id));
             if owes {
                 self.owe();
+            }
+            if let Some(id) = raised {
+                self.repair(id);
             }
             self.seen.changed += 1;
             self.seen.meeting += u64::from(self.places.any_meet());
@@ -230,6 +235,17 @@ impl Shadow {
         if self.is_walking() {
             self.go_on(Walk { done: 0, full: true });
         }
+    }
+
+    /// "if a full redraw is owed or a walk is on, a full redraw is owed, as after a move. Else the window is marked",
+    /// and "its damage becomes (0,0,w,h)"
+    fn repair(&mut self, id: usize) {
+        if self.owed || self.is_walking() {
+            return self.owe();
+        }
+        let window = self.places.at[id];
+        self.marked[id] = true;
+        self.damage[id].set(Area::new(0, 0, window.w(), window.h()));
     }
 
     /// "A walk with no window left to draw is over, and only then is the debt cleared."

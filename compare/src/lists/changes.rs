@@ -1,4 +1,4 @@
-//! Windows created, shown, hidden, moved, resized, dropped and put on a layer.
+//! Windows created, shown, raised, hidden, moved, resized, dropped and put on a layer.
 use super::{Maker, Step};
 
 impl Maker<'_> {
@@ -63,6 +63,14 @@ impl Maker<'_> {
     pub fn show(&mut self) -> Step {
         let id = self.id();
         self.say(&format!("show {id}"))
+    }
+
+    /// Accepted, it leaves the common ground.
+    pub fn raise(&mut self) -> Step {
+        let id = self.id();
+        self.say(&format!("raise {id}"))?;
+        self.redraw()?;
+        self.screen()
     }
 
     pub fn hide(&mut self) -> Step {

@@ -66,6 +66,7 @@ impl<'a> Maker<'a> {
         self.random.weighted::<Action<'a>>(&[
             (8, Maker::add_window),
             (6, Maker::show),
+            (2, Maker::raise),
             (4, Maker::hide),
             (1, Maker::drop),
             (14, Maker::move_window),

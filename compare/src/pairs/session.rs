@@ -49,7 +49,7 @@ impl<'a> Maker<'a> {
             (10, Maker::input),
             (10, Maker::redraw),
             (2, Maker::move_window),
-            (2, Maker::raise),
+            (4, Maker::raise),
             (1, Maker::drop),
         ])
     }
@@ -72,7 +72,11 @@ impl<'a> Maker<'a> {
         self.say(&format!("move {id} {x} {y}"));
     }
 
+    /// By one call, or by hide and show.
     fn raise(&mut self, id: u32) {
+        if self.random.chance(500) {
+            return self.say(&format!("raise {id}"));
+        }
         self.say(&format!("hide {id}"));
         self.say(&format!("show {id}"));
     }
