@@ -26,7 +26,7 @@ pub record Picked (o : Option Call) (P : Call → Type 0) : Type 0 where
   pub so : P call
 
 -- "`show ID` · `hide ID` · `drop ID` · `mark ID`: these"; "`move ID X Y`: move"; "`begin FULL`: begin; FULL is 0 or 1"; "`dim B`:
--- dim; B is 0 or 1"; "`layer ID L`: set_layer"; "`display X Y W H`: add_display"
+-- dim; B is 0 or 1"; "`layer ID L`: set_layer"; "`display X Y W H`: add_display"; "`raise ID`: raise"
 abbrev pub windowCalls : List ℕ → List (ℕ × Call)
 windowCalls ns =
     (Kind.show, Call.Show (idOf ns))
@@ -38,6 +38,7 @@ windowCalls ns =
     ∷ (Kind.dim, Call.Dim (eqb (num ns 0) 1))
     ∷ (Kind.layer, Call.SetLayer (idOf ns) (num ns 1))
     ∷ (Kind.display, Call.AddDisplay (rectAt ns 0))
+    ∷ (Kind.raise, Call.Raise (idOf ns))
     ∷ []
 
 -- "`keydown V` · `keyup V` · `keyfire V` · `text V`: route"; "`mousemove X Y`: route a MouseMove, its differences 0"; "`mousedown X Y B` ·

@@ -42,6 +42,7 @@ fn plain(s: Session, line: Line, ns: &[u32; 4200]) -> Done
         kind::DIM => s.dim(ns[0] == 1),
         kind::LAYER => s.set_layer(id, ns[1]),
         kind::DISPLAY => s.add_display(numbers::rect(ns, 0)),
+        kind::RAISE => s.raise(id),
         _ => s.route(events::event(line, ns)),
     }
 }

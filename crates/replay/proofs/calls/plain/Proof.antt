@@ -56,6 +56,9 @@ rect-requires c κs = search needs
 add-display-requires : tie.Need-add-display-requires
 add-display-requires c κs = search needs
 
+raise-requires : tie.Need-raise-requires
+raise-requires c κs = search needs
+
 event-requires : tie.Need-event-requires
 event-requires c κs = (c .before .before .pre .1, routes-left _ _ (c .match .rest) (c .before .before .pre .2))
 
@@ -101,7 +104,10 @@ returns-9 c =
     (subst (λ (area : Rect). Meets (Call.AddDisplay area) (args .s) (c .add-display .result)) (c .before .rect .ensures) (c .add-display .ensures))
 
 returns-10 : tie.Need-returns-10
-returns-10 c = record { call = Call.Route (c .before .event .result); is = c .before .event .ensures; so = c .route .ensures }
+returns-10 c = by-id (c .before .match .keys10) _ Call.Raise refl (c .before .before .id .ensures) (c .raise .ensures)
+
+returns-11 : tie.Need-returns-11
+returns-11 c = record { call = Call.Route (c .before .event .result); is = c .before .event .ensures; so = c .route .ensures }
 
 pub plain-spec : {M : Type 1} → statement M
 plain-spec =
@@ -122,6 +128,7 @@ plain-spec =
     set-layer-requires
     rect-requires
     add-display-requires
+    raise-requires
     event-requires
     route-requires
     returns
@@ -133,4 +140,5 @@ plain-spec =
     returns-7
     returns-8
     returns-9
-    returns-10)
+    returns-10
+    returns-11)
