@@ -203,13 +203,6 @@ static uint32_t under(uint32_t x, uint32_t y) {
     return hit[0];
 }
 
-/* Puts a panel on top. The one with the focus is there already. */
-static void raise_panel(uint32_t id) {
-    if (!is_panel(id) || id == roq_focus(&s)) return;
-    must("hide", roq_hide(&s, id));
-    must("show", roq_show(&s, id));
-}
-
 static void light(uint32_t id) {
     uint32_t before = lit;
     if (id == before) return;
@@ -229,8 +222,8 @@ static void deliver(void) {
         }
 }
 
-/* An event of the mouse or a finger. It is delivered at once: a pop gives presses before moves, whichever came first. A panel is raised before its
- * press is routed: a hide after it would forget the press, and the release would go to whom it reaches.
+/* An event of the mouse or a finger. It is delivered at once: a pop gives presses before moves, whichever came first. A
+ * panel that is pressed comes to the front.
  *
  * The press that stops is not routed: roq_hits says that it is STOP's, also where STOP's queue is full or another press
  * is remembered. Since STOP never pops it, that same press cannot begin the slide that resets. */
@@ -242,7 +235,7 @@ static void pointer(uint8_t kind, int x, int y) {
         light(id);
         return;
     }
-    if (kind == ROQ_MOUSE_DOWN) raise_panel(id);
+    if (kind == ROQ_MOUSE_DOWN && is_panel(id)) must("raise", roq_raise(&s, id));
     must("route", roq_route(&s, e));
     deliver();
     light(under(e.x, e.y));
