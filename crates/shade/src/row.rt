@@ -66,20 +66,30 @@ fn shade_each(px: &mut [u32], at: usize, src: &[u32], from: usize, n: u16, table
     }
 }
 
-// Are eight pixels all alike? All are compared, whatever the first of them say: the processor takes several at once, and foresees the one answer
-// better than seven.
+// 1 if the pixel at i is v, else 0.
+fn same(src: &[u32], i: usize, v: u32) -> u32
+    requires { ⌜ i < length (now src) ⌝ }
+    ensures { λ r. ⌜ (r ≤ 1) × (r ≡ 1 → getD (now (src .entry)) i 0 ≡ v) ⌝ }
+{
+    if src[i] == v { 1 } else { 0 }
+}
+
+// Are eight pixels all alike? The last four are compared with the first, and then the three between: in runs of a
+// colour these are alike where the last four are, so that the processor foresees the second branch. The answers are
+// added up: of seven joined by `&` the compiler makes a branch on the first five pixels, and one on each of the others.
 fn are_alike(src: &[u32], at: usize) -> bool
     requires { ⌜ at + 8 ≤ length (now src) ⌝ }
     ensures { λ r. ⌜ (r ≡ true → part at 8 (now (src .entry)) ≡ replicate 8 (getD (now (src .entry)) at 0)) ⌝ }
 {
     let v = src[at];
-    (src[at + 1] == v)
-        & (src[at + 2] == v)
-        & (src[at + 3] == v)
-        & (src[at + 4] == v)
-        & (src[at + 5] == v)
-        & (src[at + 6] == v)
-        & (src[at + 7] == v)
+    let last = same(src, at + 4, v)
+        + same(src, at + 5, v)
+        + same(src, at + 6, v)
+        + same(src, at + 7, v);
+    if last != 4 {
+        return false;
+    }
+    same(src, at + 1, v) + same(src, at + 2, v) + same(src, at + 3, v) == 3
 }
 
 // Eight pixels. Where all are alike, the table is asked for one.

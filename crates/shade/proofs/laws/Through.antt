@@ -1,15 +1,12 @@
 -- Pixels that go through a function on their way: a run of a row after the other, and a run of pixels that are all alike.
 use mathlib.Core.Path.{_≡_, refl, sym, ap, _∙_}
-use mathlib.Core.Bool.{Bool, true, false, _&&_}
+use mathlib.Core.Bool.{Bool, true, false}
 use mathlib.Core.List.{List, _∷_, _++_, map, map-append, map-id}
 use Prim.Native.Nat.{ℕ, zero, suc, _+_, _-_, _≤_, _<_}
 use native.Mathlib.Omega.{arith}
 use native.Mathlib.Nat.{add-zero}
-use lib.Dec.{eqb}
 use lib.ListN.{length, getD, set, replicate, drop, length-map, getD-replicate}
 use lib.Seq.{sets, drop-cons, drop-drop, take-add, ext-getD}
-use borrow.Author.Tests.{eqb-true}
-use Rattle.geom.proofs.basics.Tests.{fst, snd}
 use Rattle.scanline.specs.Pixels.{writeRows, part}
 use Rattle.shade.specs.Shade.{shade, tone}
 use Rattle.scanline.proofs.rows.Paint.{getD-part}
@@ -41,29 +38,26 @@ map-replicate f zero v = refl
 map-replicate f (suc n) v = ap (λ (l : List ℕ). f v ∷ l) (map-replicate f n v)
 
 -- the pixel k behind `at` is like the one at `at`
-abbrev like : List ℕ → ℕ → ℕ → Bool
-like s at k = eqb (getD s (at + k) 0) (getD s at 0)
+abbrev Like : List ℕ → ℕ → ℕ → Type 0
+Like s at k = getD s (at + k) 0 ≡ getD s at 0
 
 -- and so are the seven behind it
 pub eight-alike : (s : List ℕ) (at : ℕ) → at + 8 ≤ length s
-    → (((((like s at 1 && like s at 2) && like s at 3) && like s at 4) && like s at 5) && like s at 6) && like s at 7 ≡ true
+    → Like s at 1 → Like s at 2 → Like s at 3 → Like s at 4 → Like s at 5 → Like s at 6 → Like s at 7
     → part at 8 s ≡ replicate 8 (getD s at 0)
-eight-alike s at h t7 =
+eight-alike s at h e1 e2 e3 e4 e5 e6 e7 =
     ext-getD 0 (part at 8 s) (replicate 8 (getD s at 0)) (full-part s at 8 h)
     (λ i l. let k : i < 8 = omega (arith, full-part s at 8 h) in getD-part at 8 s i 0 k ∙ each i k ∙ sym (getD-replicate 8 i (getD s at 0) 0 k))
   where
-    is : (k : ℕ) → like s at k ≡ true → getD s (at + k) 0 ≡ getD s at 0
-    is k e = eqb-true (getD s (at + k) 0) (getD s at 0) e
-
-    each : (i : ℕ) → i < 8 → getD s (at + i) 0 ≡ getD s at 0
+    each : (i : ℕ) → i < 8 → Like s at i
     each zero k = rw add-zero
-    each (suc zero) k = is 1 (search (fst, snd))
-    each (suc (suc zero)) k = is 2 (search (fst, snd))
-    each (suc (suc (suc zero))) k = is 3 (search (fst, snd))
-    each (suc (suc (suc (suc zero)))) k = is 4 (search (fst, snd))
-    each (suc (suc (suc (suc (suc zero))))) k = is 5 (search (fst, snd))
-    each (suc (suc (suc (suc (suc (suc zero)))))) k = is 6 (search (fst, snd))
-    each (suc (suc (suc (suc (suc (suc (suc zero))))))) k = is 7 (search (fst, snd))
+    each (suc zero) k = e1
+    each (suc (suc zero)) k = e2
+    each (suc (suc (suc zero))) k = e3
+    each (suc (suc (suc (suc zero)))) k = e4
+    each (suc (suc (suc (suc (suc zero))))) k = e5
+    each (suc (suc (suc (suc (suc (suc zero)))))) k = e6
+    each (suc (suc (suc (suc (suc (suc (suc zero))))))) k = e7
     each (suc (suc (suc (suc (suc (suc (suc (suc i)))))))) k = absurd (omega arith)
 
 -- pixels that are all alike go through once
