@@ -1,4 +1,5 @@
--- Rows of pixels at a new width and height.
+-- Rows of pixels at a new width and height, and the rows of a blit.
 pub mod Flat
 pub mod Widths
 pub mod Inside
+pub mod Chunks

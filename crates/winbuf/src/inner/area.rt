@@ -1,6 +1,6 @@
 // The rows of a rectangle of pixels: filled, or set from lent data. Each function returns how many pixels differ afterwards.
 ghost use mathlib.Core.Path.{_≡_};
-ghost use Prim.Native.Nat.{_+_, _*_, _≤_};
+ghost use Prim.Native.Nat.{_+_, _*_, _/_, _≤_, min};
 ghost use lib.ListN.{length, take, replicate};
 ghost use Rattle.scanline.specs.Pixels.{writeRows, part};
 ghost use Rattle.scanline.specs.Rows.{Fit, Inside, Counted};
@@ -22,6 +22,39 @@ pub fn fill_rows(px: &mut [u32], at: usize, pitch: usize, w: u16, n: usize, v: u
     altered
 }
 
+// How many of n rows take a full chunk of `stride` data: none where the stride is 0.
+fn full_chunks(len: usize, stride: usize, n: usize) -> usize
+    ensures { λ r. ⌜ r ≡ min n (len / stride) ⌝ }
+{
+    if stride == 0 {
+        return 0;
+    }
+    least(n, len / stride)
+}
+
+// Row r of n takes w of the data, from r * stride on. Where a row lies is a product with r, in the data too, and no sum
+// carried from row to row: so the compiler tests once for all rows, and not for each, whether data and pixels overlap.
+fn full_rows(
+    px: &mut [u32],
+    at: usize,
+    pitch: usize,
+    src: &[u32],
+    stride: usize,
+    w: u16,
+    n: usize,
+) -> usize
+    requires { ⌜ Fit (length (now px)) at pitch w n × (w ≤ pitch) × Fit (length (now src)) 0 stride w n ⌝ }
+    ensures { λ k. ⌜ Counted (writeRows n (λ r. at + r * pitch) (λ r. part (r * stride) w (now (src .entry))) (now (px .entry))) (now (px .entry)) (now (px .exit)) k ⌝ }
+{
+    let mut altered: usize = 0;
+    let mut r: usize = 0;
+    while r < n {
+        altered += set_part(px, at + r * pitch, src, r * stride, w);
+        r += 1;
+    }
+    altered
+}
+
 // Row r of n takes chunk r of the data, cut to w: chunks of `stride`, the last one may be short, and then none.
 pub fn blit_rows(
     px: &mut [u32],
@@ -35,17 +68,16 @@ pub fn blit_rows(
     requires { ⌜ Fit (length (now px)) at pitch w n × (w ≤ pitch) ⌝ }
     ensures { λ k. ⌜ Counted (writeRows n (λ r. at + r * pitch) (λ r. take w (part (r * stride) stride (now (src .entry)))) (now (px .entry))) (now (px .entry)) (now (px .exit)) k ⌝ }
 {
-    let mut altered: usize = 0;
-    let mut r: usize = 0;
-    let mut from: usize = 0;
-    while r < n {
-        let chunk = least(stride, src.len() - from);
-        let m = least(w as usize, chunk) as u16;
-        altered += set_part(px, at + r * pitch, src, from, m);
-        from += chunk;
-        r += 1;
+    let full = full_chunks(src.len(), stride, n);
+    let m = least(w as usize, stride) as u16;
+    let altered = full_rows(px, at, pitch, src, stride, m, full);
+    if full == n {
+        return altered;
     }
-    altered
+    // one more row takes what is left of the data, a short chunk or nothing; the rows after it take nothing
+    let from = full * stride;
+    let rest = least(m as usize, src.len() - from) as u16;
+    altered + set_part(px, at + full * pitch, src, from, rest)
 }
 
 // An area of a window becomes `v`.

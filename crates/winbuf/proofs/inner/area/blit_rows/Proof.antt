@@ -1,127 +1,166 @@
--- `blit_rows`: after r turns, r rows are written and their counts add up, and `from` is where chunk r begins or the data end.
-use mathlib.Core.Path.{_≡_, refl, ap, _∙_}
-use Prim.Native.Nat.{_+_, _-_, _*_, _≤_, min}
+-- `blit_rows`: the rows of full chunks, then the one that takes what is left; the rows after it take nothing.
+use mathlib.Core.Path.{_≡_, ap, _∙_}
+use Prim.Native.Nat.{ℕ, _+_, _*_, _≤_, _<_}
 use native.Mathlib.Omega.{arith}
 use lib.ListN.{length, take, drop, length-take}
+use borrow.Author.Needs.{needs}
 use Rattle.scanline.specs.Pixels.{writeRows, part}
-use lib.Seq.{sets}
-use Rattle.scanline.proofs.rows.Altered.{Along, along-none, along-run, along-few}
-use Rattle.scanline.proofs.rows.Turns.{rows-more, rows-all, chunk-is, next-chunk, next-row}
-use Rattle.scanline.proofs.rows.Written.{rows-none}
+use Rattle.scanline.proofs.rows.Altered.{Along, along-run, along-few}
+use Rattle.winbuf.proofs.rows.Chunks.{along-rows, chunks-in, chunk-in, full-are, all-are}
 use Rattle.winbuf.proofs.inner.area.blit_rows.Statement.{statement}
 use Rattle.winbuf.proofs.inner.area.blit_rows.Tie as tie
 
-abbrev Inv-loop : tie.InvT-loop
-Inv-loop px₀ at pitch src stride w n altered₀ r₀ from₀ px altered r from =
-    (px ≡ writeRows r (λ k. at + k * pitch) (λ k. take w (part (k * stride) stride src)) px₀)
-    × Along px₀ px (at + r * pitch) altered
-    × (r ≤ n)
-    × (from ≡ min (r * stride) (length src))
+-- behind the rows of full chunks there is one more: it has room, and the data reach to its chunk
+room : (c : tie.Else1) → let m = c .before .before .before .before .before in
+    let full = m .before .full-chunks .result in
+    let a = m .before .before .before .before .args in
+    (full < a .n) × (a .at + full * a .pitch + a .w ≤ length (a .px .now)) × (full * a .stride ≤ length (a .src .now))
+room c =
+    let m = c .before .before .before .before .before in
+    let full = m .before .full-chunks in
+    let p = m .before .before .before .before in
+    let l : full .result < p .args .n = omega (arith, full .ensures, c .if1 .left) in
+    (l, p .pre .0 .row (full .result) l, chunks-in (p .args .src .now) (p .args .stride) (p .args .n) (full .result) (full .ensures))
 
-abbrev μ-loop : tie.MeasureT-loop
-μ-loop px₀ at pitch src stride w n altered₀ r₀ from₀ px altered r from = n - r
+-- what the rows of full chunks count
+begun : (c : tie.Else1) → let f = c .before .before .before in
+    let m = f .before .before in
+    let a = m .before .before .before .before .args in
+    Along (a .px .now) (f .full-rows .last .0) (a .at + m .before .full-chunks .result * a .pitch) (f .full-rows .result)
+begun c =
+    let f = c .before .before .before in
+    let m = f .before .before in
+    let p = m .before .before .before .before in
+    let a = p .args in
+    let k = m .least .result in
+    along-rows (m .before .full-chunks .result) (a .at) (a .pitch) k (λ r. part (r * a .stride) k (a .src .now)) (a .px .now)
+    (f .full-rows .last .0) (f .full-rows .result) (λ r. omega (arith, length-take k (drop (r * a .stride) (a .src .now))))
+    (omega (arith, m .least .ensures, p .pre .1)) (f .full-rows .ensures)
 
-loop-holds : tie.Need-loop-holds Inv-loop μ-loop
-loop-holds c = (rows-none _ _ _, along-none _ _, omega arith, omega arith)
-
--- the row that a turn writes
-row : (c : tie.In-loop Inv-loop μ-loop)
-    → let a = c .before .before .before .before .args in a .at + c .before .loop .r * a .pitch + a .w ≤ length (a .px .now)
-row c = c .before .before .before .before .pre .0 .row (c .before .loop .r) (c .loop-test .taken)
-
--- what is counted once it is written
-counted : (c : tie.After-slice-known2 Inv-loop μ-loop) → let l = c .before .before .before .before .before .before .before .loop in
-    let a = c .before .before .before .before .before .before .before .before .before .before .args in
-    Along (a .px .now) (c .before .before .set-part .last .0) (a .at + (l .r + 1) * a .pitch) (l .altered + c .before .before .set-part .result)
+-- what all rows count
+counted : (c : tie.After-slice-known3) → let g = c .before .before in
+    let f = g .before .before .before .before .before .before in
+    let a = f .before .before .before .before .before .before .args in
+    Along (a .px .now) (g .set-part .last .0) (length (a .px .now)) (f .full-rows .result + g .set-part .result)
 counted c =
-    let l = c .before .before .before .before .before .before .before .loop in
-    let a = c .before .before .before .before .before .before .before .before .before .before .args in
-    let m = c .before .before .before .before .least2 in
-    along-run (part (l .from) (m .result) (a .src .now)) (l .inv .1) (c .before .before .set-part .ensures) (a .at + (l .r + 1) * a .pitch)
-    (omega (arith, next-row (l .r) (a .pitch), length-take (m .result) (drop (l .from) (a .src .now)), m .ensures))
+    let g = c .before .before in
+    let rest = g .before .before in
+    let e = rest .before in
+    let m = e .before .before .before .before .before in
+    let a = m .before .before .before .before .args in
+    let k = rest .least2 .result in
+    let from = m .before .full-chunks .result * a .stride in
+    along-run (part from k (a .src .now)) (begun e) (g .set-part .ensures) (length (a .px .now))
+    (omega (arith, room e .1, length-take k (drop from (a .src .now)), rest .least2 .ensures, m .least .ensures))
 
-sub-least : tie.Need-sub-least Inv-loop μ-loop
-sub-least c = omega arith
+full-chunks-requires : tie.Need-full-chunks-requires
+full-chunks-requires c κs = tt
 
-least-requires : tie.Need-least-requires Inv-loop μ-loop
+least-requires : tie.Need-least-requires
 least-requires c κs = tt
 
-least-requires-2 : tie.Need-least-requires-2 Inv-loop μ-loop
-least-requires-2 c κs = tt
+cast-m : tie.Need-cast-m
+cast-m c = search needs
 
-cast-m : tie.Need-cast-m Inv-loop μ-loop
-cast-m c = omega arith
-
-mul-set-part : tie.Need-mul-set-part Inv-loop μ-loop
-mul-set-part c = omega (arith, row (c .before .before .before))
-
-add-set-part : tie.Need-add-set-part Inv-loop μ-loop
-add-set-part c = omega (arith, row (c .before .before .before))
-
-set-part-requires : tie.Need-set-part-requires Inv-loop μ-loop
-set-part-requires c κs = omega (arith, row (c .before .before .before), c .before .before .before .before .loop .inv .1 .same)
-
-add-altered : tie.Need-add-altered Inv-loop μ-loop
-add-altered c = omega (arith, along-few (counted c))
-
-add-from : tie.Need-add-from Inv-loop μ-loop
-add-from c = omega arith
-
-add-r : tie.Need-add-r Inv-loop μ-loop
-add-r c = omega arith
-
-loop-less : tie.Need-loop-less Inv-loop μ-loop
-loop-less c = omega arith
-
-loop-again : tie.Need-loop-again Inv-loop μ-loop
-loop-again c =
-    let a = c .before .before .before .before .before .before .before .before .before .before .args in
-    let l = c .before .before .before .before .before .before .before .loop in
-    let h = c .before .before .before .before .before .least in
-    let m = c .before .before .before .before .least2 in
-    let f = c .before .before .set-part in (
-      rows-more (λ k. a .at + k * a .pitch) (λ k. take (a .w) (part (k * a .stride) (a .stride) (a .src .now))) (a .px .now)
-          (l .px) (f .last .0) (l .r) (l .inv .0)
-          (f .ensures .pixels
-          ∙ ap (λ t. sets (l .px) (a .at + l .r * a .pitch) t)
-          (chunk-is (a .src .now) (l .r * a .stride) (a .stride) (a .w) (l .from) (h .result) (m .result) (l .inv .3) (h .ensures) (m .ensures))),
-      counted c,
-      omega arith,
-      next-chunk (length (a .src .now)) (l .r) (a .stride) (l .from) (h .result) (l .inv .3) (h .ensures),
+full-rows-requires : tie.Need-full-rows-requires
+full-rows-requires c κs =
+    let m = c .before in
+    let full = m .before .full-chunks in
+    let p = m .before .before .before .before in
+    let a = p .args in
+    let chunk = chunk-in (a .src .now) (a .stride) (a .n) (full .result) (full .ensures) in (
+      record { row = λ r l. omega (arith, p .pre .0 .row r (omega (arith, full .ensures)), m .least .ensures) },
+      omega (arith, m .least .ensures, p .pre .1),
+      record { row = λ r l. omega (arith, chunk r (m .least .result) l (omega (arith, m .least .ensures))) },
     )
 
-same-length : tie.Need-same-length Inv-loop μ-loop
-same-length c = c .before .loop .inv .1 .same
+same-length : tie.Need-same-length
+same-length c = search needs
 
-returns : tie.Need-returns Inv-loop μ-loop
+returns : tie.Need-returns
 returns c =
-    let a = c .before .before .before .before .args in
-    let l = c .before .loop in
+    let f = c .before .before .before in
+    let m = f .before .before in
+    let full = m .before .full-chunks in
+    let a = m .before .before .before .before .args in
+    let at : ℕ → ℕ = λ r. a .at + r * a .pitch in
+    let e : full .result ≡ a .n = omega (arith, c .if1 .taken) in
     record {
       pixels =
-          rows-all (λ k. a .at + k * a .pitch) (λ k. take (a .w) (part (k * a .stride) (a .stride) (a .src .now))) (a .px .now) (l .px) (l .r) (a .n)
-          (l .inv .0) (omega arith) (omega arith);
-      altered = l .inv .1 .count;
+          full-are (a .src .now) (a .stride) (a .n) (full .result) (full .ensures) at (a .w) (m .least .result) (m .least .ensures) (a .px .now)
+          (f .full-rows .last .0) (f .full-rows .ensures .pixels)
+          ∙ ap (λ (k : ℕ). writeRows k at (λ r. take (a .w) (part (r * a .stride) (a .stride) (a .src .now))) (a .px .now)) e;
+      altered = f .full-rows .ensures .altered;
+    }
+
+mul-from : tie.Need-mul-from
+mul-from c = omega (arith, room c .2)
+
+cast-least : tie.Need-cast-least
+cast-least c = search needs
+
+sub-least : tie.Need-sub-least
+sub-least c = room c .2
+
+least-requires-2 : tie.Need-least-requires-2
+least-requires-2 c κs = tt
+
+cast-rest : tie.Need-cast-rest
+cast-rest c = search needs
+
+mul-set-part : tie.Need-mul-set-part
+mul-set-part c = omega (arith, room (c .before .before) .1)
+
+add-set-part : tie.Need-add-set-part
+add-set-part c = omega (arith, room (c .before .before) .1)
+
+set-part-requires : tie.Need-set-part-requires
+set-part-requires c κs =
+    let rest = c .before .least2 .ensures in
+    let e = c .before .before in
+    let m = e .before .before .before .before .before in
+    (omega (arith, room e .1, begun e .same, rest, m .least .ensures), omega (arith, room e .2, rest))
+
+add-result : tie.Need-add-result
+add-result c = omega (arith, along-few (counted c))
+
+same-length-2 : tie.Need-same-length-2
+same-length-2 c = search needs
+
+returns-2 : tie.Need-returns-2
+returns-2 c =
+    let g = c .before .before in
+    let rest = g .before .before in
+    let f = rest .before .before .before .before in
+    let m = f .before .before in
+    let full = m .before .full-chunks in
+    let a = m .before .before .before .before .args in
+    record {
+      pixels =
+          all-are (a .src .now) (a .stride) (a .n) (full .result) (full .ensures) (λ r. a .at + r * a .pitch) (a .w) (m .least .result)
+          (m .least .ensures) (a .px .now) (f .full-rows .last .0) (g .set-part .last .0) (rest .least2 .result) (f .full-rows .ensures .pixels)
+          (rest .least2 .ensures) (g .set-part .ensures .pixels) (room (rest .before) .0);
+      altered = counted c .count;
     }
 
 pub blit-rows-spec : {M : Type 1} → statement M
 blit-rows-spec =
     tie.close
     (tie.spec
-    Inv-loop
-    μ-loop
-    loop-holds
-    sub-least
+    full-chunks-requires
     least-requires
-    least-requires-2
     cast-m
+    full-rows-requires
+    same-length
+    returns
+    mul-from
+    cast-least
+    sub-least
+    least-requires-2
+    cast-rest
     mul-set-part
     add-set-part
     set-part-requires
-    add-altered
-    add-from
-    add-r
-    loop-less
-    loop-again
-    same-length
-    returns)
+    add-result
+    same-length-2
+    returns-2)
