@@ -16,7 +16,7 @@ origin() {
     objdump) printf 'Debian package binutils' ;;
     sdl2-config) printf 'Debian package libsdl2-dev' ;;
     Xvfb) printf 'Debian package xvfb' ;;
-    cargo | pkg-config | python3 | rustc | xdotool) printf 'Debian package %s' "$1" ;;
+    cargo | pkg-config | python3 | rustc | valgrind | xdotool) printf 'Debian package %s' "$1" ;;
     *) printf 'named by CC or CXX' ;;
   esac
 }
