@@ -13,6 +13,9 @@ pub enum Call {
     Hide(u32),
     Drop(u32),
     Mark(u32),
+    /// So many marks, of windows 0 to 15 in turn, in a loop of their own: a mark is shorter than what hands a call
+    /// over.
+    Marks(u32),
     Move(u32, u32, u32),
     Layer(u32, u32),
     Resize(u32, u32, u32),
@@ -44,6 +47,13 @@ pub enum Call {
 }
 
 impl Call {
+    /// How often it calls that function.
+    pub fn times(&self) -> usize {
+        match *self {
+            Call::Marks(times) => times as usize,
+            _ => 1,
+        }
+    }
     /// The exported function that does it.
     pub fn function(&self) -> &'static str {
         match self {
@@ -52,7 +62,7 @@ impl Call {
             Call::Raise(_) => "roq_raise",
             Call::Hide(_) => "roq_hide",
             Call::Drop(_) => "roq_drop",
-            Call::Mark(_) => "roq_mark",
+            Call::Mark(_) | Call::Marks(_) => "roq_mark",
             Call::Move(..) => "roq_move",
             Call::Layer(..) => "roq_set_layer",
             Call::Resize(..) => "roq_resize",

@@ -77,7 +77,7 @@ pub struct Class {
 
 impl Class {
     pub fn new(name: impl Into<String>, scene: Scene, timed: Vec<Call>) -> Class {
-        let parts = timed.len();
+        let parts = calls(&timed);
         let (name, between) = (name.into(), Vec::new());
         let (limit, beside) = (Limit::None, Beside::Original);
         Class { name, scene, timed, between, parts, limit, beside, is_cold: false, note: "" }
@@ -109,6 +109,10 @@ impl Class {
     }
     /// Whether the time is that of a single call.
     pub fn is_single(&self) -> bool {
-        self.parts == self.timed.len()
+        self.parts == calls(&self.timed)
     }
+}
+
+fn calls(timed: &[Call]) -> usize {
+    timed.iter().map(Call::times).sum()
 }

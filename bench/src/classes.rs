@@ -77,7 +77,7 @@ fn small() -> Vec<Class> {
     // The first pops find the queues full.
     let mut pop = Class::new("pop, 16 events wait", cascade(16), pops).between(presses.clone());
     pop.scene.setup.extend(presses);
-    let mark = Class::new("mark", cascade(16), (0..16).map(Call::Mark).collect());
+    let mark = Class::new("mark", cascade(16), vec![Call::Marks(1024)]);
     vec![press, pop, mark]
 }
 

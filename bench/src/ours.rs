@@ -9,6 +9,7 @@ use roqshyn::{
     MOST_RECTS, MOST_SHEET,
 };
 use std::arch::x86_64::{_mm_clflush, _mm_mfence};
+use std::hint::black_box;
 
 pub struct Ours {
     session: Session,
@@ -176,6 +177,7 @@ impl Side for Ours {
             Call::Hide(id) => answer(s.hide(Id::from(id))),
             Call::Drop(id) => answer(s.drop(Id::from(id))),
             Call::Mark(id) => answer(s.mark(Id::from(id))),
+            Call::Marks(times) => (0..times).fold(0, |said, k| said | answer(s.mark(Id::from(black_box(k % 16))))),
             Call::Move(id, x, y) => answer(s.move_window(Id::from(id), x, y)),
             Call::Layer(id, layer) => answer(s.set_layer(Id::from(id), layer)),
             Call::Resize(id, w, h) => answer(s.resize(Id::from(id), w, h, &mut self.store)),

@@ -6,6 +6,7 @@ use original::metadevs::video::lent::{lend_screen, put_displays, Pixels};
 use original::sync::mutex::Mutex;
 use original::windows::group::{Group, Routed};
 use original::{Pos, Rect};
+use std::hint::black_box;
 use std::sync::Arc;
 
 pub struct Theirs {
@@ -103,6 +104,7 @@ impl Side for Theirs {
             Call::Hide(id) => g.hide(id),
             Call::Drop(id) => g.drop(id),
             Call::Mark(id) => g.mark(id),
+            Call::Marks(times) => (0..times).for_each(|k| g.mark(black_box(k % 16))),
             Call::Move(id, x, y) => g.move_window(id, x, y),
             // It has no layers and no raise: hidden and shown, the window is on top too.
             Call::Layer(id, _) | Call::Raise(id) => {
