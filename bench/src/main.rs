@@ -1,4 +1,5 @@
-//! The same lists of calls on our library, on the original, on pixman and on loops in Rust: tables of times, and two plots of the full redraw.
+//! The same lists of calls on our library, on the original with and without its locks, on pixman and on loops in Rust:
+//! tables of times, and two plots of the full redraw.
 //!
 //! `bench FOLDER COPIES STACK` writes speed-table.md, redraw-windows.svg and redraw-pixels.svg there, puts its tables into SPEED.md and
 //! prints all of them; the two files have a number for each exported call. `bench --beside PROGRAM` compares with this benchmark linked
@@ -10,6 +11,7 @@ mod classes;
 mod dims;
 mod displays;
 mod earlier;
+mod locked;
 mod looks;
 mod loops;
 mod measure;
@@ -28,8 +30,8 @@ mod shares;
 mod sheets;
 mod summary;
 mod targets;
-mod theirs;
 mod undivided;
+mod unlocked;
 
 use class::{Beside, Class};
 use measure::{measure, middle, Measured};
@@ -58,7 +60,7 @@ fn once() {
     let (table, windows, pixels) = (classes::table(), classes::by_windows(), classes::by_pixels());
     let plotted = windows.iter().chain(&pixels).map(|(_, class)| class);
     for m in table.iter().chain(plotted).map(measure) {
-        println!("{} {} {} {} {}", m.ours, m.theirs, m.limit, m.ratio, m.speed);
+        println!("{} {} {} {} {} {} {}", m.ours, m.theirs, m.unlocked, m.limit, m.ratio, m.unlocked_ratio, m.speed);
     }
 }
 
@@ -154,6 +156,7 @@ fn curves(classes: &[(f64, Class)], results: &[Measured], across: f64, up: f64) 
     vec![
         curve("memcpy, same rows", "#777777", |m| m.limit),
         curve("the original", "#d05020", |m| m.theirs),
+        curve("without its locks", "#e0a030", |m| m.unlocked),
         curve("ours", "#1060c0", |m| m.ours),
     ]
 }
@@ -191,6 +194,8 @@ fn in_a_process(program: &str) -> Vec<Measured> {
 
 fn measured(line: &str) -> Measured {
     let numbers: Vec<f64> = line.split(' ').map(|n| n.parse().expect("a number")).collect();
-    let [ours, theirs, limit, ratio, speed] = numbers[..] else { panic!("five numbers: {line}") };
-    Measured { ours, theirs, limit, ratio, speed }
+    let [ours, theirs, unlocked, limit, ratio, unlocked_ratio, speed] = numbers[..] else {
+        panic!("seven numbers: {line}")
+    };
+    Measured { ours, theirs, unlocked, limit, ratio, unlocked_ratio, speed }
 }

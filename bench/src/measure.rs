@@ -4,6 +4,7 @@ use crate::check;
 use crate::class::{Beside, Class, Limit};
 use crate::dims::{Bright, Through};
 use crate::earlier;
+use crate::locked;
 use crate::looks::Floats;
 use crate::loops::Loops;
 use crate::ours::Ours;
@@ -11,8 +12,8 @@ use crate::pixman::Pixman;
 use crate::plain::Plain;
 use crate::seconds::InRust;
 use crate::shares::Listed;
-use crate::theirs::Theirs;
 use crate::undivided::Undivided;
+use crate::unlocked;
 use std::hint::black_box;
 use std::time::Instant;
 
@@ -30,20 +31,31 @@ const LEAST_COLD: usize = 3;
 pub struct Measured {
     pub ours: f64,
     pub theirs: f64,
+    /// The original without its locks.
+    pub unlocked: f64,
     pub limit: f64,
     /// Ours by theirs.
     pub ratio: f64,
+    pub unlocked_ratio: f64,
     /// How fast we are beside the limit: its time by ours.
     pub speed: f64,
 }
 
-const NOTHING: Measured =
-    Measured { ours: f64::NAN, theirs: f64::NAN, limit: f64::NAN, ratio: f64::NAN, speed: f64::NAN };
+const NOTHING: Measured = Measured {
+    ours: f64::NAN,
+    theirs: f64::NAN,
+    unlocked: f64::NAN,
+    limit: f64::NAN,
+    ratio: f64::NAN,
+    unlocked_ratio: f64::NAN,
+    speed: f64::NAN,
+};
 
 /// Who takes part.
 struct Turns<Other> {
     ours: Ours,
     theirs: Option<Other>,
+    unlocked: Option<unlocked::Theirs>,
     limit: Option<Plain>,
 }
 
@@ -56,7 +68,7 @@ pub fn measure(class: &Class) -> Measured {
         return cold(class);
     }
     match class.beside {
-        Beside::Original => beside(class, scene.common.then(|| Theirs::new(scene.width, scene.height))),
+        Beside::Original => beside(class, scene.common.then(|| locked::Theirs::new(scene.width, scene.height))),
         Beside::Pixman => beside(class, Some(Pixman::new(scene.width, scene.height, false))),
         Beside::PixmanAtOnce => beside(class, Some(Pixman::new(scene.width, scene.height, true))),
         Beside::Loops => beside(class, Some(Loops::new(scene.width, scene.height))),
@@ -77,6 +89,7 @@ fn beside(class: &Class, mut theirs: Option<impl Side>) -> Measured {
         Some(theirs) => check::same(class, &mut ours, theirs),
         None => check::alone(class, &mut ours),
     }
+    let unlocked = unlocked_side(class);
     let limit = match &class.limit {
         Limit::None => None,
         Limit::Rows(rows) => Some(Plain::copied(rows)),
@@ -84,9 +97,20 @@ fn beside(class: &Class, mut theirs: Option<impl Side>) -> Measured {
         Limit::Cleared(pixels) => Some(Plain::cleared(*pixels)),
     };
     let (times, rounds) = plan(class, &mut ours);
-    let mut turns = Turns { ours, theirs, limit };
+    let mut turns = Turns { ours, theirs, unlocked, limit };
     let all: Vec<Measured> = (0..rounds).map(|r| round(class, times, r, &mut turns)).collect();
     middle(&all)
+}
+
+/// The original without its locks, where the original takes part; it must say and show the same too.
+fn unlocked_side(class: &Class) -> Option<unlocked::Theirs> {
+    let scene = &class.scene;
+    if class.beside != Beside::Original || !scene.common {
+        return None;
+    }
+    let mut side = unlocked::Theirs::new(scene.width, scene.height);
+    check::same(class, &mut Ours::new(scene.c, scene.width, scene.height), &mut side);
+    Some(side)
 }
 
 /// How often the calls are made in a turn, and how many rounds there are.
@@ -124,17 +148,19 @@ fn cold(class: &Class) -> Measured {
 
 /// Who begins changes from round to round.
 fn round(class: &Class, times: usize, round: usize, turns: &mut Turns<impl Side>) -> Measured {
-    let mut taken = [f64::NAN; 3];
-    for turn in 0..3 {
-        let who = (round + turn) % 3;
+    let mut taken = [f64::NAN; 4];
+    for turn in 0..4 {
+        let who = (round + turn) % 4;
         taken[who] = match who {
             0 => time(class, &mut turns.ours, times),
             1 => turns.theirs.as_mut().map_or(f64::NAN, |side| time(class, side, times)),
+            2 => turns.unlocked.as_mut().map_or(f64::NAN, |side| time(class, side, times)),
             _ => turns.limit.as_mut().map_or(f64::NAN, |plain| plain.time(times * class.parts)),
         };
     }
-    let [ours, theirs, limit] = taken;
-    Measured { ours, theirs, limit, ratio: ours / theirs, speed: limit / ours }
+    let [ours, theirs, unlocked, limit] = taken;
+    let (ratio, unlocked_ratio, speed) = (ours / theirs, ours / unlocked, limit / ours);
+    Measured { ours, theirs, unlocked, limit, ratio, unlocked_ratio, speed }
 }
 
 /// Nanoseconds of one part.
@@ -171,8 +197,10 @@ pub fn middle(all: &[Measured]) -> Measured {
     Measured {
         ours: of(|m| m.ours),
         theirs: of(|m| m.theirs),
+        unlocked: of(|m| m.unlocked),
         limit: of(|m| m.limit),
         ratio: of(|m| m.ratio),
+        unlocked_ratio: of(|m| m.unlocked_ratio),
         speed: of(|m| m.speed),
     }
 }

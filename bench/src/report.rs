@@ -4,20 +4,33 @@ use crate::measure::{median, Measured};
 
 pub const NO_PIXMAN: &str = "pixman is not installed: its rows are left out.\n";
 
-/// Of the classes that are played beside one side: the medians of each, and the results of the single processes.
+/// Of the classes that are played beside one side: the medians of each, and the results of the single processes. Beside
+/// the original the same follows without its locks.
 pub fn table(beside: Beside, classes: &[Class], results: &[Measured], runs: &[Vec<Measured>]) -> String {
-    let (theirs, limit) = (beside.name(), beside == Beside::Original || beside.is_pixman());
-    let (title, line) = if limit { (" same rows |", "---:|") } else { ("", "") };
-    let head =
-        format!("| class | ours ns | {theirs} ns | ratio | from - to |{title}\n|---|---:|---:|---:|---|{line}\n");
-    let mut text = head;
+    let (is_original, has_limit) = (beside == Beside::Original, beside == Beside::Original || beside.is_pixman());
+    let mut text = head(beside.name(), is_original, has_limit);
     for (i, (class, m)) in classes.iter().zip(results).enumerate().filter(|(_, (class, _))| belongs(class, beside)) {
-        let ratios: Vec<f64> = runs.iter().map(|run| run[i].ratio).collect();
-        let (ours, theirs) = (nanoseconds(m.ours), nanoseconds(m.theirs));
-        text += &format!("| {} | {ours} | {theirs} | {} | {} |", class.name, ratio(m.ratio), range(&ratios));
-        text += &if limit { format!(" {} |\n", ratio(m.speed)) } else { "\n".to_string() };
+        let times = |time: f64, by: f64, of: fn(&Measured) -> f64| {
+            let ratios: Vec<f64> = runs.iter().map(|run| of(&run[i])).collect();
+            format!(" {} | {} | {} |", nanoseconds(time), ratio(by), range(&ratios))
+        };
+        text += &format!("| {} | {} |{}", class.name, nanoseconds(m.ours), times(m.theirs, m.ratio, |m| m.ratio));
+        if is_original {
+            text += &times(m.unlocked, m.unlocked_ratio, |m| m.unlocked_ratio);
+        }
+        text += &if has_limit { format!(" {} |\n", ratio(m.speed)) } else { "\n".to_string() };
     }
     text
+}
+
+fn head(theirs: &str, is_original: bool, has_limit: bool) -> String {
+    let (unlocked, its_line) =
+        if is_original { (" without its locks ns | ratio | from - to |", "---:|---:|---|") } else { ("", "") };
+    let (title, line) = if has_limit { (" same rows |", "---:|") } else { ("", "") };
+    format!(
+        "| class | ours ns | {theirs} ns | ratio | from - to |{unlocked}{title}\n\
+         |---|---:|---:|---:|---|{its_line}{line}\n"
+    )
 }
 
 fn belongs(class: &Class, beside: Beside) -> bool {

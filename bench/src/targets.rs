@@ -1,4 +1,5 @@
-//! What the times are held against.
+//! What the times are held against. The original is the one without its locks: how long a lock takes differs from
+//! machine to machine, and ours has none.
 use crate::class::{Beside, Class};
 use crate::classes::{LAYER, MIX, RAISE, RAISED};
 use crate::dims::DIMMED;
@@ -51,9 +52,9 @@ const TARGETS: [Target; 33] = [
     target("create, drop", Beside::Original, &["create or drop"], Time(1.0)),
     target("press", Beside::Original, &["press"], Time(0.4)),
     target("pop", Beside::Original, &["pop"], Time(2.0)),
-    // 1.3 of what they were before fills and blits counted the pixels altered, which the original does not.
-    target("fill, blit, 16 by 16", Beside::Original, &["fill 16 by 16", "blit 16 by 16"], Time(1.43)),
-    target("fill, blit, 100 by 50", Beside::Original, &["fill 100 by 50", "blit 100 by 50"], Time(1.3)),
+    // Ours count the pixels altered, which the original does not; the targets are those from before they did.
+    target("fill, blit, 16 by 16", Beside::Original, &["fill 16 by 16", "blit 16 by 16"], Time(1.1)),
+    target("fill, blit, 100 by 50", Beside::Original, &["fill 100 by 50", "blit 100 by 50"], Time(1.0)),
     target("redraw of one button", Beside::Original, &["redraw of a button"], Time(1.4)),
     target("full redraw", Beside::Original, FULL, Time(1.0)),
     target("full redraw", Beside::Original, FULL, Rows(0.95)),
@@ -86,7 +87,7 @@ impl Target {
         match (self.bound, self.beside) {
             (Rows(_), _) => "`memcpy` of the same rows, speed",
             (Cleared(_), _) => "`memset` of C, speed",
-            (_, Beside::Original) => "the original, time",
+            (_, Beside::Original) => "the original without its locks, time",
             (_, Beside::Pixman | Beside::PixmanAtOnce) => "pixman, time",
             (_, Beside::Loops) => "a loop in Rust, time",
             (_, Beside::Undivided) => "our undivided redraw, time",
@@ -100,6 +101,7 @@ impl Target {
     }
     fn number(&self, m: &Measured) -> f64 {
         match self.bound {
+            Time(_) if self.beside == Beside::Original => m.unlocked_ratio,
             Time(_) => m.ratio,
             Rows(_) | Cleared(_) => m.speed,
         }

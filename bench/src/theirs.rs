@@ -1,11 +1,12 @@
 //! The original's side: its window group, with a lent screen as its only display, or the displays that it is asked for.
+//! The file is compiled twice: with the original as it is, and without its locks.
+use super::original::input::Event;
+use super::original::metadevs::video::get_display_for_pos;
+use super::original::metadevs::video::lent::{lend_screen, put_displays, Pixels};
+use super::original::sync::mutex::Mutex;
+use super::original::windows::group::{Group, Routed};
+use super::original::{Pos, Rect};
 use crate::call::{Area, Call, Popped, Reply, Side, State};
-use original::input::Event;
-use original::metadevs::video::get_display_for_pos;
-use original::metadevs::video::lent::{lend_screen, put_displays, Pixels};
-use original::sync::mutex::Mutex;
-use original::windows::group::{Group, Routed};
-use original::{Pos, Rect};
 use std::hint::black_box;
 use std::sync::Arc;
 

@@ -19,6 +19,7 @@ const STAND_INS: [&'static str; 3] = ["bootvideo.rs", "cursor.rs", "kernel_font.
 
 fn main() {
     println!("cargo:rerun-if-env-changed=ROQSHYN_ORIGINAL");
+    // This folder, or `unlocked` beside it.
     let here = PathBuf::from(env::var("CARGO_MANIFEST_DIR").expect("cargo names the folder"));
     let out = PathBuf::from(env::var("OUT_DIR").expect("cargo names the output folder"));
     let original = match env::var("ROQSHYN_ORIGINAL") {
@@ -29,7 +30,7 @@ fn main() {
         link(&original.join(file), &out.join(folder));
     }
     for file in STAND_INS.iter() {
-        link(&here.join("src/metadevs/video").join(file), &out.join("video"));
+        link(&here.join("../original/src/metadevs/video").join(file), &out.join("video"));
     }
 }
 

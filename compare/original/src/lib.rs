@@ -1,8 +1,15 @@
 //! The original's window group, compiled from its own files, with stand-ins for what they lean on.
 //!
 //! The original is two crates, `kernel` and `gui`. Here it is one, which is also known to itself as `kernel`.
+//!
+//! The package `unlocked` builds the same files without locks, by the stand-ins of the folder `unlocked`.
+#[cfg(not(feature = "unlocked"))]
 extern crate core;
 extern crate self as kernel;
+
+#[cfg(feature = "unlocked")]
+#[path = "unlocked/core.rs"]
+mod core;
 
 #[macro_use]
 mod macros;
@@ -12,6 +19,7 @@ pub mod embedded_images;
 pub mod futures;
 pub mod input;
 pub mod metadevs;
+#[cfg_attr(feature = "unlocked", path = "unlocked/sync.rs")]
 pub mod sync;
 pub mod threads;
 pub mod user_async;

@@ -1,5 +1,5 @@
 //! Stand-in: nobody waits for events. The queue counts how often it was woken, since a window wakes it for each event that it takes.
-use std::sync::atomic::{AtomicUsize, Ordering};
+use core::sync::atomic::{AtomicUsize, Ordering};
 use threads::SleepObject;
 
 static WOKEN: AtomicUsize = AtomicUsize::new(0);

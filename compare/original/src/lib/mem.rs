@@ -1,9 +1,12 @@
 //! Stand-ins: counted references.
+#[cfg(feature = "unlocked")]
+pub use std::rc::Rc as Arc;
+#[cfg(not(feature = "unlocked"))]
 pub use std::sync::Arc;
 
 pub mod aref {
+    pub use super::Arc as ArefBorrow;
     use std::ops::Deref;
-    pub use std::sync::Arc as ArefBorrow;
 
     /// An owner that lends its value.
     pub struct Aref<T>(ArefBorrow<T>);

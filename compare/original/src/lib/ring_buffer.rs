@@ -1,6 +1,6 @@
 //! Stand-in: "`RingBuf::new(16)` holds 16 events, first in first out, and drops the newcomer when full".
+use core::sync::atomic::{AtomicUsize, Ordering};
 use std::collections::VecDeque;
-use std::sync::atomic::{AtomicUsize, Ordering};
 use sync::mutex::Mutex;
 
 static DROPPED: AtomicUsize = AtomicUsize::new(0);
