@@ -98,7 +98,9 @@ returns-2 c =
 
 repaired-requires : tie.Need-repaired-requires
 repaired-requires c κs =
-    let b = c .before .before .before .before .before .before .before .before in
+    let m = c .before .before in
+    let t = m .before .before in
+    let b = t .before .before .before .before in
     let q = here (in-use b) (b .pre .0 .holds) in
     rw (sym (q .window)) (q .rep)
 
