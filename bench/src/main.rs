@@ -73,7 +73,7 @@ fn tables(folder: &Path, copies: &str, stack: &str) {
     let (of_windows, of_pixels) = of_plots.split_at(windows.len());
     let short = [
         ("station", summary::station(&table, of_table, &stack)),
-        ("targets", targets::table(&table, of_table)),
+        ("targets", targets::table(&table, of_table, &copies, &stack)),
         ("portions", summary::portions(&table, of_table)),
         ("seconds", summary::seconds(&table, of_table)),
         ("dims", summary::dims(&table, of_table)),

@@ -1,17 +1,18 @@
 //! What the times are held against. The original is the one without its locks: how long a lock takes differs from
 //! machine to machine, and ours has none.
 use crate::class::{Beside, Class};
-use crate::classes::{LAYER, MIX, RAISE, RAISED};
+use crate::classes::{LAYER, MIX, MIX_OF_EIGHT, RAISE, RAISED};
 use crate::dims::DIMMED;
 use crate::displays::{DISPLAY_AT, MAXIMISE, UPDATE};
 use crate::looks::LOOK;
 use crate::measure::Measured;
 use crate::pixman;
 use crate::points::POINTS;
-use crate::report::{range, NO_PIXMAN};
+use crate::report::{range, whole, NO_PIXMAN};
 use crate::seconds::BUSIEST;
 use crate::shares::SHARE;
 use crate::sheets::{READ, WRITTEN};
+use crate::summary::Numbers;
 
 #[derive(Clone, Copy)]
 enum Bound {
@@ -37,12 +38,9 @@ const fn target(what: &'static str, beside: Beside, classes: &'static [&'static 
 }
 
 const FULL: &[&str] = &["full redraw 800", "full redraw 6,400"];
-const NARROW_FILLS: &[&str] = &["fill 8 by", "fill 16 by", "fill 32 by", "fill 64 by", "fill 100 by"];
-const WIDE_FILLS: &[&str] = &["fill 300 by", "fill 800 by", "fill 4000 by", "fill 32767 by"];
-const NARROW_BLITS: &[&str] = &["blit 8 by", "blit 16 by", "blit 32 by", "blit 64 by", "blit 100 by"];
-const WIDE_BLITS: &[&str] = &["blit 300 by", "blit 800 by", "blit 4000 by", "blit 32767 by"];
+const MIXES: &[&str] = &[MIX, "the same, panels anywhere", MIX_OF_EIGHT];
 
-const TARGETS: [Target; 33] = [
+const TARGETS: [Target; 39] = [
     target("mark", Beside::Original, &["mark"], Time(1.0)),
     target("move", Beside::Original, &["move, "], Time(1.0)),
     target("show, hide", Beside::Original, &["hide or show"], Time(1.0)),
@@ -50,31 +48,37 @@ const TARGETS: [Target; 33] = [
     target("raise", Beside::Original, &[RAISE], Time(1.0)),
     target("raise and redraw", Beside::Original, &[RAISED], Time(1.0)),
     target("create, drop", Beside::Original, &["create or drop"], Time(1.0)),
-    target("press", Beside::Original, &["press"], Time(0.4)),
-    target("pop", Beside::Original, &["pop"], Time(2.0)),
-    // Ours count the pixels altered, which the original does not; the targets are those from before they did.
-    target("fill, blit, 16 by 16", Beside::Original, &["fill 16 by 16", "blit 16 by 16"], Time(1.1)),
-    target("fill, blit, 100 by 50", Beside::Original, &["fill 100 by 50", "blit 100 by 50"], Time(1.0)),
-    target("redraw of one button", Beside::Original, &["redraw of a button"], Time(1.4)),
-    target("full redraw", Beside::Original, FULL, Time(1.0)),
-    target("full redraw", Beside::Original, FULL, Rows(0.95)),
+    target("press", Beside::Original, &["press"], Time(1.0)),
+    target("pop", Beside::Original, &["pop"], Time(1.0)),
+    target("fill, blit, 16 by 16", Beside::Original, &["fill 16 by 16", "blit 16 by 16"], Time(1.0)),
+    // Ours count the pixels altered, which the original does not: a second load and a comparison.
+    target("fill, 100 by 50", Beside::Original, &["fill 100 by 50"], Time(1.1)),
+    target("blit, 100 by 50", Beside::Original, &["blit 100 by 50"], Time(1.4)),
+    target("redraw of one button", Beside::Original, &["redraw of a button"], Time(1.2)),
+    target("redraw of 16 marked windows", Beside::Original, &["redraw of 16 marked"], Time(1.0)),
+    target("a redraw beside its pixels", Beside::Original, &["full redraw 1 by 1, windows"], Time(1.4)),
+    target("full redraw", Beside::Original, FULL, Time(1.02)),
+    target("full redraw", Beside::Original, FULL, Rows(0.97)),
     target("all portions of a full redraw", Beside::Undivided, &["all portions"], Time(1.1)),
-    target("the station's mix", Beside::Original, &[MIX], Time(0.93)),
+    target("the station's mix", Beside::Original, MIXES, Time(1.02)),
+    target("the station's mix", Beside::Original, MIXES, Rows(0.97)),
     target("resize", Beside::Original, &["resize"], Cleared(0.95)),
     target("maximise", Beside::Original, &[MAXIMISE], Cleared(0.95)),
     target("update of windows on eight displays", Beside::Original, &[UPDATE], Time(1.0)),
-    target("display at a position", Beside::Original, &[DISPLAY_AT], Time(1.0)),
+    target("display at a position", Beside::Original, &[DISPLAY_AT], Time(1.1)),
     target("visible list", Beside::Pixman, &["visible list"], Time(1.0)),
-    target("fill, narrower than 300", Beside::Loops, NARROW_FILLS, Time(1.0)),
-    target("fill, 300 and wider", Beside::Loops, WIDE_FILLS, Time(1.15)),
-    target("blit, narrower than 300", Beside::Loops, NARROW_BLITS, Time(1.0)),
-    target("blit, 300 and wider", Beside::Loops, WIDE_BLITS, Time(1.15)),
-    target("dimmed full redraw", Beside::Table, &[DIMMED], Time(1.1)),
+    target("visible list", Beside::PixmanAtOnce, &["visible list"], Time(1.0)),
+    target("fill", Beside::Loops, &["fill "], Time(1.0)),
+    target("blit", Beside::Loops, &["blit "], Time(1.0)),
+    target("dimmed full redraw", Beside::Table, &[DIMMED], Time(1.0)),
     target("share in view", Beside::Pixman, &[SHARE], Time(1.0)),
+    target("share in view", Beside::PixmanAtOnce, &[SHARE], Time(1.0)),
     target("share in view", Beside::Listed, &[SHARE], Time(1.0)),
     target("32 points together", Beside::Original, &[POINTS], Time(1.0)),
     target("region sheet, written", Beside::Pixman, &[WRITTEN], Time(1.0)),
+    target("region sheet, written", Beside::PixmanAtOnce, &[WRITTEN], Time(1.0)),
     target("region sheet, read", Beside::Pixman, &[READ], Time(1.0)),
+    target("region sheet, read", Beside::PixmanAtOnce, &[READ], Time(1.0)),
     target("a closer look", Beside::Floats, &[LOOK], Time(0.7)),
     target("busiest second of 4,096 events", Beside::OnePass, &[BUSIEST], Time(1.1)),
 ];
@@ -88,7 +92,8 @@ impl Target {
             (Rows(_), _) => "`memcpy` of the same rows, speed",
             (Cleared(_), _) => "`memset` of C, speed",
             (_, Beside::Original) => "the original without its locks, time",
-            (_, Beside::Pixman | Beside::PixmanAtOnce) => "pixman, time",
+            (_, Beside::Pixman) => "pixman, time",
+            (_, Beside::PixmanAtOnce) => "pixman, those above as one region, time",
             (_, Beside::Loops) => "a loop in Rust, time",
             (_, Beside::Undivided) => "our undivided redraw, time",
             (_, Beside::Table) => "a loop over the same table in Rust, time",
@@ -134,8 +139,26 @@ impl Target {
     }
 }
 
-pub fn table(classes: &[Class], results: &[Measured]) -> String {
+/// The most that a redraw may take of the stack, in bytes.
+const STACK: f64 = 8192.0;
+
+/// What is no time: the stack of a redraw, and which calls but a start copy the session.
+fn counted(copies: &Numbers, stack: &Numbers) -> String {
+    let says = |is_met: bool| if is_met { "met" } else { "missed" };
+    let deepest = stack.get("roq_redraw").copied().unwrap_or(f64::NAN);
+    let copied = copies.iter().filter(|(call, copies)| call.as_str() != "roq_start" && **copies > 0.0).count();
+    format!(
+        "| stack of a redraw | bytes | {} | at most {} | {} |\n| calls but a start that copy the session | | {copied} | 0 | {} |\n",
+        whole(deepest),
+        whole(STACK),
+        says(deepest <= STACK),
+        says(copied == 0)
+    )
+}
+
+pub fn table(classes: &[Class], results: &[Measured], copies: &Numbers, stack: &Numbers) -> String {
     let rows: String = TARGETS.iter().map(|target| target.row(classes, results)).collect();
+    let rows = rows + &counted(copies, stack);
     let left_out = if pixman::INSTALLED { String::new() } else { format!("\n{}", NO_PIXMAN) };
     format!("| what | beside | measured | target | |\n|---|---|---|---|---|\n{rows}{left_out}")
 }
