@@ -4,7 +4,6 @@
 ghost use mathlib.Core.Path.{_≡_};
 ghost use mathlib.Core.List.{[]};
 ghost use Prim.Native.Nat.{_≤_};
-ghost use Rattle.geom.specs.Nearest.{nearestX, nearestY};
 ghost use Rattle.geom.specs.Displays.{firstOn, closestTo, displayFor};
 ghost use Rattle.window.specs.Held.{Small};
 ghost use Rattle.rules.specs.Displays.{onScreen};
@@ -119,39 +118,30 @@ impl Displays {
         AtPos::Nowhere
     }
 
-    // The nearest pixel of any display; with no display (0,0).
-    fn get_closest_visible_pos(self, pos: Pos) -> Pos
-        requires { ⌜ RepDisplays self × (pos .x ≤ 32767) × (pos .y ≤ 32767) ⌝ }
-        ensures { λ p. ⌜ (p .x ≡ nearestX (closestTo (regions self) (pos .x) (pos .y)) (pos .x)) × (p .y ≡ nearestY (closestTo (regions self) (pos .x) (pos .y)) (pos .y)) ⌝ }
-    {
-        let n = self.len as usize;
-        let mut dist: u64 = 18446744073709551615;
-        let mut cpos = Pos::new(0, 0);
-        let mut i: usize = 0;
-        while i < n {
-            let surf = self.areas[i];
-            let new_pos = clamp_pos(surf.rect(), pos);
-            let new_dist = dist_sq(pos, new_pos);
-            if new_dist < dist {
-                dist = new_dist;
-                cpos = new_pos;
-            }
-            i += 1;
-        }
-        cpos
-    }
-
-    // The display that holds the nearest pixel; with no display (0,0,0,0).
+    // The nearest display, the first of those that are equally near; with no display (0,0,0,0).
     fn closest(self, pos: Pos) -> Rect
         requires { ⌜ RepDisplays self × (pos .x ≤ 32767) × (pos .y ≤ 32767) ⌝ }
         ensures { λ r. ⌜ r ≡ closestTo (regions self) (pos .x) (pos .y) ⌝ }
     {
-        let near = self.get_closest_visible_pos(pos);
-        let at = self.with_display_at_pos(near);
-        match at {
-            AtPos::Display(r) => r,
-            AtPos::Nowhere => Rect::new(0, 0, 0, 0),
+        let n = self.len as usize;
+        let mut dist: u64 = 18446744073709551615;
+        let mut near = Area {
+            x: 0,
+            y: 0,
+            w: 0,
+            h: 0,
+        };
+        let mut i: usize = 0;
+        while i < n {
+            let surf = self.areas[i];
+            let new_dist = dist_sq(pos, clamp_pos(surf.rect(), pos));
+            if new_dist < dist {
+                dist = new_dist;
+                near = surf;
+            }
+            i += 1;
         }
+        near.rect()
     }
 
     pub fn get_display_for_pos(self, pos: Pos) -> Located

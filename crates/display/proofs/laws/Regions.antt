@@ -1,7 +1,7 @@
--- The displays in their array: how many there are, each at its place, and that each has pixels.
+-- The displays in their array: how many there are, and each at its place.
 use Prim.Native.Nat.{ℕ, suc, _<_}
-use mathlib.Core.Path.{_≡_, refl, ap, _∙_}
-use mathlib.Core.Bool.{true, false, not}
+use mathlib.Core.Path.{_≡_, ap, _∙_}
+use mathlib.Core.Bool.{false}
 use mathlib.Core.List.{List, [], _∷_, _++_}
 use native.Mathlib.Omega.{arith}
 use lib.ListN.{length, take, drop, getD, length-map, List·getD-map}
@@ -9,8 +9,8 @@ use lib.Seq.{length-take-le, getD-take, drop-cons, drop-length, take-suc, take-l
 use Rattle.geom.specs.declared.Rect.{Rect}
 use Rattle.geom.specs.Geom.{isEmpty}
 use Rattle.geom.specs.Inner.{Fits}
-use Rattle.geom.specs.Displays.{answered, displayFor, havePixels}
-use Rattle.geom.proofs.basics.Tests.{is-false, both}
+use Rattle.geom.specs.Displays.{answered, displayFor}
+use Rattle.geom.proofs.basics.Tests.{is-false}
 use Rattle.geom.proofs.basics.Lists.{All, all-imp}
 use Rattle.geom.proofs.geometry.Facts.{says-empty}
 use Rattle.geom.proofs.geometry.Displays.{display-in}
@@ -34,10 +34,6 @@ screen-small r h = omega arith
 all-places : (P : Rect → Type 0) (ds : List Rect) → ((i : ℕ) → i < length ds → P (getD ds i (rectOf noArea))) → All P ds
 all-places P [] h = tt
 all-places P (d ∷ ds) h = (h 0 (omega arith), all-places P ds (λ i l. h (suc i) (omega (arith, l))))
-
-all-solid : (ds : List Rect) → All OnScreen ds → havePixels ds ≡ true
-all-solid [] h = refl
-all-solid (d ∷ ds) h = both {a = not (isEmpty d)} (ap not (screen-solid d (h .0))) (all-solid ds (h .1))
 
 module _ (d : Displays) (ok : RepDisplays d) where
   pub count : length (regions d) ≡ d .len
@@ -64,9 +60,6 @@ module _ (d : Displays) (ok : RepDisplays d) where
 
   on-screen : All OnScreen (regions d)
   on-screen = all-places OnScreen (regions d) (λ i l. let h : i < d .len = omega (arith, l, count) in rw (at i h) (ok .each i h))
-
-  pub solid : havePixels (regions d) ≡ true
-  solid = all-solid (regions d) on-screen
 
   -- the display answered passes question 5, (0,0,0,0) too
   pub answer-small : (px py : ℕ) → Small (answered (displayFor (regions d) px py))

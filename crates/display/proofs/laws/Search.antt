@@ -3,7 +3,7 @@ use Prim.Native.Nat.{ℕ, _+_, _≤_, _<_}
 use mathlib.Core.Path.{_≡_, refl, sym, ap, _∙_}
 use mathlib.Core.Bool.{true, false, cond}
 use mathlib.Core.List.{List, [], _∷_, _++_}
-use mathlib.Core.Option.{Option, none, some}
+use mathlib.Core.Option.{none, some}
 use native.Mathlib.Omega.{arith}
 use native.Mathlib.Nat.{mul-le-mul}
 use native.Mathlib.Numerals.{add-one}
@@ -11,13 +11,12 @@ use lib.Dec.{ltb}
 use lib.ListN.{take, drop}
 use borrow.Author.Tests.{lt-ltb, le-ltb}
 use Rattle.geom.specs.declared.Rect.{Rect}
-use Rattle.geom.specs.Geom.{rect, contains}
+use Rattle.geom.specs.Geom.{contains}
 use Rattle.geom.specs.Nearest.{nearestX, nearestY, apart}
-use Rattle.geom.specs.Displays.{answered, firstOn, away², closestOf, closestTo, onOr}
-use Rattle.geom.proofs.geometry.Displays.{nearest-first}
+use Rattle.geom.specs.Displays.{firstOn, away², closestOf, closestTo}
 use Rattle.display.specs.declared.Displays.{Displays}
 use Rattle.display.specs.Held.{regions, OnScreen, RepDisplays}
-use Rattle.display.proofs.laws.Regions.{region, next, last, longer, all, solid}
+use Rattle.display.proofs.laws.Regions.{region, next, last, longer, all}
 
 -- The first that contains the position ---------------------------------------------------------------------------------
 
@@ -44,7 +43,7 @@ module _ {d : Displays} {px py n i : ℕ} (q : Passed d px py n i) where
   pub gone : n ≤ i → none ≡ firstOn (regions d) px py
   gone l = sym (q .so-far ∙ rw (last d (q .ok) i (omega (arith, q .count-is, q .within))) refl)
 
--- The nearest pixel ----------------------------------------------------------------------------------------------------
+-- The closest ---------------------------------------------------------------------------------------------------------
 
 -- how far the closest of some displays is; where there is none, farther than any
 abbrev pub far : List Rect → ℕ → ℕ → ℕ
@@ -83,51 +82,40 @@ module _ (px py : ℕ) where
       let same : closestOf e (ds ++ (d ∷ [])) px py ≡ closestOf e ds px py = of-one-more e ds d ∙ rw (le-ltb _ _ l) refl in
       (same, ap (λ (r : Rect). away² r px py) same)
 
--- the nearest pixel of the first i displays, and how far it is
-pub record Nearing (d : Displays) (px py n dist x y i : ℕ) : Type 0 where
+-- the closest of the first i displays, and how far it is
+pub record Nearing (d : Displays) (px py n dist : ℕ) (near : Rect) (i : ℕ) : Type 0 where
   pub count-is : n ≡ d .len
   pub within : i ≤ n
   pub dist-is : dist ≡ far (take i (regions d)) px py
-  pub x-is : x ≡ nearestX (closestTo (take i (regions d)) px py) px
-  pub y-is : y ≡ nearestY (closestTo (take i (regions d)) px py) py
+  pub near-is : near ≡ closestTo (take i (regions d)) px py
 
-module _ {d : Displays} {px py n dist x y i : ℕ} (ok : RepDisplays d) (q : Nearing d px py n dist x y i) where
-  module _ (l : i < n) (fits : away² (region d i) px py < 18446744073709551615) where
+module _ {d : Displays} {px py n dist i : ℕ} {near : Rect} (ok : RepDisplays d)
+    (q : Nearing d px py n dist near i) where
+  module _ (l : i < n) (m : ℕ) (m-is : m ≡ away² (region d i) px py) where
     seen : take (i + 1) (regions d) ≡ take i (regions d) ++ (region d i ∷ [])
     seen = rw add-one (longer d ok i (omega (arith, q .count-is)))
 
-    pub is-nearer : (m u v : ℕ) → m ≡ away² (region d i) px py → u ≡ nearestX (region d i) px → v ≡ nearestY (region d i) py → m < dist
-        → Nearing d px py n m u v (i + 1)
-    is-nearer m u v m-is u-is v-is k =
+    pub is-nearer : m < dist → Nearing d px py n m (region d i) (i + 1)
+    is-nearer k =
         let (a, b) = closer px py (take i (regions d)) (region d i) (omega (arith, m-is, q .dist-is, k)) in
         record {
           count-is = q .count-is;
           within = omega arith;
-          dist-is = m-is ∙ sym b ∙ ap (λ (ds : List Rect). far ds px py) (sym seen);
-          x-is = u-is ∙ ap (λ (r : Rect). nearestX r px) (sym a ∙ ap (λ (ds : List Rect). closestTo ds px py) (sym seen));
-          y-is = v-is ∙ ap (λ (r : Rect). nearestY r py) (sym a ∙ ap (λ (ds : List Rect). closestTo ds px py) (sym seen));
+          dist-is = rw seen (m-is ∙ sym b);
+          near-is = rw seen (sym a);
         }
 
-    pub not-nearer : (m : ℕ) → m ≡ away² (region d i) px py → dist ≤ m → Nearing d px py n dist x y (i + 1)
-    not-nearer m m-is k =
+    pub not-nearer : away² (region d i) px py < 18446744073709551615 → dist ≤ m → Nearing d px py n dist near (i + 1)
+    not-nearer fits k =
         let (a, b) = farther px py (take i (regions d)) (region d i) fits (omega (arith, m-is, q .dist-is, k)) in
         record {
           count-is = q .count-is;
           within = omega arith;
-          dist-is = q .dist-is ∙ sym b ∙ ap (λ (ds : List Rect). far ds px py) (sym seen);
-          x-is = q .x-is ∙ ap (λ (r : Rect). nearestX r px) (sym a ∙ ap (λ (ds : List Rect). closestTo ds px py) (sym seen));
-          y-is = q .y-is ∙ ap (λ (r : Rect). nearestY r py) (sym a ∙ ap (λ (ds : List Rect). closestTo ds px py) (sym seen));
+          dist-is = rw seen (q .dist-is ∙ sym b);
+          near-is = rw seen (q .near-is ∙ sym a);
         }
 
-  pub at-end : n ≤ i → (x ≡ nearestX (closestTo (regions d) px py) px) × (y ≡ nearestY (closestTo (regions d) px py) py)
+  pub at-end : n ≤ i → near ≡ closestTo (regions d) px py
   at-end l =
       let e = all d ok i (omega (arith, q .count-is, q .within)) in
-      (q .x-is ∙ ap (λ (ds : List Rect). nearestX (closestTo ds px py) px) e, q .y-is ∙ ap (λ (ds : List Rect). nearestY (closestTo ds px py) py) e)
-
--- the display that holds it
-pub holder : (d : Displays) → RepDisplays d → (px py x y : ℕ) → x ≡ nearestX (closestTo (regions d) px py) px
-    → y ≡ nearestY (closestTo (regions d) px py) py → (o : Option Rect) → o ≡ firstOn (regions d) x y
-    → answered (onOr o (rect 0 0 0 0)) ≡ closestTo (regions d) px py
-holder d ok px py x y x-is y-is o e =
-    ap (λ (q : Option Rect). answered (onOr q (rect 0 0 0 0))) (e ∙ (λ i. firstOn (regions d) (x-is i) (y-is i)))
-    ∙ nearest-first px py (regions d) (solid d ok)
+      q .near-is ∙ ap (λ (ds : List Rect). closestTo ds px py) e
