@@ -1,7 +1,11 @@
 -- The parts that a loop has left, and the rules part by part. Each file uses the ones before it.
 pub mod Depth
 pub mod Parts
+pub mod Table
 pub mod Regions
 pub mod Turns
 pub mod Split
+pub mod Piece
+pub mod Cuts
+pub mod Whole
 pub mod Shown

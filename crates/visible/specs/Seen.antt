@@ -1,13 +1,14 @@
 -- The visible list of some parts of a window, and what is drawn of it: the rules for the parts that the depth-first search has reached.
-use Prim.Native.Nat.{ℕ, _+_, _*_, _≤_}
+use Prim.Native.Nat.{ℕ, _+_, _*_, _≤_, _<_}
 use mathlib.Core.Path.{_≡_}
-use mathlib.Core.Bool.{Bool, cond}
+use mathlib.Core.Bool.{Bool, false, cond}
 use mathlib.Core.List.{List, [], _∷_, map}
 use lib.Dec.{eqb}
 use lib.ListN.{length, drop, getD}
 use Rattle.geom.specs.declared.Rect.{Rect}
-use Rattle.geom.specs.Geom.{rect, width, height}
-use Rattle.geom.specs.Lists.{outsideAll, relative, listIntersect}
+use Rattle.geom.specs.Geom.{rect, width, height, isEmpty}
+use Rattle.geom.specs.Inner.{Fits}
+use Rattle.geom.specs.Lists.{outsideAll, relative, listIntersect, rectAt}
 use Rattle.window.specs.Held.{Small}
 use Rattle.rules.specs.Visible.{rectsOf}
 use Rattle.rules.specs.Redraw.{drawRegions}
@@ -22,6 +23,19 @@ pub record Missed (r : Rect) (n : ℕ) (l : List ℕ) (i k : ℕ) : Type 0 where
   pub from : i ≤ k
   pub few : k ≤ n
   pub same : outsideAll (r ∷ []) (drop k (rectsOf n l)) ≡ outsideAll (r ∷ []) (drop i (rectsOf n l))
+
+-- a table of n rectangles as numbers, which have pixels
+pub record Table (n : ℕ) (l : List ℕ) : Type 0 where
+  pub few : n ≤ 16
+  pub fits : (k : ℕ) → k < n → Fits (rectAt l k)
+  pub some : (k : ℕ) → k < n → isEmpty (rectAt l k) ≡ false
+
+-- the table of a window at `at`, the last of it: its k rectangles leave of the window what the n that are lent leave
+pub record Gathered (at : Rect) (n : ℕ) (l : List ℕ) (k : ℕ) (table : List ℕ) : Type 0 where
+  pub rects : Table k table
+  pub window : rectAt table 16 ≡ at
+  pub some : 0 < k → isEmpty at ≡ false
+  pub same : outsideAll (at ∷ []) (rectsOf k table) ≡ outsideAll (at ∷ []) (rectsOf n l)
 
 -- how many parts there are, or how many pixels they have
 abbrev pub amount : Bool → List Rect → ℕ

@@ -1,20 +1,21 @@
 // The parts of a window that are seen, drawn as they are found.
 ghost use mathlib.Core.Path.{_≡_};
 ghost use mathlib.Core.List.{[], _∷_, map};
-ghost use Prim.Native.Nat.{_+_, _*_, _≤_};
+ghost use mathlib.Core.Bool.{false};
+ghost use Prim.Native.Nat.{_+_, _*_, _≤_, _<_};
 ghost use lib.ListN.{length, drop};
-ghost use Rattle.geom.specs.Geom.{width, height, ifAny};
+ghost use Rattle.geom.specs.Geom.{rect, width, height, isEmpty};
 ghost use Rattle.geom.specs.Inner.{Fits, Within};
 ghost use Rattle.geom.specs.Lists.{outsideAll, relative, meetsOf, listIntersect};
 ghost use Rattle.window.specs.Held.{Small};
 ghost use Rattle.rules.specs.Visible.{rectsOf};
 ghost use Rattle.rules.specs.Redraw.{drawRegions};
 ghost use Rattle.rules.specs.Lent.{Lent};
-ghost use Rattle.visible.specs.Seen.{Drawable, viewOf, own, drawn, regions};
-use crate::around;
+ghost use Rattle.visible.specs.Seen.{Table, Drawable, viewOf, own, drawn, regions};
 use crate::rects;
 use crate::region::View;
 use crate::region::draw_region;
+use crate::table;
 use geom::Rect;
 use geom::inner;
 use geom::inner::numbers;
@@ -58,57 +59,49 @@ fn draw_part(
     draw_dirty(v, r, dirty, m, store, screen);
 }
 
-// Draws what the rectangles from the i-th of the n on leave of `part`, a part of the window.
+// Draws what the rectangles from the i-th of the table's n on leave of (x,y,w,h), a part of the window.
 fn draw_seen(
-    view: &[usize; 8],
-    part: Rect,
-    above: &[u32],
+    x: u32,
+    y: u32,
+    w: u32,
+    h: u32,
+    t: &[u32; 68],
     i: usize,
     n: usize,
+    v: &[usize; 8],
     dirty: &[u32],
     m: usize,
     store: &[u32],
     screen: &mut [u32],
 )
-    requires { ⌜ Drawable (viewOf (now view)) (now store) (now screen) × Within (viewOf (now view) .at) part × (Lent n (now above) × (i ≤ n)) × Lent m (now dirty) ⌝ }
-    ensures { λ _. ⌜ now (screen .exit) ≡ drawn (viewOf (now (view .entry))) (now (store .entry)) (regions (viewOf (now (view .entry)) .at) (part ∷ []) (drop i (rectsOf n (now (above .entry)))) (rectsOf m (now (dirty .entry)))) (now (screen .entry)) ⌝ }
+    requires { ⌜ Drawable (viewOf (now v)) (now store) (now screen) × Within (viewOf (now v) .at) (rect x y w h) × Lent m (now dirty) ⌝ }
+    requires { ⌜ (i < n → isEmpty (rect x y w h) ≡ false) × Table n (now t) × (i ≤ n) ⌝ }
+    ensures { λ _. ⌜ now (screen .exit) ≡ drawn (viewOf (now (v .entry))) (now (store .entry)) (regions (viewOf (now (v .entry)) .at) (rect x y w h ∷ []) (drop i (rectsOf n (now (t .entry)))) (rectsOf m (now (dirty .entry)))) (now (screen .entry)) ⌝ }
 {
-    let k = rects::first_met(part, above, i, n);
+    let k = table::first_met(x, y, w, h, t, i, n);
     if k == n {
-        draw_part(view, part, dirty, m, store, screen);
+        draw_part(v, Rect::new(x, y, w, h), dirty, m, store, screen);
         return;
     }
-    let both = inner::common(part, numbers::rect_at(above, k));
-    let next = k + 1;
-    let a = around::above(part, both);
-    draw_piece(view, a, above, next, n, dirty, m, store, screen);
-    let l = around::left(part, both);
-    draw_piece(view, l, above, next, n, dirty, m, store, screen);
-    let r = around::right(part, both);
-    draw_piece(view, r, above, next, n, dirty, m, store, screen);
-    let b = around::below(part, both);
-    draw_piece(view, b, above, next, n, dirty, m, store, screen);
-}
-
-// The same of a piece, which may have no pixel.
-fn draw_piece(
-    view: &[usize; 8],
-    piece: Rect,
-    above: &[u32],
-    i: usize,
-    n: usize,
-    dirty: &[u32],
-    m: usize,
-    store: &[u32],
-    screen: &mut [u32],
-)
-    requires { ⌜ Drawable (viewOf (now view)) (now store) (now screen) × Within (viewOf (now view) .at) piece × (Lent n (now above) × (i ≤ n)) × Lent m (now dirty) ⌝ }
-    ensures { λ _. ⌜ now (screen .exit) ≡ drawn (viewOf (now (view .entry))) (now (store .entry)) (regions (viewOf (now (view .entry)) .at) (ifAny piece) (drop i (rectsOf n (now (above .entry)))) (rectsOf m (now (dirty .entry)))) (now (screen .entry)) ⌝ }
-{
-    if inner::is_empty(piece) {
-        return;
+    let right = x + w;
+    let bottom = y + h;
+    let l = table::west(x, t, k);
+    let u = table::north(y, t, k);
+    let r = table::east(right, t, k);
+    let b = table::south(bottom, t, k);
+    let j = k + 1;
+    if y < u {
+        draw_seen(x, y, w, u - y, t, j, n, v, dirty, m, store, screen);
     }
-    draw_seen(view, piece, above, i, n, dirty, m, store, screen)
+    if x < l {
+        draw_seen(x, u, l - x, b - u, t, j, n, v, dirty, m, store, screen);
+    }
+    if r < right {
+        draw_seen(r, u, right - r, b - u, t, j, n, v, dirty, m, store, screen);
+    }
+    if b < bottom {
+        draw_seen(x, b, w, bottom - b, t, j, n, v, dirty, m, store, screen);
+    }
 }
 
 // Draws what is seen of a window at `at`, under n rectangles, where it is dirty, as dimming is on or off. Its pixels begin at `base` of the store.
@@ -126,7 +119,7 @@ pub fn draw(
     dim: bool,
 )
     requires { ⌜ Small at × (base + width at * height at ≤ length (now store)) ⌝ }
-    requires { ⌜ Lent n (now above) × Lent m (now dirty) ⌝ }
+    requires { ⌜ Lent n (now above) × (n ≤ 16) × Lent m (now dirty) ⌝ }
     requires { ⌜ (sw ≤ 32767) × (sh ≤ 32767) × (length (now screen) ≡ sw * sh) ⌝ }
     ensures { λ _. ⌜ now (screen .exit) ≡ drawRegions dim at base (now (store .entry)) sw sh (listIntersect (map (relative at) (outsideAll (at ∷ []) (rectsOf n (now (above .entry))))) (rectsOf m (now (dirty .entry)))) (now (screen .entry)) ⌝ }
 {
@@ -138,10 +131,25 @@ pub fn draw(
         dim,
     };
     let numbers = view.numbers();
+    let mut table = [0u32; 68];
+    let met = table::gather(at, above, n, &mut table);
     // Called from two places, what draws a part is not compiled into the search, of which each turn would hold the table of dimming.
-    if n == 0 {
+    if met == 0 {
         draw_part(&numbers, at, dirty, m, store, screen);
         return;
     }
-    draw_seen(&numbers, at, above, 0, n, dirty, m, store, screen)
+    draw_seen(
+        at.pos.x,
+        at.pos.y,
+        at.dims.w,
+        at.dims.h,
+        &table,
+        0,
+        met,
+        &numbers,
+        dirty,
+        m,
+        store,
+        screen,
+    )
 }

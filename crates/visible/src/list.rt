@@ -1,62 +1,92 @@
 // The visible list, counted and written; and its pixels, counted.
 ghost use mathlib.Core.Path.{_≡_};
 ghost use mathlib.Core.List.{[], _∷_, _++_, map};
-ghost use Prim.Native.Nat.{_+_, _*_, _≤_};
+ghost use mathlib.Core.Bool.{false};
+ghost use Prim.Native.Nat.{_+_, _*_, _≤_, _<_};
 ghost use lib.ListN.{length, drop};
 ghost use lib.Dec.{leb};
 ghost use lib.Seq.{sets};
 ghost use Rattle.geom.specs.Areas.{areas};
-ghost use Rattle.geom.specs.Geom.{ifAny};
+ghost use Rattle.geom.specs.Geom.{rect, isEmpty};
 ghost use Rattle.geom.specs.Inner.{Fits, Within};
-ghost use Rattle.geom.specs.Lists.{outsideAll, relative, numbers};
+ghost use Rattle.geom.specs.Lists.{outsideAll, relative, numbers, rectAt};
 ghost use Rattle.geom.specs.Lists as rule;
 ghost use Rattle.rules.specs.Visible.{rectsOf};
 ghost use Rattle.rules.specs.Lent.{Lent};
-ghost use Rattle.visible.specs.Seen.{seen, amount};
-use crate::around;
-use crate::rects;
+ghost use Rattle.visible.specs.Seen.{Table, seen, amount};
+use crate::table;
 use geom::Rect;
-use geom::inner;
 use geom::inner::numbers;
 
 // What a part counts for: one, or the pixels that it has.
-fn amount(part: Rect, in_pixels: bool) -> usize
-    requires { ⌜ Fits part ⌝ }
-    ensures { λ r. ⌜ r ≡ amount in_pixels (part ∷ []) ⌝ }
+fn amount(w: u32, h: u32, in_pixels: bool) -> usize
+    ensures { λ r. ⌜ r ≡ amount in_pixels (rect 0 0 w h ∷ []) ⌝ }
 {
     if in_pixels {
-        return part.dims.w as usize * part.dims.h as usize;
+        return w as usize * h as usize;
     }
     1
 }
 
-// How many parts of `part`, or pixels, lie outside the rectangles from the i-th of the n on.
-fn count_seen(part: Rect, above: &[u32], i: usize, n: usize, in_pixels: bool) -> usize
-    requires { ⌜ Fits part × Lent n (now above) × (i ≤ n) × (n ≤ 16) ⌝ }
-    ensures { λ r. ⌜ r ≡ amount in_pixels (outsideAll (part ∷ []) (drop i (rectsOf n (now (above .entry))))) ⌝ }
+// How many parts of (x,y,w,h), or pixels, lie outside the rectangles from the i-th of the table's n on.
+fn count_seen(
+    x: u32,
+    y: u32,
+    w: u32,
+    h: u32,
+    t: &[u32; 68],
+    i: usize,
+    n: usize,
+    in_pixels: bool,
+) -> usize
+    requires { ⌜ Fits (rect x y w h) × (i < n → isEmpty (rect x y w h) ≡ false) ⌝ }
+    requires { ⌜ Table n (now t) × (i ≤ n) ⌝ }
+    ensures { λ r. ⌜ r ≡ amount in_pixels (outsideAll (rect x y w h ∷ []) (drop i (rectsOf n (now (t .entry))))) ⌝ }
 {
-    let k = rects::first_met(part, above, i, n);
+    let k = table::first_met(x, y, w, h, t, i, n);
     if k == n {
-        return amount(part, in_pixels);
+        return amount(w, h, in_pixels);
     }
-    let both = inner::common(part, numbers::rect_at(above, k));
-    let next = k + 1;
-    let a = count_piece(around::above(part, both), above, next, n, in_pixels);
-    let l = count_piece(around::left(part, both), above, next, n, in_pixels);
-    let r = count_piece(around::right(part, both), above, next, n, in_pixels);
-    let b = count_piece(around::below(part, both), above, next, n, in_pixels);
-    a + l + r + b
+    let right = x + w;
+    let bottom = y + h;
+    let l = table::west(x, t, k);
+    let u = table::north(y, t, k);
+    let r = table::east(right, t, k);
+    let b = table::south(bottom, t, k);
+    let j = k + 1;
+    let mut sum: usize = 0;
+    if y < u {
+        sum = count_seen(x, y, w, u - y, t, j, n, in_pixels);
+    }
+    if x < l {
+        sum += count_seen(x, u, l - x, b - u, t, j, n, in_pixels);
+    }
+    if r < right {
+        sum += count_seen(r, u, right - r, b - u, t, j, n, in_pixels);
+    }
+    if b < bottom {
+        sum += count_seen(x, b, w, bottom - b, t, j, n, in_pixels);
+    }
+    sum
 }
 
-// The same of a piece, which may have no pixel.
-fn count_piece(piece: Rect, above: &[u32], i: usize, n: usize, in_pixels: bool) -> usize
-    requires { ⌜ Fits piece × Lent n (now above) × (i ≤ n) × (n ≤ 16) ⌝ }
-    ensures { λ r. ⌜ r ≡ amount in_pixels (outsideAll (ifAny piece) (drop i (rectsOf n (now (above .entry))))) ⌝ }
+// How many parts of `at`, or pixels, lie outside the n rectangles above it.
+fn count_all(at: Rect, above: &[u32], n: usize, in_pixels: bool) -> usize
+    requires { ⌜ Fits at × Lent n (now above) × (n ≤ 16) ⌝ }
+    ensures { λ r. ⌜ r ≡ amount in_pixels (outsideAll (at ∷ []) (rectsOf n (now (above .entry)))) ⌝ }
 {
-    if inner::is_empty(piece) {
-        return 0;
-    }
-    count_seen(piece, above, i, n, in_pixels)
+    let mut table = [0u32; 68];
+    let met = table::gather(at, above, n, &mut table);
+    count_seen(
+        at.pos.x,
+        at.pos.y,
+        at.dims.w,
+        at.dims.h,
+        &table,
+        0,
+        met,
+        in_pixels,
+    )
 }
 
 // How many parts of `at` lie outside the n rectangles above it.
@@ -64,7 +94,7 @@ pub fn count(at: Rect, above: &[u32], n: usize) -> usize
     requires { ⌜ Fits at × Lent n (now above) × (n ≤ 16) ⌝ }
     ensures { λ r. ⌜ r ≡ length (outsideAll (at ∷ []) (rectsOf n (now (above .entry)))) ⌝ }
 {
-    count_seen(at, above, 0, n, false)
+    count_all(at, above, n, false)
 }
 
 // How many pixels of `at` lie outside them: the areas of those parts, added up as they are found.
@@ -72,7 +102,7 @@ pub fn pixels(at: Rect, above: &[u32], n: usize) -> usize
     requires { ⌜ Fits at × Lent n (now above) × (n ≤ 16) ⌝ }
     ensures { λ r. ⌜ r ≡ areas (outsideAll (at ∷ []) (rectsOf n (now (above .entry)))) ⌝ }
 {
-    count_seen(at, above, 0, n, true)
+    count_all(at, above, n, true)
 }
 
 // The most parts that n rectangles can leave.
@@ -95,62 +125,71 @@ pub fn has_room(at: Rect, above: &[u32], n: usize, len: usize) -> bool
     count(at, above, n) <= places
 }
 
-// Writes what the rectangles from the i-th of the n on leave of `part`, a part of the window at `at`, from the given place of the
-// list on; returns the place after it. A place holds four numbers.
+// Writes what the rectangles from the i-th of the table's n on leave of (x,y,w,h), a part of the table's window, from
+// the given place of the list on; returns the place after it. A place holds four numbers.
 fn write(
-    part: Rect,
-    at: Rect,
-    above: &[u32],
+    x: u32,
+    y: u32,
+    w: u32,
+    h: u32,
+    t: &[u32; 68],
     i: usize,
     n: usize,
     out: &mut [u32],
     place: usize,
 ) -> usize
-    requires { ⌜ Fits at × Within at part × Lent n (now above) × (i ≤ n) ⌝ }
-    requires { ⌜ 4 * (place + length (seen at (part ∷ []) (drop i (rectsOf n (now above))))) ≤ length (now out) ⌝ }
-    ensures { λ r. ⌜ r ≡ place + length (seen at (part ∷ []) (drop i (rectsOf n (now (above .entry))))) ⌝ }
-    ensures { λ _. ⌜ now (out .exit) ≡ sets (now (out .entry)) (4 * place) (numbers (seen at (part ∷ []) (drop i (rectsOf n (now (above .entry)))))) ⌝ }
+    requires { ⌜ Fits (rectAt (now t) 16) × Within (rectAt (now t) 16) (rect x y w h) × (i < n → isEmpty (rect x y w h) ≡ false) ⌝ }
+    requires { ⌜ Table n (now t) × (i ≤ n) ⌝ }
+    requires { ⌜ 4 * (place + length (seen (rectAt (now t) 16) (rect x y w h ∷ []) (drop i (rectsOf n (now t))))) ≤ length (now out) ⌝ }
+    ensures { λ r. ⌜ r ≡ place + length (seen (rectAt (now (t .entry)) 16) (rect x y w h ∷ []) (drop i (rectsOf n (now (t .entry))))) ⌝ }
+    ensures { λ _. ⌜ now (out .exit) ≡ sets (now (out .entry)) (4 * place) (numbers (seen (rectAt (now (t .entry)) 16) (rect x y w h ∷ []) (drop i (rectsOf n (now (t .entry)))))) ⌝ }
 {
-    let k = rects::first_met(part, above, i, n);
+    let k = table::first_met(x, y, w, h, t, i, n);
     if k == n {
-        numbers::put(out, place, rects::relative(at, part));
+        numbers::put(out, place, table::relative(x, y, w, h, t));
         return place + 1;
     }
-    let both = inner::common(part, numbers::rect_at(above, k));
-    let next = k + 1;
-    let mut to = write_piece(around::above(part, both), at, above, next, n, out, place);
-    to = write_piece(around::left(part, both), at, above, next, n, out, to);
-    to = write_piece(around::right(part, both), at, above, next, n, out, to);
-    write_piece(around::below(part, both), at, above, next, n, out, to)
-}
-
-// The same of a piece, which may have no pixel.
-fn write_piece(
-    piece: Rect,
-    at: Rect,
-    above: &[u32],
-    i: usize,
-    n: usize,
-    out: &mut [u32],
-    place: usize,
-) -> usize
-    requires { ⌜ Fits at × Within at piece × Lent n (now above) × (i ≤ n) ⌝ }
-    requires { ⌜ 4 * (place + length (seen at (ifAny piece) (drop i (rectsOf n (now above))))) ≤ length (now out) ⌝ }
-    ensures { λ r. ⌜ r ≡ place + length (seen at (ifAny piece) (drop i (rectsOf n (now (above .entry))))) ⌝ }
-    ensures { λ _. ⌜ now (out .exit) ≡ sets (now (out .entry)) (4 * place) (numbers (seen at (ifAny piece) (drop i (rectsOf n (now (above .entry)))))) ⌝ }
-{
-    if inner::is_empty(piece) {
-        return place;
+    let right = x + w;
+    let bottom = y + h;
+    let l = table::west(x, t, k);
+    let u = table::north(y, t, k);
+    let r = table::east(right, t, k);
+    let b = table::south(bottom, t, k);
+    let j = k + 1;
+    let mut to = place;
+    if y < u {
+        to = write(x, y, w, u - y, t, j, n, out, to);
     }
-    write(piece, at, above, i, n, out, place)
+    if x < l {
+        to = write(x, u, l - x, b - u, t, j, n, out, to);
+    }
+    if r < right {
+        to = write(r, u, right - r, b - u, t, j, n, out, to);
+    }
+    if b < bottom {
+        to = write(x, b, w, bottom - b, t, j, n, out, to);
+    }
+    to
 }
 
 // Writes the visible list of a window at `at` under n rectangles, relative to the window; returns how many rectangles it has.
 pub fn list(at: Rect, above: &[u32], n: usize, out: &mut [u32]) -> usize
-    requires { ⌜ Fits at × Lent n (now above) ⌝ }
+    requires { ⌜ Fits at × Lent n (now above) × (n ≤ 16) ⌝ }
     requires { ⌜ 4 * length (outsideAll (at ∷ []) (rectsOf n (now above))) ≤ length (now out) ⌝ }
     ensures { λ r. ⌜ r ≡ length (outsideAll (at ∷ []) (rectsOf n (now (above .entry)))) ⌝ }
     ensures { λ r. ⌜ now (out .exit) ≡ numbers (map (relative at) (outsideAll (at ∷ []) (rectsOf n (now (above .entry))))) ++ drop (4 * r) (now (out .entry)) ⌝ }
 {
-    write(at, at, above, 0, n, out, 0)
+    let mut table = [0u32; 68];
+    let met = table::gather(at, above, n, &mut table);
+    write(
+        at.pos.x,
+        at.pos.y,
+        at.dims.w,
+        at.dims.h,
+        &table,
+        0,
+        met,
+        out,
+        0,
+    )
 }

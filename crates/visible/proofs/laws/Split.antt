@@ -3,23 +3,21 @@ use Prim.Native.Nat.{ℕ, _+_, _-_, _*_, _≤_, _<_}
 use mathlib.Core.Path.{_≡_, refl, sym, ap, subst, _∙_}
 use mathlib.Core.Bool.{Bool, true, false}
 use mathlib.Core.List.{List, [], _∷_, _++_, map}
-use native.Mathlib.Nat.{zero-add}
 use native.Mathlib.Omega.{arith}
 use lib.ListN.{length, drop, drop-of-length-le}
-use lib.Seq.{sets, sets-eq}
+use lib.Seq.{sets}
 use Rattle.geom.specs.declared.Rect.{Rect}
-use Rattle.geom.specs.Geom.{isEmpty, meets, common, ifAny, pieceAbove, pieceLeft, pieceRight, pieceBelow, around}
+use Rattle.geom.specs.Geom.{meets, common, ifAny, pieceAbove, pieceLeft, pieceRight, pieceBelow, around}
 use Rattle.geom.specs.Inner.{Within}
 use Rattle.geom.specs.Lists.{outsideAll, relative, numbers, rectAt}
 use Rattle.geom.proofs.geometry.Facts.{says-meet, common-within}
-use Rattle.geom.proofs.geometry.Numbers.{length-numbers}
 use Rattle.rules.specs.Visible.{rectsOf}
 use Rattle.rules.proofs.Lent.{length-rects, rects-next}
 use Rattle.visible.specs.declared.region.View.{View}
 use Rattle.visible.specs.Seen.{Missed, seen, amount, regions, drawn}
 use Rattle.visible.proofs.laws.Depth.{outsideAll-append, outsideAll-end, outsideAll-miss, outsideAll-met, four}
 use Rattle.visible.proofs.laws.Parts.{above-within, left-within, right-within, below-within}
-use Rattle.visible.proofs.laws.Regions.{seen-append, seen-end, length-seen, regions-same, regions-append}
+use Rattle.visible.proofs.laws.Regions.{seen-append, seen-end, regions-same, regions-append}
 use Rattle.visible.proofs.laws.Turns.{length-four, amount-four, Written, written-both, drawn-both}
 
 -- Rectangles that are missed -------------------------------------------------------------------------------------------
@@ -28,21 +26,22 @@ module _ (a : Rect) (n : ℕ) (l : List ℕ) (i : ℕ) where
   pub missed-none : i ≤ n → Missed a n l i i
   missed-none h = record { from = omega arith; few = h; same = refl }
 
-  pub missed-next : (b : Rect) (k : ℕ) → k < n → b ≡ rectAt l k → meets a b ≡ false → Missed a n l i k → Missed a n l i (k + 1)
-  missed-next b k h e m s = record {
+  pub missed-next : (k : ℕ) → k < n → meets a (rectAt l k) ≡ false → Missed a n l i k → Missed a n l i (k + 1)
+  missed-next k h m s = record {
     from = omega (arith, s .from);
     few = omega arith;
     same =
-        sym (outsideAll-miss a (rectAt l k) (drop (k + 1) (rectsOf n l)) (ap (meets a) (sym e) ∙ m))
+        sym (outsideAll-miss a (rectAt l k) (drop (k + 1) (rectsOf n l)) m)
         ∙ ap (outsideAll (a ∷ [])) (sym (rects-next n l k h))
         ∙ s .same;
   }
 
-  pub missed-more : (k : ℕ) → Missed a n l i k → (k ≡ n → ⊥) → k < n
-  missed-more k s ne = omega (arith, s .few)
+module _ {a : Rect} {n : ℕ} {l : List ℕ} {i k : ℕ} (s : Missed a n l i k) where
+  pub missed-more : (k ≡ n → ⊥) → k < n
+  missed-more ne = omega (arith, s .few)
 
   -- the part is left whole
-  module _ (k : ℕ) (s : Missed a n l i k) (e : k ≡ n) where
+  module _ (e : k ≡ n) where
     missed-all : outsideAll (a ∷ []) (drop i (rectsOf n l)) ≡ a ∷ []
     missed-all =
         sym (s .same)
@@ -56,7 +55,8 @@ module _ (a : Rect) (n : ℕ) (l : List ℕ) (i : ℕ) where
     unfolding seen
     seen-leaf at = ap (map (relative at)) missed-all
 
-    pub written-leaf : (at r : Rect) (out out′ : List ℕ) (p : ℕ) → r ≡ relative at a → out′ ≡ sets out (4 * p) (numbers (r ∷ []))
+    pub written-leaf : (at r : Rect) (out out′ : List ℕ) (p : ℕ) → r ≡ relative at a
+        → out′ ≡ sets out (4 * p) (numbers (r ∷ []))
         → Written out p (seen at (a ∷ []) (drop i (rectsOf n l))) (p + 1) out′
     written-leaf at r out out′ p er eo = (
       ap (λ (rs : List Rect). p + length rs) (sym (seen-leaf at)),
@@ -65,8 +65,10 @@ module _ (a : Rect) (n : ℕ) (l : List ℕ) (i : ℕ) where
           ∙ ap (λ (rs : List Rect). sets out (4 * p) (numbers rs)) (sym (seen-leaf at)),
     )
 
-    pub regions-leaf : (at : Rect) (ds : List Rect) → regions at (a ∷ []) [] ds ≡ regions at (a ∷ []) (drop i (rectsOf n l)) ds
-    regions-leaf at ds = regions-same at (a ∷ []) (a ∷ []) [] (drop i (rectsOf n l)) ds (seen-end at a ∙ sym (seen-leaf at))
+    pub regions-leaf : (at : Rect) (ds : List Rect)
+        → regions at (a ∷ []) [] ds ≡ regions at (a ∷ []) (drop i (rectsOf n l)) ds
+    regions-leaf at ds =
+        regions-same at (a ∷ []) (a ∷ []) [] (drop i (rectsOf n l)) ds (seen-end at a ∙ sym (seen-leaf at))
 
 -- A rectangle that splits the part -------------------------------------------------------------------------------------
 
@@ -95,8 +97,8 @@ module _ {a : Rect} {n : ℕ} {l : List ℕ} {i k : ℕ} {c : Rect} (s : Splits 
     pub below-in : p ≡ pieceBelow a c → Within a p
     below-in e = subst (Within a) (sym e) (below-within a c split-within)
 
-  -- twice the rectangles that are left grow less
-  pub fewer : 2 * (n - (k + 1)) + 1 < 2 * (n - i)
+  -- fewer rectangles are left
+  pub fewer : n - (k + 1) < n - i
   fewer = omega (arith, s .more, s .missed .from)
 
   outside-split : outsideAll (a ∷ []) (drop i (rectsOf n l)) ≡ outsideAll (around a c) (drop (k + 1) (rectsOf n l))
@@ -186,33 +188,3 @@ module _ {a : Rect} {n : ℕ} {l : List ℕ} {i k : ℕ} {c : Rect} (s : Splits 
         (drawn-both v store Q (R ++ U) screen₁ screen₂ screen₄ ey (drawn-both v store R U screen₂ screen₃ screen₄ ez ew))
         ∙ ap (λ (rs : List Rect). drawn v store rs screen)
         (sym (regions-split (v .at) ds ∙ named (λ (rs : List Rect). regions (v .at) rs bs ds) (regions-append (v .at) bs ds)))
-
--- A piece -------------------------------------------------------------------------------------------------------------
-
-pub piece-none : (r : Rect) → isEmpty r ≡ true → ifAny r ≡ []
-unfolding ifAny
-piece-none r e = rw e
-
-pub piece-one : (r : Rect) → isEmpty r ≡ false → ifAny r ≡ r ∷ []
-unfolding ifAny
-piece-one r e = rw e
-
--- The whole window ---------------------------------------------------------------------------------------------------
-
-pub room-list : (at : Rect) (bs : List Rect) (room : ℕ) → 4 * length (outsideAll (at ∷ []) bs) ≤ room → 4 * (0 + length (seen at (at ∷ []) bs)) ≤ room
-room-list at bs room h = omega (arith, length-seen at (at ∷ []) bs)
-
--- what is written from the front on, and the rest of the list
-pub listed : (at : Rect) (bs : List Rect) (out out′ : List ℕ) (r : ℕ) → 4 * length (outsideAll (at ∷ []) bs) ≤ length out
-    → r ≡ 0 + length (seen at (at ∷ []) bs) → out′ ≡ sets out (4 * 0) (numbers (seen at (at ∷ []) bs))
-    → (r ≡ length (outsideAll (at ∷ []) bs)) × (out′ ≡ numbers (map (relative at) (outsideAll (at ∷ []) bs)) ++ drop (4 * r) out)
-unfolding seen
-listed at bs out out′ r room er eo =
-    let v = map (relative at) (outsideAll (at ∷ []) bs) in
-    let e : r ≡ length v = er ∙ zero-add (length v) in
-    let m : 0 + length (numbers v) ≡ 4 * r = omega (arith, length-numbers v) in (
-      e ∙ length-seen at (at ∷ []) bs,
-      eo
-          ∙ sets-eq (numbers v) out 0 (omega (arith, length-numbers v, length-seen at (at ∷ []) bs))
-          ∙ ap (λ (j : ℕ). numbers v ++ drop j out) m,
-    )

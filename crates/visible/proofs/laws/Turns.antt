@@ -7,7 +7,7 @@ use native.Mathlib.Omega.{arith}
 use native.Mathlib.Nat.{mul-le-mul, mul-le-mul-left, le-trans}
 use lib.Dec.{leb}
 use lib.ListN.{length, drop, length-append, length-drop}
-use lib.Seq.{sets}
+use lib.Seq.{sets, length-sets}
 use Rattle.geom.specs.declared.Rect.{Rect}
 use Rattle.geom.specs.Geom.{width, height}
 use Rattle.geom.specs.Inner.{Fits}
@@ -91,6 +91,10 @@ Written out i rs j out′ = (j ≡ i + length rs) × (out′ ≡ sets out (4 * i
 
 pub written-none : {rs : List Rect} (out : List ℕ) (i : ℕ) → rs ≡ [] → Written out i rs i out
 written-none out i e = (omega (arith, ap length e), sym (ap (λ (rs : List Rect). sets out (4 * i) (numbers rs)) e))
+
+pub written-length : (out : List ℕ) (i : ℕ) (rs : List Rect) {j : ℕ} {out′ : List ℕ} → Written out i rs j out′
+    → length out′ ≡ length out
+written-length out i rs w = ap length (w .1) ∙ length-sets out (4 * i) (numbers rs)
 
 pub written-both : (xs ys : List Rect) (out out′ out″ : List ℕ) (i j k : ℕ) → Written out i xs j out′ → Written out′ j ys k out″
     → Written out i (xs ++ ys) k out″

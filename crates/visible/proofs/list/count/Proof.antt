@@ -1,4 +1,4 @@
--- The search begins at the first rectangle.
+-- What the parts amount to is how many there are.
 use mathlib.Core.Path.{_∙_}
 use mathlib.Core.List.{[], _∷_}
 use Rattle.geom.specs.Lists.{outsideAll}
@@ -8,13 +8,13 @@ use borrow.Author.Needs.{needs}
 use Rattle.visible.proofs.list.count.Statement.{statement}
 use Rattle.visible.proofs.list.count.Tie as tie
 
-count-seen-requires : tie.Need-count-seen-requires
-count-seen-requires c κs = search needs
+count-all-requires : tie.Need-count-all-requires
+count-all-requires c κs = search needs
 
 returns : tie.Need-returns
 returns c =
     let a = c .before .before .args in
-    c .count-seen .ensures ∙ amount-parts (outsideAll (a .at ∷ []) (rectsOf (a .n) (a .above .now)))
+    c .count-all .ensures ∙ amount-parts (outsideAll (a .at ∷ []) (rectsOf (a .n) (a .above .now)))
 
 pub count-spec : {M : Type 1} → statement M
-count-spec = tie.close (tie.spec count-seen-requires returns)
+count-spec = tie.close (tie.spec count-all-requires returns)

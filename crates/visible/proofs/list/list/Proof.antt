@@ -1,18 +1,29 @@
 -- The list is written from the front on; what lies behind it stays.
 use Prim.Native.Nat.{zero-le}
-use lib.ListN.{length}
-use Rattle.rules.specs.Visible.{rectsOf}
+use mathlib.Core.Path.{sym, subst}
+use Rattle.geom.specs.declared.Rect.{Rect}
+use Rattle.geom.specs.Inner.{Fits, Within}
 use Rattle.visible.proofs.laws.Parts.{within-refl}
-use Rattle.visible.proofs.laws.Split.{room-list, listed}
+use Rattle.visible.proofs.laws.Whole.{gathered-room, gathered-list}
 use borrow.Author.Needs.{needs}
 use Rattle.visible.proofs.list.list.Statement.{statement}
 use Rattle.visible.proofs.list.list.Tie as tie
 
+gather-requires : tie.Need-gather-requires
+gather-requires c κs = search needs
+
 write-requires : tie.Need-write-requires
 write-requires c κs =
-    let s = c .before .before .before in (
-      (s .pre .0 .0, within-refl (s .args .at), s .pre .0 .1, zero-le),
-      room-list (s .args .at) (rectsOf (s .args .n) (s .args .above .now)) (length (s .args .out .now)) (s .pre .1),
+    let d = c .before .before in
+    let g = d .gather .ensures in
+    let s = d .before .before .before .before in
+    let at = s .args .at in (
+      (
+        subst Fits (sym (g .window)) (s .pre .0 .0),
+        subst (λ (w : Rect). Within w at) (sym (g .window)) (within-refl at),
+        g .some,
+      ),
+      ((g .rects, zero-le), gathered-room g (s .pre .1)),
     )
 
 same-length : tie.Need-same-length
@@ -20,9 +31,11 @@ same-length c = search needs
 
 returns : tie.Need-returns
 returns c =
-    let s = c .before .before .before .before .before .before in
-    let w = c .before .before .write in
-    listed (s .args .at) (rectsOf (s .args .n) (s .args .above .now)) (s .args .out .now) (w .last .1 .1 .1 .1 .1 .0) (w .result) (s .pre .1) (w .ensures .0) (w .ensures .1)
+    let w = c .before .before in
+    let d = w .before .before .before in
+    let s = d .before .before .before .before in
+    gathered-list (d .gather .ensures) (s .args .out .now) (w .write .last .1 .1 .1 .1 .1 .1 .1 .0) (w .write .result)
+    (s .pre .1) (w .write .ensures .0) (w .write .ensures .1)
 
 pub list-spec : {M : Type 1} → statement M
-list-spec = tie.close (tie.spec write-requires same-length returns)
+list-spec = tie.close (tie.spec gather-requires write-requires same-length returns)
