@@ -1,10 +1,10 @@
 -- How a window is held: arrays of 16 with a count, and numbers of 16 bits. Each part has a view, which the rules of `Window` speak of, and
 -- what the code keeps of it (`Rep…`).
-use Prim.Native.Nat.{ℕ, _≤_, _<_}
+use Prim.Native.Nat.{ℕ, _+_, _-_, _≤_, _<_}
 use mathlib.Core.Bool.{cond}
 use mathlib.Core.Path.{_≡_}
 use mathlib.Core.List.{List, _++_, map}
-use lib.Dec.{eqb}
+use lib.Dec.{ltb, eqb}
 use lib.ListN.{length, take, drop, getD}
 use Rattle.geom.specs.declared.Rect.{Rect}
 use Rattle.geom.specs.Geom.{rect, left, top, width, height, right, bottom}
@@ -32,12 +32,25 @@ eventOf s =
 
 -- The queue -------------------------------------------------------------------------------------------------------------
 
+-- the place that is n behind `head`, round the end
+unfoldable pub place : ℕ → ℕ → ℕ
+place head n = cond (ltb (head + n) 16) (head + n) (head + n - 16)
+
+-- what the code reads past the end of the slots
+abbrev pub noSlot : Slot
+noSlot = record { value = 0; x = 0; y = 0; kind = 0; button = 0; count = 0 }
+
+-- the slots from `head` on, round the end
+abbrev pub ring : ℕ → List Slot → List Slot
+ring head slots = drop head slots ++ take head slots
+
 -- the events that wait, oldest first
 abbrev pub events : Queue → List Event
-events q = map eventOf (take (q .len) (q .slots))
+events q = map eventOf (take (q .len) (ring (q .head) (q .slots)))
 
 pub record RepQueue (q : Queue) : Type 0 where
   pub slots : length (q .slots) ≡ 16
+  pub head : q .head < 16
   pub len : q .len ≤ 16
 
 -- The cursor ------------------------------------------------------------------------------------------------------------

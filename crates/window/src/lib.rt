@@ -2,7 +2,7 @@
 //
 // The functions here are called by our own crates. Each `requires` is part of what a session keeps of its windows (specs/Held.antt).
 ghost use mathlib.Core.Path.{_≡_};
-ghost use mathlib.Core.Bool.{true, false};
+ghost use mathlib.Core.Bool.{false};
 ghost use Rattle.window.specs.Window.{newWin};
 ghost use Rattle.window.specs.Held.{winOf, RepWindow};
 use damage::Area;
@@ -67,16 +67,8 @@ pub struct Window {
 }
 
 impl Window {
-    // A new window: at (0,0), of no size, unmarked, with no damage and no events, its cursor at (0,0).
-    pub fn fresh() -> Window
-        ensures { λ w. ⌜ (w .used ≡ true) × (winOf w ≡ newWin) × RepWindow w ⌝ }
-    {
-        let mut w = Window::unused();
-        w.used = true;
-        w
-    }
-
-    // The window of an id that is not in use.
+    // The window of an id that is not in use: at (0,0), of no size, unmarked, with no damage and no events, its cursor at
+    // (0,0).
     pub fn unused() -> Window
         ensures { λ w. ⌜ (w .used ≡ false) × (winOf w ≡ newWin) × RepWindow w ⌝ }
     {

@@ -1,18 +1,18 @@
 // The queue of 16 events: first in first out, and a newcomer is dropped where 16 wait.
 ghost use mathlib.Core.Path.{_≡_};
 ghost use mathlib.Core.List.{[]};
-ghost use Prim.Native.Nat.{_-_, _≤_};
-ghost use lib.ListN.{length, take, drop};
-ghost use Rattle.window.specs.Held.{RepQueue, events};
+ghost use Prim.Native.Nat.{_≤_, _<_};
+ghost use Rattle.window.specs.Held.{RepQueue, events, place};
 ghost use Rattle.window.specs.Inner.{Queued, PushedTo, PoppedFrom};
 use crate::Event;
 use crate::slots;
 use crate::slots::Slot;
 
-// The events that wait, oldest first: the first `len` slots.
+// The events that wait, oldest first: the `len` slots from `head` on, round the end.
 #[repr(C)]
 pub struct Queue {
     pub slots: [Slot; 16],
+    pub head: u8,
     pub len: u8,
 }
 
@@ -28,7 +28,11 @@ impl Queue {
     {
         let blank = slots::slot_of(Event::Resize);
         let slots = [blank; 16];
-        Queue { slots, len: 0 }
+        Queue {
+            slots,
+            head: 0,
+            len: 0,
+        }
     }
 
     pub fn push(mut self, e: Event) -> Queue
@@ -38,7 +42,7 @@ impl Queue {
         let n = self.len;
         if n < 16 {
             let s = slots::slot_of(e);
-            let at = n as usize;
+            let at = back(self.head, n);
             self.slots[at] = s;
             self.len = n + 1;
         }
@@ -49,27 +53,33 @@ impl Queue {
         requires { ⌜ RepQueue self × (1 ≤ self .len) ⌝ }
         ensures { λ r. ⌜ PoppedFrom self r ⌝ }
     {
-        let first = self.slots[0];
+        let head = self.head;
+        let at = front(head);
+        let first = self.slots[at];
         let event = slots::event_of(first);
-        let slots = self.slots;
         let n = self.len;
-        let rest = moved_up(slots, n as usize);
-        self.slots = rest;
+        self.head = back(head, 1) as u8;
         self.len = n - 1;
         Popped { queue: self, event }
     }
 }
 
-// The slots from the second to the n-th, one place further forward.
-fn moved_up(mut slots: [Slot; 16], n: usize) -> [Slot; 16]
-    requires { ⌜ (1 ≤ n) × (n ≤ 16) ⌝ }
-    ensures { λ r. ⌜ (length r ≡ 16) × (take (n - 1) r ≡ drop 1 (take n slots)) ⌝ }
+// The place of the oldest event.
+pub fn front(head: u8) -> usize
+    requires { ⌜ head < 16 ⌝ }
+    ensures { λ at. ⌜ at ≡ head ⌝ }
 {
-    let mut i: usize = 0;
-    while i + 1 < n {
-        let next = slots[i + 1];
-        slots[i] = next;
-        i += 1;
+    head as usize
+}
+
+// The place that the next event takes; behind one event alone, the front once that is popped.
+pub fn back(head: u8, len: u8) -> usize
+    requires { ⌜ (head < 16) × (len ≤ 16) ⌝ }
+    ensures { λ at. ⌜ (at ≡ place head len) × (at < 16) ⌝ }
+{
+    let n = head as usize + len as usize;
+    if n < 16 {
+        return n;
     }
-    slots
+    n - 16
 }

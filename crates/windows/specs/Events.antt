@@ -18,7 +18,6 @@ use Rattle.order.specs.declared.WinId.{WinId}
 use Rattle.topmost.specs.Topmost.{nobody}
 use Rattle.windows.specs.declared.inner.events.Target.{Target}
 use Rattle.windows.specs.declared.inner.events.Target.the-variants.{Nobody, Focus, Point}
-use Rattle.windows.specs.declared.inner.events.Told.{Told}
 
 -- keys go to the focus, pointer events to a point, where a release alone is for the window that is remembered, `held`; a Resize goes nowhere, and
 -- a KeyFire is refused
@@ -81,10 +80,10 @@ takes w e = moveOr (λ x y. true) (λ _. ltb (length (w .queue)) 16) e
 abbrev pub told : Win → Event → Win
 told w e = moveOr (λ x y. withCursor (cursorTo (w .cursor) x y) w) (λ o. withQueue (pushed (w .queue) o) w) e
 
--- a window was told of an event: question 12, and on a no the very window comes back
-pub record ToldTo (w : Window) (e : Event) (r : Told) : Type 0 where
-  pub answer : r .answer ≡ asked ((12 is takes (winOf w) e) ∷ [])
-  pub becomes : winOf (r .window) ≡ told (winOf w) e
-  pub same : (r .answer ≡ 0 → ⊥) → r .window ≡ w
-  pub used : r .window .used ≡ w .used
-  pub rep : RepWindow (r .window)
+-- a window was told of an event and is v now, with answer n: question 12, and on a no the very window comes back
+pub record ToldTo (w : Window) (e : Event) (v : Window) (n : ℕ) : Type 0 where
+  pub answer : n ≡ asked ((12 is takes (winOf w) e) ∷ [])
+  pub becomes : winOf v ≡ told (winOf w) e
+  pub same : (n ≡ 0 → ⊥) → v ≡ w
+  pub used : v .used ≡ w .used
+  pub rep : RepWindow v

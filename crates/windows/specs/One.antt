@@ -1,11 +1,13 @@
 -- A call as a function of one window and of what the windows share: what it promises of every session that holds them.
 use Prim.Native.Nat.{ℕ, _<_}
 use mathlib.Core.Path.{_≡_}
-use mathlib.Core.Bool.{true, false}
+use mathlib.Core.Bool.{Bool, true, false}
 use mathlib.Core.List.{List}
 use mathlib.Core.Option.{none, some}
 use lib.ListN.{set}
 use Rattle.window.specs.declared.Window.{Window}
+use Rattle.window.specs.declared.damage.Area.{Area}
+use Rattle.window.specs.declared.damage.Damage.{Damage}
 use Rattle.rules.specs.Group.{firstFree}
 use Rattle.rules.specs.Calls.{Call, Create}
 use Rattle.rules.specs.Panels.{Write}
@@ -13,9 +15,10 @@ use Rattle.windows.specs.declared.Shared.{Shared}
 use Rattle.windows.specs.declared.Session.{Session}
 use Rattle.windows.specs.declared.Changed.{Changed}
 use Rattle.windows.specs.declared.SharedDone.{SharedDone}
-use Rattle.windows.specs.declared.WrittenOne.{WrittenOne}
 use Rattle.windows.specs.declared.CreatedOne.{CreatedOne}
 use Rattle.windows.specs.declared.FreeSlot.{FreeSlot}
+use Rattle.windows.specs.declared.inner.store.Painted.{Painted}
+use Rattle.windows.specs.Pixels.{setDamage}
 use Rattle.windows.specs.View.{group, windowAt, done, written, Given, Meets, MeetsStore, MeetsAltered, MeetsMark, MeetsId}
 
 -- where the window of an id lies: at its number. Any place will do for a number that no window has
@@ -35,6 +38,16 @@ pub record Held (id : ℕ) (w : Window) (k : Shared) : Type 0 where
   pub session : Session
   pub at : ℕ
   pub holds : Holds id w k session at
+
+-- some session holds a window with these fields, and shares this C
+pub record HeldAs (id : ℕ) (used : Bool) (at : Area) (damage : Damage) (c : ℕ) : Type 0 where
+  pub window : Window
+  pub shared : Shared
+  pub held : Held id window shared
+  pub is-used : window .used ≡ used
+  pub is-at : window .at ≡ at
+  pub is-damage : window .damage ≡ damage
+  pub is-c : shared .c ≡ c
 
 -- some session shares this
 pub record SharedBy (k : Shared) : Type 0 where
@@ -56,10 +69,17 @@ abbrev pub MeetsStoreAt : Call → ℕ → Window → Shared → Changed → Lis
 MeetsStoreAt call id w k r store =
     (s : Session) (at : ℕ) → Holds id w k s at → MeetsStore call s (done (put at (r .window) (r .shared) s) (r .answer)) store
 
--- the same of a fill or a blit
-abbrev pub MeetsAlteredAt : ℕ → Write → List ℕ → Window → Shared → WrittenOne → List ℕ → Type 0
+-- the same of a fill or a blit, which makes another damage of the window's
+abbrev pub MeetsAlteredAt : ℕ → Write → List ℕ → Window → Shared → Painted → List ℕ → Type 0
 MeetsAlteredAt id u p w k r store =
-    (s : Session) (at : ℕ) → Holds id w k s at → MeetsAltered id u p s (written (put at (r .window) (r .shared) s) (r .result)) store
+    (s : Session) (at : ℕ) → Holds id w k s at
+    → MeetsAltered id u p s (written (put at (setDamage (r .damage) w) k s) (r .result)) store
+
+-- it is handed fields: the same of every window with these fields, in every session with this C
+abbrev pub MeetsAlteredAs : ℕ → Write → List ℕ → Bool → Area → Damage → ℕ → Painted → List ℕ → Type 0
+MeetsAlteredAs id u p used at damage c r store =
+    (w : Window) (k : Shared) → w .used ≡ used → w .at ≡ at → w .damage ≡ damage → k .c ≡ c
+    → MeetsAlteredAt id u p w k r store
 
 -- the same of a mark
 abbrev pub MeetsMarkAt : ℕ → Window → Shared → Changed → Type 0

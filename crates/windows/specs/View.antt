@@ -76,7 +76,7 @@ group s =
 abbrev pub blank : Window
 blank =
     record {
-      queue = record { slots = []; len = 0 };
+      queue = record { slots = []; head = 0; len = 0 };
       damage = record { areas = []; len = 0 };
       at = record { x = 0; y = 0; w = 0; h = 0 };
       cursor = record { «old_x» = 0; «old_y» = 0; «new_x» = 0; «new_y» = 0; «is_dirty» = false };

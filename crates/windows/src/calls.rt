@@ -4,14 +4,14 @@ ghost use mathlib.Core.Path.{_≡_};
 ghost use Prim.Native.Nat.{_<_};
 ghost use Rattle.rules.specs.Calls.{Call};
 ghost use Rattle.rules.specs.Panels.{Write};
-ghost use Rattle.windows.specs.View.{done, written, Given, Meets, MeetsStore, MeetsAltered, MeetsMark, MeetsScreen, MeetsEvent};
+ghost use Rattle.windows.specs.View.{done, written, windowAt, Given, Meets, MeetsStore, MeetsAltered, MeetsMark, MeetsScreen, MeetsEvent};
 ghost use Rattle.windows.specs.One.{put};
+ghost use Rattle.windows.specs.Pixels.{setDamage};
 use crate::Changed;
 use crate::Done;
 use crate::Popped;
 use crate::Session;
 use crate::Written;
-use crate::WrittenOne;
 use crate::inner::dim;
 use crate::inner::dims;
 use crate::inner::events;
@@ -20,11 +20,14 @@ use crate::inner::one::slot;
 use crate::inner::portion;
 use crate::inner::redraw;
 use crate::inner::store;
+use crate::inner::store::Painted;
 use geom::Dims;
 use geom::Pos;
 use geom::Rect;
 use order::WinId;
 use window::Event;
+use window::queue::back;
+use window::queue::front;
 
 impl Session {
     // What a function of one window made, put in its place.
@@ -42,15 +45,15 @@ impl Session {
         }
     }
 
-    // The same of a fill or a blit.
-    fn put_written(mut self, at: usize, d: WrittenOne) -> Written
+    // The damage that a fill or a blit made, put in its window.
+    fn put_damage(mut self, at: usize, d: Painted) -> Written
         requires { ⌜ Given self × (at < 16) ⌝ }
-        ensures { λ r. ⌜ r ≡ written (put at (d .window) (d .shared) self) (d .result) ⌝ }
+        ensures { λ r. ⌜ r ≡ written (put at (setDamage (d .damage) (windowAt self at)) (self .shared) self) (d .result) ⌝ }
     {
-        let window = d.window;
+        let damage = d.damage;
+        let mut window = self.windows[at];
+        window.damage = damage;
         self.windows[at] = window;
-        let shared = d.shared;
-        self.shared = shared;
         let result = d.result;
         Written {
             session: self,
@@ -137,8 +140,12 @@ impl Session {
         ensures { λ r. ⌜ MeetsAltered (id .0) (Write.fill area colour) (now (store .entry)) self r (now (store .exit)) ⌝ }
     {
         let at = slot(id);
-        let d = store::fill(self.windows[at], self.shared, id, area, colour, store);
-        self.put_written(at, d)
+        let win = self.windows[at];
+        let place = win.at;
+        let damage = win.damage;
+        let c = self.shared.c;
+        let d = store::fill(win.used, place, damage, c, id, area, colour, store);
+        self.put_damage(at, d)
     }
 
     pub fn blit(
@@ -153,8 +160,12 @@ impl Session {
         ensures { λ r. ⌜ MeetsAltered (id .0) (Write.blit area (now («data» .entry)) stride) (now (store .entry)) self r (now (store .exit)) ⌝ }
     {
         let at = slot(id);
-        let d = store::blit(self.windows[at], self.shared, id, area, stride, data, store);
-        self.put_written(at, d)
+        let win = self.windows[at];
+        let place = win.at;
+        let damage = win.damage;
+        let c = self.shared.c;
+        let d = store::blit(win.used, place, damage, c, id, area, stride, data, store);
+        self.put_damage(at, d)
     }
 
     // The window takes the display that its position is on, and stays maximised until it is moved or resized.
@@ -197,8 +208,26 @@ impl Session {
     {
         let aim = events::aim_event(self, e);
         let at = aim.at;
-        let d = events::tell(self.windows[at], self.shared, aim.what);
-        self.put(at, d)
+        let mut window = self.windows[at];
+        let mut queue = window.queue;
+        let to = back(queue.head, queue.len);
+        let old = queue.slots[to];
+        let d = events::tell(old, window.cursor, queue.len, self.shared.held, aim.what);
+        let slot = d.slot;
+        queue.slots[to] = slot;
+        queue.len = d.len;
+        window.queue = queue;
+        let cursor = d.cursor;
+        window.cursor = cursor;
+        let mut shared = self.shared;
+        let held = d.held;
+        shared.held = held;
+        let told = Changed {
+            window,
+            shared,
+            answer: d.answer,
+        };
+        self.put(at, told)
     }
 
     pub fn pop(mut self, id: WinId) -> Popped
@@ -206,8 +235,16 @@ impl Session {
         ensures { λ r. ⌜ MeetsEvent (Call.Pop (id .0)) self r ⌝ }
     {
         let at = slot(id);
-        let d = events::pop(self.windows[at], id);
-        let window = d.window;
+        let mut window = self.windows[at];
+        let mut queue = window.queue;
+        let from = front(queue.head);
+        let first = queue.slots[from];
+        let d = events::pop(window.used, window.cursor, queue.head, queue.len, first, id);
+        queue.head = d.head;
+        queue.len = d.len;
+        window.queue = queue;
+        let cursor = d.cursor;
+        window.cursor = cursor;
         self.windows[at] = window;
         let event = d.event;
         Popped {

@@ -75,14 +75,6 @@ pub struct Done {
     pub answer: u32,
 }
 
-// What a fill or a blit makes of one window and of what the windows share; the answer, and how many pixels of the store differ.
-#[repr(C)]
-pub struct WrittenOne {
-    pub window: Window,
-    pub shared: Shared,
-    pub result: Altered,
-}
-
 // What a fill or a blit hands back: the session, the answer, and how many pixels of the store differ, none where the call was refused.
 #[repr(C)]
 pub struct Written {

@@ -14,6 +14,7 @@ use Rattle.geom.proofs.basics.Tests.{clash, fst, snd}
 use Rattle.geom.proofs.geometry.Facts.{In}
 use Rattle.window.specs.declared.Event.{Event}
 use Rattle.window.specs.declared.damage.Area.{Area}
+use Rattle.window.specs.declared.Window.{Window}
 use Rattle.window.specs.Window.{Win}
 use Rattle.rules.specs.Group.{win}
 use Rattle.rules.specs.Order.{shown}
@@ -27,7 +28,6 @@ use Rattle.windows.specs.declared.Shared.{Shared}
 use Rattle.windows.specs.declared.Changed.{Changed}
 use Rattle.windows.specs.declared.inner.events.Target.the-variants.{Point}
 use Rattle.windows.specs.declared.Done.{Done}
-use Rattle.windows.specs.declared.inner.events.Told.{Told}
 use Rattle.windows.specs.declared.inner.events.Aim.{Aim}
 use Rattle.windows.specs.View.{group, windowAt, Given, Meets, done}
 use Rattle.windows.specs.One.{put}
@@ -40,7 +40,7 @@ use Rattle.windows.proofs.laws.Routing.{point-tellable, held-point, poi
 
 module _ (Q : Done → Type 0) (s : Session) where
   pub aims-window : (at : ℕ) (i : Event) (m : WinId) → at < 16 → Tellable i
-      → ((t : Told) → ToldTo (windowAt s at) i t → Q (done (put at (t .window) (remembered (t .answer) m (s .shared)) s) (t .answer)))
+      → ((v : Window) (n : ℕ) → ToldTo (windowAt s at) i v n → Q (done (put at v (remembered n m (s .shared)) s) n))
       → Aims Q s (toWindow at i m)
   aims-window at i m l able told = record { inside = l; able = λ _. able; told = λ _. told; kept = λ q. clash refl q }
 
@@ -57,7 +57,7 @@ module _ (Q : Done → Type 0) (s : Session) where
       by : (b : Bool) → t .what .told ≡ b → Put r
       by true q =
           subst (λ (k : Shared). Q (done (put (t .at) (r .window) k s) (r .answer))) (sym (h .shared q))
-          (a .told q (record { window = r .window; answer = r .answer }) (h .told q))
+          (a .told q (r .window) (r .answer) (h .told q))
       by false q = subst Put (sym (h .kept q)) (subst (λ (u : Session). Q (done u (t .what .answer))) (sym (put-back s (t .at) refl refl)) (a .kept q))
 
 -- the window that an event at a point is for because it is remembered is shown
@@ -97,4 +97,6 @@ module _ (e : Event) (s : Session) (areas : List Area) (m : WinId) (x y id : ℕ
       is ∙ ap (λ (r : Rect). atPoint e (nearestX r x - left r) (nearestY r y - top r)) frame-is in
       aims-window (Meets (Route e) s) s id i n (at .low)
       (subst Tellable (sym is) (point-tellable e (s .shared .held) k _ _ (omega arith) (omega arith)))
-      (λ t to. window-told s e h (near (group s) e x y) x y id _ to-window l (at .used) n stands t (subst (λ (o : Event). ToldTo (windowAt s id) o t) j to))
+      (λ v a to.
+      window-told s e h (near (group s) e x y) x y id _ to-window l (at .used) n stands v a
+      (subst (λ (o : Event). ToldTo (windowAt s id) o v a) j to))

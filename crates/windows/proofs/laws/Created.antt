@@ -8,8 +8,8 @@ use native.Mathlib.Omega.{arith}
 use lib.ListN.{length, drop, set, length-map, drop-of-length-le}
 use lib.Seq.{drop-cons}
 use Rattle.window.specs.declared.Window.{Window}
-use Rattle.window.specs.Window.{Win, newWin}
-use Rattle.window.specs.Held.{winOf, RepWindow}
+use Rattle.window.specs.Window.{Win, newWin, cursorAtOrigin}
+use Rattle.window.specs.Held.{winOf, noArea, RepWindow}
 use Rattle.order.specs.declared.frames.Frames.{Frames}
 use Rattle.order.specs.Frames.{FirstFree}
 use Rattle.rules.specs.Group as Group
@@ -57,6 +57,27 @@ module _ (s : Session) (h : Given s) where
 pub full : (s : Session) → Given s → firstFree (group s .windows) 0 ≡ none → MeetsId Create s (record { session = s; answer = 4; id = Absent })
 unfolding does Group.create
 full s h e = record { meets = refuses Create s 3 h (rw e); id = sym e }
+
+-- a new window: nothing waits in its queue, and it has no damage. Past the entries the arrays are as they were
+abbrev pub renewed : Window → Window
+renewed w =
+    record {
+      queue = record { slots = w .queue .slots; head = w .queue .head; len = 0 };
+      damage = record { areas = w .damage .areas; len = 0 };
+      at = noArea;
+      cursor = cursorAtOrigin;
+      used = true;
+      marked = false;
+    }
+
+pub renewed-rep : {w : Window} → RepWindow w → RepWindow (renewed w)
+renewed-rep r =
+    record {
+      at = omega arith;
+      damage = record { areas = r .damage .areas; len = omega arith; low = λ i l. absurd (omega (arith, l)) };
+      queue = record { slots = r .queue .slots; head = r .queue .head; len = omega arith };
+      cursor = omega arith;
+    }
 
 -- its layer is 0, and it is not maximised
 abbrev lowest : ℕ → Session → Session

@@ -1,7 +1,7 @@
 -- A law of the window that lies at an id's place, in every session that holds it.
 use Prim.Native.Nat.{ℕ, _<_}
 use mathlib.Core.Path.{_≡_, refl, sym, ap, subst, _∙_}
-use mathlib.Core.Bool.{true, false, _&&_}
+use mathlib.Core.Bool.{Bool, true, false, _&&_}
 use mathlib.Core.List.{List}
 use mathlib.Core.Logic.{⊎-elim}
 use mathlib.Core.Option.{Option}
@@ -10,6 +10,8 @@ use lib.Seq.{set-getD}
 use borrow.Author.Tests.{ltb-true, lt-ltb, le-ltb}
 use Rattle.geom.proofs.basics.Tests.{fst, snd, lt-or-le}
 use Rattle.window.specs.declared.Window.{Window}
+use Rattle.window.specs.declared.damage.Area.{Area}
+use Rattle.window.specs.declared.damage.Damage.{Damage}
 use Rattle.window.specs.Held.{winOf, RepWindow}
 use Rattle.order.specs.Ids.{ids}
 use Rattle.order.specs.Order.{renderIdx}
@@ -21,9 +23,10 @@ use Rattle.windows.specs.declared.Session.{Session}
 use Rattle.windows.specs.declared.Changed.{Changed}
 use Rattle.windows.specs.declared.Done.{Done}
 use Rattle.windows.specs.declared.Written.{Written}
-use Rattle.windows.specs.declared.WrittenOne.{WrittenOne}
+use Rattle.windows.specs.declared.inner.store.Painted.{Painted}
 use Rattle.windows.specs.View.{blank, group, windowAt, holding, ruled, rewritten, done, written, Given, Meets, MeetsStore, MeetsAltered, MeetsMark}
-use Rattle.windows.specs.One.{At, Holds, Held, put, MeetsAt, MeetsStoreAt, MeetsAlteredAt, MeetsMarkAt}
+use Rattle.windows.specs.One.{At, Holds, Held, HeldAs, put, MeetsAt, MeetsStoreAt, MeetsAlteredAs, MeetsMarkAt}
+use Rattle.windows.specs.Pixels.{setDamage}
 use Rattle.windows.proofs.laws.Session.{used-at, used-past}
 
 -- Parts of a session ---------------------------------------------------------------------------------------------------
@@ -42,6 +45,37 @@ put-back s at {w} {k} is same =
 -- a place that was found in what is shared is the session's
 pub same-place : (id : ℕ) (o : Option ℕ) {k m : Shared} → m ≡ k → o ≡ renderIdx id (ids (k .shown) (k .order)) → o ≡ renderIdx id (ids (m .shown) (m .order))
 same-place id o same = subst (λ (j : Shared). o ≡ renderIdx id (ids (j .shown) (j .order))) (sym same)
+
+-- Fields of a window --------------------------------------------------------------------------------------------------
+
+-- the window with another use, place and damage
+abbrev pub fields : Bool → Area → Damage → Window → Window
+fields u a d w = record { queue = w .queue; damage = d; at = a; cursor = w .cursor; used = u; marked = w .marked }
+
+-- what holds of it holds of a window that has them
+pub by-fields : (P : Window → Type 0) {u : Bool} {a : Area} {d : Damage} (w : Window) → w .used ≡ u → w .at ≡ a
+    → w .damage ≡ d → P (fields u a d w) → P w
+by-fields P w u a d = subst P (λ i. fields (sym u i) (sym a i) (sym d i) w)
+
+-- what is shared, with another C
+abbrev pub sized : ℕ → Shared → Shared
+sized c k =
+    record {
+      order = k .order;
+      shown = k .shown;
+      c = c;
+      focus = k .focus;
+      dimmed = k .dimmed;
+      held = k .held;
+      due = k .due;
+      layers = k .layers;
+      maximised = k .maximised;
+    }
+
+pub by-c : (P : Shared → Type 0) {c : ℕ} (k : Shared) → k .c ≡ c → P (sized c k) → P k
+by-c P k e = subst P (λ i. sized (sym e i) k)
+
+-- Sessions that hold a window -----------------------------------------------------------------------------------------
 
 -- a session that holds the window of an id in use
 pub record Here (id : ℕ) (w : Window) (k : Shared) (s : Session) : Type 0 where
@@ -126,9 +160,26 @@ module _ {id at : ℕ} {s : Session} (h : Given s) (p : At id at) where
       → r ≡ done (put at (d .window) (d .shared) s) (d .answer) → MeetsStore call s r t
   by-store {call} {t} d m e = subst (λ (r : Done). MeetsStore call s r t) (sym e) (m s at own)
 
-  pub by-altered : {u : Write} {p t : List ℕ} {r : Written} (d : WrittenOne) → MeetsAlteredAt id u p (windowAt s at) (s .shared) d t
-      → r ≡ written (put at (d .window) (d .shared) s) (d .result) → MeetsAltered id u p s r t
-  by-altered {u} {p} {t} d m e = subst (λ (r : Written). MeetsAltered id u p s r t) (sym e) (m s at own)
+  -- a fill or a blit is handed fields of the window
+  pub held-as : HeldAs id (windowAt s at .used) (windowAt s at .at) (windowAt s at .damage) (s .shared .c)
+  held-as =
+      record {
+        window = windowAt s at;
+        shared = s .shared;
+        held = held;
+        is-used = refl;
+        is-at = refl;
+        is-damage = refl;
+        is-c = refl;
+      }
+
+  pub by-altered : {u : Write} {p t : List ℕ} {r : Written} (d : Painted)
+      → MeetsAlteredAs id u p (windowAt s at .used) (windowAt s at .at) (windowAt s at .damage) (s .shared .c) d t
+      → r ≡ written (put at (setDamage (d .damage) (windowAt s at)) (s .shared) s) (d .result)
+      → MeetsAltered id u p s r t
+  by-altered {u} {p} {t} d m e =
+      subst (λ (r : Written). MeetsAltered id u p s r t) (sym e)
+      (m (windowAt s at) (s .shared) refl refl refl refl s at own)
 
   pub by-mark : {r : Done} (d : Changed) → MeetsMarkAt id (windowAt s at) (s .shared) d → r ≡ done (put at (d .window) (d .shared) s) (d .answer)
       → MeetsMark id s r

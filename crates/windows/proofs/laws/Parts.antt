@@ -1,14 +1,12 @@
--- A window with another queue or cursor, and how many events wait.
+-- A window with another queue or cursor, and one whose queue is empty.
 use Prim.Native.Nat.{_≤_}
-use mathlib.Core.Path.{_≡_, _∙_}
+use mathlib.Core.Path.{_≡_}
 use mathlib.Core.List.{[]}
 use native.Mathlib.Omega.{arith}
-use lib.ListN.{length, take, length-map}
-use lib.Seq.{length-take-le}
 use Rattle.window.specs.declared.CursorPos.{CursorPos}
 use Rattle.window.specs.declared.Window.{Window}
 use Rattle.window.specs.declared.queue.Queue.{Queue}
-use Rattle.window.specs.Held.{events, eventOf, RepQueue, RepCursor, RepWindow}
+use Rattle.window.specs.Held.{events, RepQueue, RepCursor, RepWindow}
 
 abbrev pub setQueue : Queue → Window → Window
 setQueue q w = record { queue = q; damage = w .damage; at = w .at; cursor = w .cursor; used = w .used; marked = w .marked }
@@ -21,9 +19,6 @@ queue-rep q w r h = record { at = r .at; damage = r .damage; queue = h; cursor =
 
 pub cursor-rep : (p : CursorPos) (w : Window) → RepWindow w → RepCursor p → RepWindow (setCursor p w)
 cursor-rep p w r h = record { at = r .at; damage = r .damage; queue = r .queue; cursor = h }
-
-pub events-length : (q : Queue) → RepQueue q → length (events q) ≡ q .len
-events-length q r = length-map (take (q .len) (q .slots)) eventOf ∙ length-take-le (q .len) (q .slots) (omega (arith, r .slots, r .len))
 
 pub no-events : (q : Queue) → q .len ≤ 0 → events q ≡ []
 no-events q h = let z : q .len ≡ 0 = omega arith in rw z

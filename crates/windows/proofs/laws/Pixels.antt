@@ -10,7 +10,7 @@ use lib.Dec.{ltb}
 use lib.ListN.{take}
 use borrow.Author.Tests.{ltb-true, lt-ltb}
 use Rattle.geom.specs.declared.Rect.{Rect}
-use Rattle.geom.specs.Geom.{left, top, width, height, isEmpty, meets, common}
+use Rattle.geom.specs.Geom.{rect, left, top, width, height, isEmpty, meets, common}
 use Rattle.geom.specs.Inner.{Fits, Within}
 use Rattle.geom.proofs.basics.Tests.{clash, on-cond, lt-or-le}
 use Rattle.geom.proofs.geometry.Facts.{Meet, says-meet, solid, common-within}
@@ -18,6 +18,7 @@ use Rattle.scanline.specs.Pixels.{writeRows, part}
 use Rattle.scanline.specs.Rows.{Inside, Counted}
 use Rattle.scanline.proofs.rows.Altered.{altered-same}
 use Rattle.window.specs.declared.Window.{Window}
+use Rattle.window.specs.declared.damage.Area.{Area}
 use Rattle.window.specs.declared.damage.Damage.{Damage}
 use Rattle.window.specs.Window.{Win}
 use Rattle.window.specs.Held.{winOf, Small, RepWindow, withEntries}
@@ -25,7 +26,9 @@ use Rattle.window.specs.Inner.{PastAs, Dirtied}
 use Rattle.window.proofs.laws.Entries.{all-of}
 use Rattle.rules.specs.Store.{withDamage, dirtied, bounds, filledPart, filledAt, blitRows, blitAt}
 use Rattle.windows.specs.View.{filledWin, blitWin, holding}
-use Rattle.windows.specs.Pixels.{Becomes, Stored, setDamage}
+use Rattle.windows.specs.Pixels.{Becomes, RowsIn, setDamage, Paints, PaintsAs, BlitsAs}
+use Rattle.windows.specs.declared.inner.store.Painted.{Painted}
+use Rattle.windows.proofs.laws.One.{fields, by-fields}
 
 -- the same window by a rule that gives the same
 becomes : {w r : Window} {v v′ : Win} → Becomes w v r → v ≡ v′ → Becomes w v′ r
@@ -48,8 +51,8 @@ is-holding {w} {v} {d} b e =
     λ i. record { queue = w .queue; damage = damage i; at = w .at; cursor = w .cursor; used = w .used; marked = marked i }
 
 -- a window left as it was
-kept : {w : Window} {len base : ℕ} {v : Win} → Stored len base w → winOf w ≡ v → Becomes w v w
-kept s e = record { used = refl; rep = s .rep; is = e }
+kept : {w : Window} {v : Win} → RepWindow w → winOf w ≡ v → Becomes w v w
+kept r e = record { used = refl; rep = r; is = e }
 
 -- a side of the common part with (0,0,W,H)
 cut-low : (x : ℕ) → max x 0 ≡ x
@@ -66,70 +69,97 @@ counts c e = record { pixels = c .pixels ∙ e; altered = c .altered }
 uncounted : {rule s : List ℕ} → s ≡ rule → Counted rule s s 0
 uncounted {s = s} e = record { pixels = e; altered = sym (altered-same s) }
 
+-- The window at a place -----------------------------------------------------------------------------------------------
+
+-- a law of the window with this place and this damage is one of every window that has them
+pub paints : {at : Area} {d : Damage} (f : Win → Win) (F : Win → List ℕ) {p t : List ℕ} {r : Painted}
+    → ((w : Window) → let v = fields (w .used) at d w in RepWindow v → Paints v (f (winOf v)) (F (winOf v)) p r t)
+    → PaintsAs at d f F p r t
+paints f F {p} {t} {r} law w rep a d =
+    by-fields (λ v. RepWindow v → Paints v (f (winOf v)) (F (winOf v)) p r t) w refl a d (law w) rep
+
+pub blits : {at : Area} (base : ℕ) (a : Rect) (datum : List ℕ) (stride : ℕ) (p : List ℕ) {t : List ℕ} {n : ℕ}
+    → ((w : Window) → Counted (blitAt base (winOf (fields (w .used) at (w .damage) w)) a datum stride p) p t n)
+    → BlitsAs base at a datum stride p t n
+blits base a datum stride p {t} {n} law w e =
+    by-fields (λ v. Counted (blitAt base (winOf v) a datum stride p) p t n) w refl e refl (law w)
+
+-- its own pixels, from its corner
+abbrev pub boundsOf : Area → Rect
+boundsOf at = rect 0 0 (at .w) (at .h)
+
 -- The area and the window --------------------------------------------------------------------------------------------
 
 -- an area, and the window's own rectangle as the code has it
-pub record Cut (len base : ℕ) (w : Window) (a all : Rect) : Type 0 where
-  pub stored : Stored len base w
+pub record Cut (len base : ℕ) (at : Area) (a all : Rect) : Type 0 where
+  pub rows : RowsIn len base at
   pub small : Small a
-  pub is : all ≡ bounds (winOf w)
+  pub is : all ≡ boundsOf at
 
-module _ {len base : ℕ} {w : Window} {a all : Rect} (q : Cut len base w a all) where
+module _ {len base : ℕ} {at : Area} {a all : Rect} (q : Cut len base at a all) where
   pub fits : Fits a × Fits all
   fits =
       let s = q .small in
-      let o = q .stored .rep .at in
-      let e : Fits (bounds (winOf w)) = omega arith in
+      let o = q .rows .small in
+      let e : Fits (boundsOf at) = omega arith in
       (omega arith, subst Fits (sym (q .is)) e)
 
-  is-met : {t : Bool} → meets a all ≡ t → meets a (bounds (winOf w)) ≡ t
+  is-met : {t : Bool} → meets a all ≡ t → meets a (boundsOf at) ≡ t
   is-met m = ap (meets a) (sym (q .is)) ∙ m
 
-  is-part : {k : Rect} → k ≡ common a all → k ≡ common a (bounds (winOf w))
+  is-part : {k : Rect} → k ≡ common a all → k ≡ common a (boundsOf at)
   is-part e = e ∙ ap (common a) (q .is)
 
-  pub in-window : meets a all ≡ true → {k : Rect} → k ≡ common a all → Within (bounds (winOf w)) k
+  pub in-window : meets a all ≡ true → {k : Rect} → k ≡ common a all → Within (boundsOf at) k
   in-window m e =
-      subst (Within (bounds (winOf w))) (sym (is-part e))
-      (common-within a (bounds (winOf w)) (says-meet a (bounds (winOf w)) .fact (is-met m)) .1)
+      subst (Within (boundsOf at)) (sym (is-part e))
+      (common-within a (boundsOf at) (says-meet a (boundsOf at) .fact (is-met m)) .1)
 
-  module _ {k : Rect} (i : Within (bounds (winOf w)) k) where
-    pub room : Inside len base (w .at .w) (left k) (top k) (width k) (height k)
+  module _ {k : Rect} (i : Within (boundsOf at) k) where
+    pub room : Inside len base (at .w) (left k) (top k) (width k) (height k)
     room =
-        let s : top k + height k ≤ w .at .h = omega arith in
-        let m : (top k + height k) * w .at .w ≤ w .at .h * w .at .w = mul-le-mul-right (w .at .w) s in
-        let o = q .stored .rep .at in
-        let r = q .stored .room in
-        record { wide = omega arith; high = omega (arith, mul-comm (w .at .h) (w .at .w)); small = omega arith }
+        let s : top k + height k ≤ at .h = omega arith in
+        let m : (top k + height k) * at .w ≤ at .h * at .w = mul-le-mul-right (at .w) s in
+        let o = q .rows .small in
+        let r = q .rows .room in
+        record { wide = omega arith; high = omega (arith, mul-comm (at .h) (at .w)); small = omega arith }
 
     pub part-small : Small k
-    part-small = let o = q .stored .rep .at in omega arith
+    part-small = let o = q .rows .small in omega arith
 
-  -- Fill -------------------------------------------------------------------------------------------------------------
+-- Fill ----------------------------------------------------------------------------------------------------------------
 
+module _ {len base : ℕ} (w : Window) {a all : Rect} (q : Cut len base (w .at) a all) where
   pub filled : (k : Rect) (r : Window) (v : ℕ) (store t : List ℕ) (n : ℕ) → meets a all ≡ true → k ≡ common a all → Becomes w (dirtied k (winOf w)) r
       → Counted (filledPart base (winOf w) k v store) store t n
       → Becomes w (filledWin a (winOf w)) r × Counted (filledAt base (winOf w) a v store) store t n
   unfolding filledWin filledAt
   filled k r v store t n m e b f = (
-    becomes b (ap (λ (p : Rect). dirtied p (winOf w)) (is-part e) ∙ rw (is-met m)),
-    counts f (ap (λ (p : Rect). filledPart base (winOf w) p v store) (is-part e) ∙ rw (is-met m)),
+    becomes b (ap (λ (p : Rect). dirtied p (winOf w)) (is-part q e) ∙ rw (is-met q m)),
+    counts f (ap (λ (p : Rect). filledPart base (winOf w) p v store) (is-part q e) ∙ rw (is-met q m)),
   )
 
-  pub not-filled : (v : ℕ) (store : List ℕ) → meets a all ≡ false
+  pub not-filled : (v : ℕ) (store : List ℕ) → RepWindow w → meets a all ≡ false
       → Becomes w (filledWin a (winOf w)) w × Counted (filledAt base (winOf w) a v store) store store 0
   unfolding filledWin filledAt
-  not-filled v store m = (kept (q .stored) (rw (is-met m)), uncounted (rw (is-met m)))
+  not-filled v store r m = (kept r (rw (is-met q m)), uncounted (rw (is-met q m)))
 
 -- Blit -----------------------------------------------------------------------------------------------------------------
 
 -- an empty area
-pub not-blit : {len base : ℕ} {w : Window} (a : Rect) (datum : List ℕ) (stride : ℕ) (store : List ℕ) → Stored len base w → isEmpty a ≡ true
+pub not-blit : (base : ℕ) (w : Window) (a : Rect) (datum : List ℕ) (stride : ℕ) (store : List ℕ) → RepWindow w
+    → isEmpty a ≡ true
     → Becomes w (blitWin a (winOf w)) w × Counted (blitAt base (winOf w) a datum stride store) store store 0
 unfolding blitWin blitAt
-not-blit a datum stride store s e = (kept s (rw e), uncounted (rw e))
+not-blit base w a datum stride store r e = (kept r (rw e), uncounted (rw e))
 
-module _ {len base : ℕ} {w : Window} {a all : Rect} (q : Cut len base w a all) (e : isEmpty a ≡ false) where
+-- another
+pub blit-win : (w : Window) (a : Rect) {r : Window} → isEmpty a ≡ false → Becomes w (dirtied a (winOf w)) r
+    → Becomes w (blitWin a (winOf w)) r
+unfolding blitWin
+blit-win w a e b = becomes b (rw e)
+
+module _ {len base : ℕ} (w : Window) {a all : Rect} (q : Cut len base (w .at) a all) (e : isEmpty a ≡ false) where
   some-rows : meets a all ≡ true → blitRows (winOf w) a ≡ min (height a) (w .at .h - top a)
   some-rows m =
       let i = says-meet a (bounds (winOf w)) .fact (is-met q m) in
@@ -146,10 +176,6 @@ module _ {len base : ℕ} {w : Window} {a all : Rect} (q : Cut len base w a all)
           let s = solid a e in
           let i : Meet a (bounds (winOf w)) = omega arith in
           clash (says-meet a (bounds (winOf w)) .test i) (is-met q m)
-
-  pub blit-win : {r : Window} → Becomes w (dirtied a (winOf w)) r → Becomes w (blitWin a (winOf w)) r
-  unfolding blitWin
-  blit-win b = becomes b (rw e)
 
   module _ (datum : List ℕ) (stride : ℕ) (store : List ℕ) where
     -- rows of an area at (x,y), of m by n

@@ -150,6 +150,7 @@ module _ (w : Window) (k : Shared) (x : Next) where
   -- what the drawing of the window asks
   pub drawable : Turned w k x → k .due .walk .on ≡ true → (store : List ℕ) → length store ≡ 16 * k .c
       → RepWindow w × (x .base + w .at .w * w .at .h ≤ length store) × Lent (x .above .len) (x .above .numbers)
+      × (x .above .len ≤ 16)
   drawable t on store e =
       let h = t .on-turn in
       let s = t .session in
@@ -159,8 +160,13 @@ module _ (w : Window) (k : Shared) (x : Next) where
       let room : t .at * s .shared .c + windowAt s (t .at) .at .w * windowAt s (t .at) .at .h ≤ 16 * s .shared .c =
       subst (λ (i : ℕ). i * s .shared .c + windowAt s i .at .w * windowAt s i .at .h ≤ 16 * s .shared .c) place
       (in-store s (h .given) _ (place-low s (h .given) o) _ refl) in
-      subst (λ (u : Window). RepWindow u × (x .base + u .at .w * u .at .h ≤ length store) × Lent (x .above .len) (x .above .numbers)) (h .window)
-      (h .given .rep .each (t .at) (h .turns .inside), omega (arith, room, n .base, e, ap (λ (j : Shared). j .c) (h .shared)), lends _ _ (n .above))
+      subst (λ (u : Window). RepWindow u × (x .base + u .at .w * u .at .h ≤ length store)
+      × Lent (x .above .len) (x .above .numbers) × (x .above .len ≤ 16)) (h .window) (
+        h .given .rep .each (t .at) (h .turns .inside),
+        omega (arith, room, n .base, e, ap (λ (j : Shared). j .c) (h .shared)),
+        lends _ _ (n .above),
+        omega (arith, n .above .few, n .above .count),
+      )
 
   -- the array of the rectangles
   pub numbers-room : Turned w k x → k .due .walk .on ≡ true → length (x .above .numbers) ≡ 64

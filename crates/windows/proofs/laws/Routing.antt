@@ -9,6 +9,7 @@ use Rattle.geom.specs.Questions.{Question, _is_, small}
 use Rattle.geom.specs.Geom.{left, top}
 use Rattle.window.specs.declared.Event.{Event}
 use Rattle.window.specs.declared.Event.the-variants.{Resize, KeyDown, KeyUp, KeyFire, Text, MouseMove, MouseDown, MouseClick, MouseUp}
+use Rattle.window.specs.declared.Window.{Window}
 use Rattle.rules.specs.Group.{Group, Outcome, win, setWin, withHeld, leaves, someId, idOr}
 use Rattle.rules.specs.Order.{shown}
 use Rattle.geom.specs.Nearest.{nearestX, nearestY}
@@ -21,7 +22,6 @@ use Rattle.topmost.specs.Topmost as Topmost
 use Rattle.windows.specs.declared.Session.{Session}
 use Rattle.windows.specs.declared.inner.events.Target.{Target}
 use Rattle.windows.specs.declared.inner.events.Target.the-variants.{Nobody, Focus, Point}
-use Rattle.windows.specs.declared.inner.events.Told.{Told}
 use Rattle.windows.specs.View.{group, windowAt, Given, Meets, done}
 use Rattle.windows.specs.One.{put}
 use Rattle.windows.specs.Events.{targetOf, atPoint, heldAfter, Tellable, takes, told, ToldTo}
@@ -165,12 +165,13 @@ module _ (s : Session) (e : Event) (h : Given s) where
     pub no-focus : shown (group s) (s .shared .focus .0) ≡ false → Meets (Route e) s (done s 11)
     no-focus n = refuses (Route e) s 10 h (ap (λ (o : Outcome). o .answer) to-focus ∙ rw n)
 
-    pub focus-told : shown (group s) (s .shared .focus .0) ≡ true → windowAt s (s .shared .focus .0) .used ≡ true → (t : Told)
-        → ToldTo (windowAt s (s .shared .focus .0)) e t
-        → Meets (Route e) s (done (put (s .shared .focus .0) (t .window) (remembered (t .answer) (s .shared .held) (s .shared)) s) (t .answer))
+    pub focus-told : shown (group s) (s .shared .focus .0) ≡ true → windowAt s (s .shared .focus .0) .used ≡ true
+        → (v : Window) (a : ℕ) → ToldTo (windowAt s (s .shared .focus .0)) e v a
+        → Meets (Route e) s (done (put (s .shared .focus .0) v (remembered a (s .shared .held) (s .shared)) s) a)
     unfolding group
-    focus-told n u t to =
-        tells (Route e) s (s .shared .focus .0) e t h u to (s .shared .held) (group s .held) refl (keyAsks (group s) e (s .shared .focus .0)) to-focus (rw n)
+    focus-told n u v a to =
+        tells (Route e) s (s .shared .focus .0) e v a h u to (s .shared .held) (group s .held) refl
+        (keyAsks (group s) e (s .shared .focus .0)) to-focus (rw n)
 
   module _ (m : WinId) (x y : ℕ) (k : targetOf e (s .shared .held) ≡ Point m x y) where
     pub to-point : {o : Option ℕ} → holder (group s) (heldOf m) ≡ o → does (group s) (Route e) ≡ released (group s) e x y o
@@ -189,6 +190,8 @@ module _ (s : Session) (e : Event) (h : Given s) where
 
   -- to a window, for which the event is `i`
   pub window-told : (i : ℕ → Event) (x y id : ℕ) (held : Option ℕ) → does (group s) (Route e) ≡ pointed (group s) i x y (some id) held
-      → small x && small y ≡ true → windowAt s id .used ≡ true → (m : WinId) → heldOf m ≡ held → (t : Told) → ToldTo (windowAt s id) (i id) t
-      → Meets (Route e) s (done (put id (t .window) (remembered (t .answer) m (s .shared)) s) (t .answer))
-  window-told i x y id held d l u m stands t to = tells (Route e) s id (i id) t h u to m held stands (pointAsks (group s) i x y (some id)) d (rw l)
+      → small x && small y ≡ true → windowAt s id .used ≡ true → (m : WinId) → heldOf m ≡ held
+      → (v : Window) (a : ℕ) → ToldTo (windowAt s id) (i id) v a
+      → Meets (Route e) s (done (put id v (remembered a m (s .shared)) s) a)
+  window-told i x y id held d l u m stands v a to =
+      tells (Route e) s id (i id) v a h u to m held stands (pointAsks (group s) i x y (some id)) d (rw l)

@@ -17,8 +17,10 @@ use Rattle.geom.proofs.basics.Tests.{clash, fst, snd}
 use Rattle.scanline.specs.Altered.{altered}
 use Rattle.scanline.proofs.rows.Altered.{altered-same}
 use Rattle.window.specs.declared.Window.{Window}
+use Rattle.window.specs.declared.damage.Area.{Area}
+use Rattle.window.specs.declared.damage.Damage.{Damage}
 use Rattle.window.specs.Window.{Win}
-use Rattle.window.specs.Held.{winOf, Small, RepWindow}
+use Rattle.window.specs.Held.{winOf, Small, RepDamage, RepWindow}
 use Rattle.rules.specs.Group.{Group, used, win, winAt, theWin, someWin, withWindows, setWin}
 use Rattle.rules.specs.Store.{whole}
 use Rattle.rules.specs.Calls.{Call, does, accepted}
@@ -28,12 +30,14 @@ use Rattle.rules.proofs.group.Refused.{refused-store}
 use Rattle.rules.proofs.group.Invariant.{WinOk}
 use Rattle.windows.specs.declared.Shared.{Shared}
 use Rattle.windows.specs.declared.Session.{Session}
-use Rattle.windows.specs.View.{group, windowAt, holding, ruled, Rep, Given, MeetsStore, done}
-use Rattle.windows.specs.One.{Holds, Held, put, MeetsStoreAt, MeetsAlteredAt}
-use Rattle.windows.specs.Pixels.{Becomes, Stored}
+use Rattle.windows.specs.declared.inner.store.Painted.{Painted}
+use Rattle.windows.specs.View.{group, windowAt, holding, ruled, Given, MeetsStore, MeetsAltered, done, written}
+use Rattle.windows.specs.One.{Holds, Held, HeldAs, put, MeetsStoreAt, MeetsAlteredAt, MeetsAlteredAs}
+use Rattle.windows.specs.Pixels.{Becomes, RowsIn, PaintsAs, setDamage}
 use Rattle.windows.proofs.laws.Session.{used-at, win-at, putWindow, put-group, put-rep, given-ok, refuses, gives}
-use Rattle.windows.proofs.laws.Shared.{Shares}
-use Rattle.windows.proofs.laws.One.{stays, changes, rewrites, asks-used}
+use Rattle.windows.proofs.laws.Shared.{Shares, same-shared}
+use Rattle.windows.proofs.laws.One.{fields, by-fields, sized, by-c, stays, changes, rewrites, asks-used}
+use Rattle.windows.proofs.laws.Pixels.{is-holding}
 
 -- Question 5 ---------------------------------------------------------------------------------------------------------
 
@@ -54,26 +58,26 @@ pub record Rule (call : Call) (id : ℕ) (store : List ℕ) (rest : ℕ → List
   pub after : (g : Group) → used g id ≡ true → does g call .group ≡ cond (accepted g call) (G (setWin id (some (f (win g id))) g)) g
   pub stored : (g : Group) → does g call .store ≡ cond (accepted g call) (F (g .c) (win g id)) store
 
--- its questions, as the code asks them of a window and of what is shared
-abbrev questions : ℕ → Window → Shared → List ℕ → List Question → List Question
-questions id w k store rest = (1 is eqb (length store) (16 * k .c)) ∷ (3 is (ltb id 16 && w .used)) ∷ rest
+-- its questions, as the code asks them: whether the window is in use, and C
+abbrev questions : ℕ → Bool → ℕ → List ℕ → List Question → List Question
+questions id u c store rest = (1 is eqb (length store) (16 * c)) ∷ (3 is (ltb id 16 && u)) ∷ rest
 
 -- the call is refused with the answer n
 abbrev Refused : Call → ℕ → Window → Shared → List ℕ → ℕ → Type 0
 Refused call id w k store n = MeetsStoreAt call id w k (record { window = w; shared = k; answer = n }) store
 
 -- 1 and 3 are answered yes
-pub record Writable (id : ℕ) (w : Window) (k : Shared) (store : List ℕ) : Type 0 where
-  pub whole : length store ≡ 16 * k .c
+pub record Writable (id : ℕ) (u : Bool) (c : ℕ) (store : List ℕ) : Type 0 where
+  pub whole : length store ≡ 16 * c
   pub low : id < 16
-  pub used : w .used ≡ true
+  pub used : u ≡ true
 
 -- as the code asks them
-pub writable : {id : ℕ} {w : Window} {k : Shared} {store : List ℕ} {b : Bool} → length store ≡ 16 * k .c → b ≡ ltb id 16 && w .used → b ≡ true
-    → Writable id w k store
-writable {id} {w} e u t =
-    let y : ltb id 16 && w .used ≡ true = sym u ∙ t in
-    record { whole = e; low = ltb-true id 16 (fst (ltb id 16) (w .used) y); used = snd (ltb id 16) (w .used) y }
+pub writable : {id : ℕ} {u : Bool} {c : ℕ} {store : List ℕ} {b : Bool} → length store ≡ 16 * c → b ≡ ltb id 16 && u
+    → b ≡ true → Writable id u c store
+writable {id} {u} e p t =
+    let y : ltb id 16 && u ≡ true = sym p ∙ t in
+    record { whole = e; low = ltb-true id 16 (fst (ltb id 16) u y); used = snd (ltb id 16) u y }
 
 module _ {call : Call} {id : ℕ} {store : List ℕ} {rest : ℕ → List Question} {f : Win → Win} {F : ℕ → Win → List ℕ} {G : Group → Group}
     (rule : Rule call id store rest f F G) where
@@ -102,16 +106,21 @@ module _ {call : Call} {id : ℕ} {store : List ℕ} {rest : ℕ → List Questi
         stored = b .1 ∙ ap (F (s .shared .c)) v ∙ sym (rule .stored (group s) ∙ rw y);
       }
 
+  rest-asked : {u : Bool} {c : ℕ} → Writable id u c store → asked (questions id u c store (rest c)) ≡ asked (rest c)
+  rest-asked {u} {c} o = rw (eq-eqb (length store) (16 * c) (o .whole), lt-ltb id 16 (o .low), o .used)
+
   -- Of a window that a session holds
 
   module _ {w : Window} {k : Shared} where
-    answers : (s : Session) (at : ℕ) → Holds id w k s at → does (group s) call .answer ≡ asked (questions id w k store (rest (k .c)))
+    answers : (s : Session) (at : ℕ) → Holds id w k s at
+        → does (group s) call .answer ≡ asked (questions id (w .used) (k .c) store (rest (k .c)))
     unfolding group
     answers s at h =
         rule .asks (group s)
         ∙ (λ i. asked ((1 is eqb (length store) (16 * h .shared i .c)) ∷ (3 is asks-used s at h i) ∷ rest (h .shared i .c)))
 
-    refused : (n : ℕ) → asked (questions id w k store (rest (k .c))) ≡ suc n → Refused call id w k store (suc n)
+    refused : (n : ℕ) → asked (questions id (w .used) (k .c) store (rest (k .c))) ≡ suc n
+        → Refused call id w k store (suc n)
     refused n e s at h =
         stays (λ (s t : Session). does (group s) call .answer ≡ suc n → MeetsStore call s (done t (suc n)) store) (refuses-store n) s at h
         (answers s at h ∙ e)
@@ -124,13 +133,10 @@ module _ {call : Call} {id : ℕ} {store : List ℕ} {rest : ℕ → List Questi
         let n : ltb id 16 && w .used ≡ false = sym u ∙ t in
         refused 2 (rw (eq-eqb (length store) (16 * k .c) e, n))
 
-    module _ (o : Writable id w k store) where
-      rest-asked : asked (questions id w k store (rest (k .c))) ≡ asked (rest (k .c))
-      rest-asked = rw (eq-eqb (length store) (16 * k .c) (o .whole), lt-ltb id 16 (o .low), o .used)
-
+    module _ (o : Writable id (w .used) (k .c) store) where
       -- a later question is answered no
       pub no : (n : ℕ) → asked (rest (k .c)) ≡ suc n → Refused call id w k store (suc n)
-      no n e = refused n (rest-asked ∙ e)
+      no n e = refused n (rest-asked o ∙ e)
 
       -- all are answered yes
       pub yes : {K : Shared → Shared} → Shares K G → (r : Window) (t : List ℕ) → asked (rest (k .c)) ≡ 0
@@ -139,7 +145,7 @@ module _ {call : Call} {id : ℕ} {store : List ℕ} {rest : ℕ → List Questi
           changes
           (λ (s : Session) (at : ℕ) (w : Window) (k : Shared). w .used ≡ true → does (group s) call .answer ≡ 0
           → Becomes w (f (winOf w)) r × (t ≡ F (k .c) (winOf w)) → MeetsStore call s (done (put at r (K k) s) 0) t)
-          (o .low) (λ s g _ _. puts-store shares r t s g) s at h (o .used) (answers s at h ∙ rest-asked ∙ e) b
+          (o .low) (λ s g _ _. puts-store shares r t s g) s at h (o .used) (answers s at h ∙ rest-asked o ∙ e) b
 
 -- Pixels altered -----------------------------------------------------------------------------------------------------
 
@@ -153,15 +159,16 @@ module _ {id : ℕ} (u : Write) {w : Window} {k : Shared} {store : List ℕ} (c 
   counted meets e s at h = e ∙ ap (altered store) (meets s at h .stored) ∙ sym (c .counts (group s))
 
   -- of an accepted one: its window becomes what the rule says, and all else stays
-  pub accepted-one : {v : Window} {t : List ℕ} {n : ℕ} → Writable id w k store → v ≡ holding (ruled u (winOf w)) w
-      → MeetsStoreAt (callOf id u store) id w k (record { window = v; shared = k; answer = 0 }) t → n ≡ altered store t
-      → MeetsAlteredAt id u store w k (record { window = v; shared = k; result = record { answer = 0; altered = n } }) t
+  pub accepted-one : {d : Damage} {t : List ℕ} {n : ℕ} → Writable id (w .used) (k .c) store
+      → setDamage d w ≡ holding (ruled u (winOf w)) w
+      → MeetsStoreAt (callOf id u store) id w k (record { window = setDamage d w; shared = k; answer = 0 }) t
+      → n ≡ altered store t → MeetsAlteredAt id u store w k (record { damage = d; result = record { answer = 0; altered = n } }) t
   accepted-one o v meets e s at h =
       record { meets = meets s at h; altered = counted meets e s at h; whole = λ _. rewrites u (o .low) v s at h }
 
   -- of a refused one, which leaves the store as it was
   pub refused-one : (n : ℕ) → Refused (callOf id u store) id w k store (suc n)
-      → MeetsAlteredAt id u store w k (record { window = w; shared = k; result = record { answer = suc n; altered = 0 } }) store
+      → MeetsAlteredAt id u store w k (record { damage = w .damage; result = record { answer = suc n; altered = 0 } }) store
   refused-one n meets s at h =
       record {
         meets = meets s at h;
@@ -171,7 +178,8 @@ module _ {id : ℕ} (u : Write) {w : Window} {k : Shared} {store : List ℕ} (c 
 
 -- The window's pixels ------------------------------------------------------------------------------------------------
 
-module _ {id : ℕ} {w : Window} {k : Shared} {store : List ℕ} (held : Held id w k) (o : Writable id w k store) where
+module _ {id : ℕ} {w : Window} {k : Shared} {store : List ℕ} (held : Held id w k)
+    (o : Writable id (w .used) (k .c) store) where
   pub rep : RepWindow w
   rep = let h = held .holds in subst RepWindow (h .window) (h .given .rep .each (held .at) (h .place .inside))
 
@@ -196,8 +204,56 @@ module _ {id : ℕ} {w : Window} {k : Shared} {store : List ℕ} (held : Held id
   pub place : id * k .c ≤ 16777216
   place = omega (arith, ends, o .whole, c-high)
 
-  pub stored : Stored (length store) (id * k .c) w
-  stored = record { rep = rep; room = omega (arith, ends, size .area≤) }
+  pub stored : RowsIn (length store) (id * k .c) (w .at)
+  stored = record { small = rep .at; room = omega (arith, ends, size .area≤) }
+
+-- The same, where fields of the window are at hand -------------------------------------------------------------------
+
+module _ {id : ℕ} {b : Bool} {a : Area} {d : Damage} {c : ℕ} {store : List ℕ} (h : HeldAs id b a d c)
+    (o : Writable id b c store) where
+  of-held : Writable id (h .window .used) (h .shared .c) store
+  of-held =
+      let whole = o .whole ∙ ap (λ (n : ℕ). 16 * n) (sym (h .is-c)) in
+      record { whole = whole; low = o .low; used = h .is-used ∙ o .used }
+
+  pub place-as : id * c ≤ 16777216
+  place-as = subst (λ (n : ℕ). id * n ≤ 16777216) (h .is-c) (place (h .held) of-held)
+
+  pub stored-as : RowsIn (length store) (id * c) a × RepDamage d
+  stored-as = (
+    subst (λ (n : ℕ). RowsIn (length store) (id * n) a) (h .is-c)
+        (subst (RowsIn (length store) (id * h .shared .c)) (h .is-at) (stored (h .held) of-held)),
+    subst RepDamage (h .is-damage) (rep (h .held) of-held .damage),
+  )
+
+module _ {id : ℕ} (u : Write) {store : List ℕ} (n : Counts (callOf id u store) store) {b : Bool} {a : Area} {d : Damage}
+    {c : ℕ} where
+  -- what holds of the window and of what is shared with these fields holds of all that have them
+  of-fields : {r : Painted} {t : List ℕ}
+      → ((w : Window) (k : Shared) → MeetsAlteredAt id u store (fields b a d w) (sized c k) r t)
+      → MeetsAlteredAs id u store b a d c r t
+  of-fields {r} {t} law w k is-used is-at is-damage is-c =
+      by-fields (λ v. MeetsAlteredAt id u store v k r t) w is-used is-at is-damage
+      (by-c (λ m. MeetsAlteredAt id u store (fields b a d w) m r t) k is-c (law w k))
+
+  pub refused-as : (x : ℕ) {r : Painted} → r ≡ record { damage = d; result = record { answer = suc x; altered = 0 } }
+      → ((w : Window) (k : Shared) → Refused (callOf id u store) id (fields b a d w) (sized c k) store (suc x))
+      → MeetsAlteredAs id u store b a d c r store
+  refused-as x e meets =
+      subst (λ (r : Painted). MeetsAlteredAs id u store b a d c r store) (sym e)
+      (of-fields (λ w k. refused-one u n x (meets w k)))
+
+  pub accepted-as : {rest : ℕ → List Question} {F : ℕ → Win → List ℕ} {r : Painted} {t : List ℕ}
+      → Rule (callOf id u store) id store rest (ruled u) F (λ g. g) → Writable id b c store → asked (rest c) ≡ 0
+      → PaintsAs a d (ruled u) (F c) store r t → MeetsAlteredAs id u store b a d c r t
+  accepted-as {r = r} {t} rule o e paints = of-fields {r = r} (λ w k s at h.
+      let v = fields b a d w in
+      let p = paints v (subst RepWindow (h .window) (h .given .rep .each at (h .place .inside))) refl refl in
+      subst (λ (x : ℕ). MeetsAltered id u store s
+      (written (put at (setDamage (r .damage) v) (sized c k) s) (record { answer = x; altered = r .result .altered })) t)
+      (sym (p .answer))
+      (accepted-one u n o (is-holding (p .window) (p .past))
+      (yes rule o same-shared _ _ e (p .window, p .counted .pixels)) (p .counted .altered) s at h))
 
 -- A window put back --------------------------------------------------------------------------------------------------
 

@@ -1,5 +1,6 @@
--- A window told of an event: a move, an event that finds a free place, and one that does not; and the window put back in the session.
-use Prim.Native.Nat.{ℕ, zero, suc, _≤_, _<_}
+-- A window told of an event: a move, an event that finds a free place, and one that does not; the same of a window by
+-- the fields that are read; and the window put back in the session.
+use Prim.Native.Nat.{ℕ, zero, suc, _+_, _≤_, _<_}
 use mathlib.Core.Path.{_≡_, refl, sym, ap, subst, _∙_}
 use mathlib.Core.Bool.{Bool, true, false, cond}
 use mathlib.Core.List.{List, [], _∷_, _++_}
@@ -7,21 +8,25 @@ use mathlib.Core.Option.{Option, some}
 use native.Mathlib.Omega.{arith}
 use lib.IntN.{ℤ}
 use lib.Dec.{ltb, eqb, eqb·suc-zero}
-use lib.ListN.{length}
+use lib.ListN.{length, set}
 use lib.Seq.{set-getD}
 use borrow.Author.Tests.{lt-ltb, le-ltb}
 use denote.Enum.Declared.{tagOf}
 use types.Run.{OneOf, miss}
 use Rattle.geom.specs.Questions.{Question, _is_, asked}
+use Rattle.geom.proofs.basics.Tests.{clash}
 use Rattle.window.specs.declared.Event.{Event}
 use Rattle.window.specs.declared.Event.the-variants.{Resize, KeyDown, KeyUp, KeyFire, Text, MouseMove, MouseDown, MouseClick, MouseUp}
 use Rattle.window.specs.declared.CursorPos.{CursorPos}
 use Rattle.window.specs.declared.Window.{Window}
+use Rattle.window.specs.declared.slots.Slot.{Slot}
 use Rattle.window.specs.declared.queue.Queue.{Queue}
 use Rattle.window.specs.Window.{Win, pushed, cursorTo}
-use Rattle.window.specs.Held.{winOf, events, RepCursor, RepWindow}
-use Rattle.window.specs.Inner.{Queued, PushedTo}
+use Rattle.window.specs.Held.{place, noSlot, winOf, events, RepCursor, RepWindow}
+use Rattle.window.specs.Inner.{Queued, slotOf, PushedTo}
 use Rattle.window.proofs.Event.{the-type}
+use Rattle.window.proofs.laws.Events.{events-count}
+use Rattle.window.proofs.laws.Events as Queue
 use Rattle.rules.specs.Group.{Group, Outcome, win, setWin, withHeld, leaves}
 use Rattle.rules.specs.Events.{withQueue, withCursor}
 use Rattle.rules.specs.Calls.{Call, does}
@@ -30,14 +35,15 @@ use Rattle.order.specs.Ids.{heldOf}
 use Rattle.windows.specs.declared.Shared.{Shared}
 use Rattle.windows.specs.declared.Session.{Session}
 use Rattle.windows.specs.declared.inner.events.Told.{Told}
+use Rattle.windows.specs.declared.inner.events.Message.{Message}
 use Rattle.windows.specs.View.{group, blank, windowAt, Rep, Given, Meets, done}
 use Rattle.windows.specs.One.{put}
 use Rattle.windows.specs.Walk.{holding}
 use Rattle.windows.specs.Events.{moveOr, Tellable, takes, told, ToldTo}
-use Rattle.windows.specs.Aimed.{remembered}
+use Rattle.windows.specs.Aimed.{remembered, Heard, AtBack, toldBack}
 use Rattle.windows.proofs.laws.Session.{win-at, put-group, put-rep, putWindow, refuses, gives}
 use Rattle.windows.proofs.laws.One.{put-back}
-use Rattle.windows.proofs.laws.Parts.{setQueue, setCursor, queue-rep, cursor-rep, events-length}
+use Rattle.windows.proofs.laws.Parts.{setQueue, setCursor, queue-rep, cursor-rep}
 
 -- One window ---------------------------------------------------------------------------------------------------------
 
@@ -61,9 +67,9 @@ queued e k h = subst (λ (P : Type 0). P) (by-other (λ x y. (x ≤ 32767) × (y
 
 module _ (w : Window) (r : RepWindow w) (e : Event) where
   pub moves : {x y : ℕ} {dx dy : ℤ} → e ≡ MouseMove x y dx dy → (p : CursorPos) → p ≡ cursorTo (w .cursor) x y → RepCursor p
-      → ToldTo w e (record { window = setCursor p w; answer = 0 })
+      → ToldTo w e (setCursor p w) 0
   moves k p to h =
-      subst (λ (o : Event). ToldTo w o (record { window = setCursor p w; answer = 0 })) (sym k)
+      subst (λ (o : Event). ToldTo w o (setCursor p w) 0) (sym k)
       (record {
         answer = refl;
         becomes = ap (λ (q : CursorPos). withCursor q (winOf w)) to;
@@ -80,24 +86,24 @@ module _ (w : Window) (r : RepWindow w) (e : Event) where
     told-is =
         by-other (λ x y. withCursor (cursorTo (w .cursor) x y) (winOf w)) (λ o. withQueue (pushed (events (w .queue)) o) (winOf w)) e k
 
-    pub joins : w .queue .len < 16 → (q : Queue) → PushedTo (w .queue) e q → ToldTo w e (record { window = setQueue q w; answer = 0 })
+    pub joins : w .queue .len < 16 → (q : Queue) → PushedTo (w .queue) e q → ToldTo w e (setQueue q w) 0
     joins l q h =
         record {
           answer =
               sym
               (ap (λ (b : Bool). asked ((12 is b) ∷ []))
-              (takes-is ∙ lt-ltb (length (events (w .queue))) 16 (omega (arith, events-length (w .queue) (r .queue)))));
+              (takes-is ∙ lt-ltb (length (events (w .queue))) 16 (omega (arith, events-count (w .queue) (r .queue)))));
           becomes = ap (λ (l : List Event). withQueue l (winOf w)) (h .is) ∙ sym told-is;
           same = λ n. absurd (n refl);
           used = refl;
           rep = queue-rep q w r (h .rep);
         }
 
-    pub dropped : 16 ≤ w .queue .len → ToldTo w e (record { window = w; answer = 12 })
+    pub dropped : 16 ≤ w .queue .len → ToldTo w e w 12
     unfolding pushed
     dropped l =
         let full : ltb (length (events (w .queue))) 16 ≡ false =
-        le-ltb (length (events (w .queue))) 16 (omega (arith, events-length (w .queue) (r .queue))) in
+        le-ltb (length (events (w .queue))) 16 (omega (arith, events-count (w .queue) (r .queue))) in
         record {
           answer = sym (ap (λ (b : Bool). asked ((12 is b) ∷ [])) (takes-is ∙ full));
           becomes =
@@ -106,6 +112,89 @@ module _ (w : Window) (r : RepWindow w) (e : Event) where
           used = refl;
           rep = r;
         }
+
+-- A window by its fields ---------------------------------------------------------------------------------------------
+
+module _ {o : Slot} {p : CursorPos} {n : ℕ} {h : WinId} {w : Window} {k : Shared} (m : Message)
+    (b : AtBack o p n h w k) where
+  abbrev HeardAs : Told → Type 0
+  HeardAs r = Heard w k m (record { window = toldBack r w; shared = holding (r .held) k; answer = r .answer })
+
+  -- nothing joins the queue
+  abbrev as-was : CursorPos → WinId → ℕ → Told
+  as-was q g a = record { slot = o; cursor = q; len = n; held = g; answer = a }
+
+  -- the slot and the length are written back as they were
+  same-queue : (q : CursorPos) (g : WinId) (a : ℕ) → toldBack (as-was q g a) w ≡ setCursor q w
+  same-queue q g a =
+      let at = place (w .queue .head) (w .queue .len) in
+      let slots : set (w .queue .slots) at o ≡ w .queue .slots =
+      ap (set (w .queue .slots) at) (sym (b .old)) ∙ set-getD (w .queue .slots) at noSlot in
+      λ i.
+      record {
+        queue = record { slots = slots i; head = w .queue .head; len = sym (b .len) i };
+        damage = w .damage;
+        at = w .at;
+        cursor = q;
+        used = w .used;
+        marked = w .marked;
+      }
+
+  same : (a : ℕ) → toldBack (as-was p h a) w ≡ w
+  same a = same-queue p h a ∙ ap (λ (q : CursorPos). setCursor q w) (sym (b .cursor))
+
+  same-held : holding h k ≡ k
+  same-held = ap (λ (g : WinId). holding g k) (sym (b .held))
+
+  -- it is not told
+  pub unheard : m .told ≡ false → HeardAs (as-was p h (m .answer))
+  unheard f =
+      record {
+        told = λ t. clash t f;
+        kept = λ _ i. record { window = same (m .answer) i; shared = same-held i; answer = m .answer };
+        shared = λ t. clash t f;
+      }
+
+  module _ (t : m .told ≡ true) where
+    hears : (r : Told) {v : Window} → toldBack r w ≡ v → ToldTo w (m .event) v (r .answer)
+        → holding (r .held) k ≡ remembered (r .answer) (m .held) k → HeardAs r
+    hears r same-as to held =
+        record {
+          told = λ _. subst (λ (v : Window). ToldTo w (m .event) v (r .answer)) (sym same-as) to;
+          kept = λ f. clash t f;
+          shared = λ _. held;
+        }
+
+    pub heard-move : {x y : ℕ} {dx dy : ℤ} → m .event ≡ MouseMove x y dx dy
+        → (q : CursorPos) → q ≡ cursorTo p x y → RepCursor q → HeardAs (as-was q (m .held) 0)
+    heard-move {x} {y} e q to r =
+        let own : q ≡ cursorTo (w .cursor) x y = to ∙ ap (λ (c : CursorPos). cursorTo c x y) (sym (b .cursor)) in
+        hears (as-was q (m .held) 0) (same-queue q (m .held) 0) (moves w (b .rep) (m .event) e q own r) refl
+
+    module _ (other : Other (m .event)) where
+      pub heard-joins : Tellable (m .event) → n < 16 → (s : Slot) → s ≡ slotOf (m .event)
+          → HeardAs (record { slot = s; cursor = p; len = n + 1; held = m .held; answer = 0 })
+      heard-joins able l s e =
+          let at = place (w .queue .head) (w .queue .len) in
+          let longer : Queue =
+          record { slots = set (w .queue .slots) at s; head = w .queue .head; len = w .queue .len + 1 } in
+          let free : w .queue .len < 16 = omega (arith, b .len) in
+          hears (record { slot = s; cursor = p; len = n + 1; held = m .held; answer = 0 })
+          (λ i.
+          record {
+            queue = record { slots = set (w .queue .slots) at s; head = w .queue .head; len = sym (b .len) i + 1 };
+            damage = w .damage;
+            at = w .at;
+            cursor = sym (b .cursor) i;
+            used = w .used;
+            marked = w .marked;
+          })
+          (joins w (b .rep) (m .event) other free longer
+          (Queue.joins (w .queue) (m .event) (b .rep .queue) (queued (m .event) other able) free s e at refl)) refl
+
+      pub heard-full : 16 ≤ n → HeardAs (as-was p h 12)
+      heard-full l =
+          hears (as-was p h 12) (same 12) (dropped w (b .rep) (m .event) other (omega (arith, b .len))) same-held
 
 -- The window of a session --------------------------------------------------------------------------------------------
 
@@ -121,35 +210,39 @@ held-rep s id v m r h =
     record { windows = q .windows; order = q .order; shown = q .shown; each = q .each; displays = q .displays }
 
 -- a call whose last question is 12, and which tells one window; `held` is remembered then, which m stands for
-module _ (k : Call) (s : Session) (id : ℕ) (e : Event) (t : Told) (h : Given s) (u : windowAt s id .used ≡ true) (to : ToldTo (windowAt s id) e t)
+module _ (k : Call) (s : Session) (id : ℕ) (e : Event) (v : Window) (n : ℕ) (h : Given s)
+    (u : windowAt s id .used ≡ true) (to : ToldTo (windowAt s id) e v n)
     (m : WinId) (held : Option ℕ) (stands : heldOf m ≡ held)
     (qs : List Question) (d : does (group s) k ≡ leaves qs (group s) (withHeld held (setWin id (some (told (win (group s) id) e)) (group s))))
     (a : asked qs ≡ asked ((12 is takes (win (group s) id) e) ∷ [])) where
-  answers : asked qs ≡ t .answer
+  answers : asked qs ≡ n
   answers = a ∙ ap (λ (w : Win). asked ((12 is takes w e) ∷ [])) (win-at s id u) ∙ sym (to .answer)
 
   -- what the call leaves, by its answer
   abbrev Left : ℕ → Type 0
-  Left n = Meets k s (done (put id (t .window) (remembered n m (s .shared)) s) n)
+  Left j = Meets k s (done (put id v (remembered j m (s .shared)) s) j)
 
-  tells-yes : t .answer ≡ 0 → Left 0
+  tells-yes : n ≡ 0 → Left 0
   tells-yes z =
-      gives k s _ h (held-rep s id (t .window) m (h .rep) (to .rep)) (ap (λ (o : Outcome). o .answer) d ∙ answers ∙ z)
-      (held-group s id (t .window) m (to .used ∙ u)
+      gives k s _ h (held-rep s id v m (h .rep) (to .rep)) (ap (λ (o : Outcome). o .answer) d ∙ answers ∙ z)
+      (held-group s id v m (to .used ∙ u)
       ∙ (λ i. withHeld (stands i) (setWin id (some ((to .becomes ∙ ap (λ (w : Win). told w e) (sym (win-at s id u))) i)) (group s)))
       ∙ sym
       (ap (λ (o : Outcome). o .group) d
-      ∙ ap (λ (n : ℕ). cond (eqb n 0) (withHeld held (setWin id (some (told (win (group s) id) e)) (group s))) (group s)) (answers ∙ z)))
+      ∙ ap
+      (λ (j : ℕ). cond (eqb j 0) (withHeld held (setWin id (some (told (win (group s) id) e)) (group s))) (group s))
+      (answers ∙ z)))
 
-  tells-no : (n : ℕ) → t .answer ≡ suc n → Left (suc n)
-  tells-no n z =
-      let was : windowAt s id ≡ t .window = sym (to .same (λ o. let q : suc n ≡ 0 = sym z ∙ o in omega arith)) in
-      rw (eqb·suc-zero n)
-      (subst (λ (r : Session). Meets k s (done r (suc n))) (sym (put-back s id was refl)) (refuses k s n h (ap (λ (o : Outcome). o .answer) d ∙ answers ∙ z)))
+  tells-no : (j : ℕ) → n ≡ suc j → Left (suc j)
+  tells-no j z =
+      let was : windowAt s id ≡ v = sym (to .same (λ o. let q : suc j ≡ 0 = sym z ∙ o in omega arith)) in
+      rw (eqb·suc-zero j)
+      (subst (λ (r : Session). Meets k s (done r (suc j))) (sym (put-back s id was refl))
+      (refuses k s j h (ap (λ (o : Outcome). o .answer) d ∙ answers ∙ z)))
 
-  pub tells : Left (t .answer)
-  tells = go (t .answer) refl
+  pub tells : Left n
+  tells = go n refl
     where
-      go : (n : ℕ) → t .answer ≡ n → Left n
+      go : (j : ℕ) → n ≡ j → Left j
       go zero z = tells-yes z
-      go (suc n) z = tells-no n z
+      go (suc j) z = tells-no j z

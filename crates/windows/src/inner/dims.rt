@@ -72,7 +72,7 @@ impl Shared {
 }
 
 // Question 3, of a number and whether the window there is in use.
-fn in_use(id: WinId, used: bool) -> bool
+pub fn in_use(id: WinId, used: bool) -> bool
     ensures { λ b. ⌜ b ≡ ltb (id .0) 16 && used ⌝ }
 {
     if id.0 < 16 {

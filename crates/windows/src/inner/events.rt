@@ -3,19 +3,17 @@
 ghost use mathlib.Core.Path.{_≡_};
 ghost use mathlib.Core.Bool.{true};
 ghost use mathlib.Core.Option.{some};
-ghost use Prim.Native.Nat.{_<_};
-ghost use Rattle.window.specs.Held.{RepWindow};
+ghost use Prim.Native.Nat.{_≤_, _<_};
+ghost use Rattle.window.specs.Held.{RepCursor};
 ghost use Rattle.rules.specs.Calls.{Call};
 ghost use Rattle.order.specs.Ids.{heldOf};
 ghost use Rattle.windows.specs.View.{Given, Meets};
-ghost use Rattle.windows.specs.Events.{targetOf, atPoint, heldAfter, Tellable, ToldTo};
-ghost use Rattle.windows.specs.Aimed.{toNobody, toWindow, Heard, Aims, PopsAt};
-use crate::Changed;
+ghost use Rattle.windows.specs.Events.{targetOf, atPoint, heldAfter, Tellable};
+ghost use Rattle.windows.specs.Aimed.{toNobody, toWindow, Hears, Aims, PopsFront};
 use crate::NextEvent;
 use crate::Session;
-use crate::Shared;
+use crate::inner::dims::in_use;
 use crate::inner::frames::frames;
-use crate::inner::one::is_used;
 use crate::inner::small::small_point;
 use order::RenderIdx;
 use order::WinId;
@@ -24,8 +22,12 @@ use topmost::Hit;
 use topmost::release::NOBODY;
 use topmost::release::nearest;
 use topmost::release::taker;
+use window::CursorPos;
 use window::Event;
-use window::Window;
+use window::queue::back;
+use window::slots::Slot;
+use window::slots::event_of;
+use window::slots::slot_of;
 
 // Where an event goes: to no window, with this answer, to the focus, or to a point of the screen: there to window `held`, if it is one and has
 // pixels, else to the topmost window.
@@ -33,12 +35,6 @@ pub enum Target {
     Nobody { answer: u32 },
     Focus,
     Point { held: WinId, x: u32, y: u32 },
-}
-
-// A window that was told of an event, and the answer: 12 where its queue was full.
-pub struct Told {
-    pub window: Window,
-    pub answer: u32,
 }
 
 // What a window is told, if `told`, and which one is remembered once it took the event; else the answer.
@@ -55,9 +51,22 @@ pub struct Aim {
     pub what: Message,
 }
 
-// A window without the event that was asked for, which is absent where the call was refused.
-pub struct PoppedOne {
-    pub window: Window,
+// What a message makes of a window and of what is shared: the slot at the back of the queue, the cursor, the number of
+// events that wait, and who is remembered. The answer is 12 where the queue was full.
+pub struct Told {
+    pub slot: Slot,
+    pub cursor: CursorPos,
+    pub len: u8,
+    pub held: WinId,
+    pub answer: u32,
+}
+
+// What a pop makes of a window: its cursor, the place of its oldest event, and how many wait. The event is absent where
+// the call was refused.
+pub struct Front {
+    pub cursor: CursorPos,
+    pub head: u8,
+    pub len: u8,
     pub answer: u32,
     pub event: NextEvent,
 }
@@ -128,57 +137,42 @@ fn held_after(e: Event, id: WinId, held: WinId) -> WinId
     }
 }
 
-// A move replaces the cursor's new point; any other event joins the queue.
-fn push_event(mut win: Window, e: Event) -> Told
-    requires { ⌜ RepWindow win × Tellable e ⌝ }
-    ensures { λ r. ⌜ ToldTo win e r ⌝ }
+// A window is told, or left as it is: a move replaces the cursor's new point, any other event joins the queue. `old` is
+// the slot at the back; it is handed back where nothing joins. One that does not take the event changes nothing.
+pub fn tell(old: Slot, cursor: CursorPos, len: u8, held: WinId, m: Message) -> Told
+    requires { ⌜ RepCursor cursor × (len ≤ 16) × (m .told ≡ true → Tellable (m .event)) ⌝ }
+    ensures { λ r. ⌜ Hears old cursor len held m r ⌝ }
 {
-    let mut answer: u32 = 0;
-    match e {
-        Event::MouseMove { x, y, dx: _, dy: _ } => {
-            let cursor = win.cursor;
-            let moved = cursor.update(x, y);
-            win.cursor = moved;
-        }
-        _ => {
-            let queue = win.queue;
-            if queue.len < 16 {
-                let longer = queue.push(e);
-                win.queue = longer;
-            } else {
-                answer = 12;
+    let mut slot = old;
+    let mut pos = cursor;
+    let mut n = len;
+    let mut remembered = held;
+    let mut answer = m.answer;
+    if m.told {
+        let e = m.event;
+        answer = 0;
+        match e {
+            Event::MouseMove { x, y, dx: _, dy: _ } => {
+                pos = cursor.update(x, y);
+                remembered = m.held;
+            }
+            _ => {
+                if len < 16 {
+                    slot = slot_of(e);
+                    n = len + 1;
+                    remembered = m.held;
+                } else {
+                    answer = 12;
+                }
             }
         }
     }
     Told {
-        window: win,
+        slot,
+        cursor: pos,
+        len: n,
+        held: remembered,
         answer,
-    }
-}
-
-// A window is told, or left as it is. One that does not take the event changes nothing.
-pub fn tell(win: Window, mut shared: Shared, m: Message) -> Changed
-    requires { ⌜ RepWindow win × (m .told ≡ true → Tellable (m .event)) ⌝ }
-    ensures { λ r. ⌜ Heard win shared m r ⌝ }
-{
-    if m.told {
-        let e = m.event;
-        let told = push_event(win, e);
-        let window = told.window;
-        if told.answer == 0 {
-            let held = m.held;
-            shared.held = held;
-        }
-        return Changed {
-            window,
-            shared,
-            answer: told.answer,
-        };
-    }
-    Changed {
-        window: win,
-        shared,
-        answer: m.answer,
     }
 }
 
@@ -260,35 +254,36 @@ fn aim_pointer(s: Session, e: Event, held: WinId, x: u32, y: u32) -> Aim
     }
 }
 
-// The queue first, then an unread move.
-pub fn pop(mut win: Window, id: WinId) -> PoppedOne
-    requires { ⌜ RepWindow win ⌝ }
-    ensures { λ r. ⌜ PopsAt (id .0) win r ⌝ }
+// The queue first, then an unread move. `first` is the slot at the front.
+pub fn pop(used: bool, cursor: CursorPos, head: u8, len: u8, first: Slot, id: WinId) -> Front
+    requires { ⌜ RepCursor cursor × (head < 16) × (len ≤ 16) ⌝ }
+    ensures { λ r. ⌜ PopsFront (id .0) used cursor head len first r ⌝ }
 {
+    let mut pos = cursor;
+    let mut front = head;
+    let mut n = len;
     let mut answer: u32 = 3;
     let mut event = NextEvent::Absent;
-    if is_used(win, id) {
+    if in_use(id, used) {
         answer = 10;
-        let queue = win.queue;
-        let cursor = win.cursor;
-        if 0 < queue.len {
-            let first = queue.pop();
-            let rest = first.queue;
-            let e = first.event;
-            win.queue = rest;
+        if 0 < len {
+            front = back(head, 1) as u8;
+            n = len - 1;
+            let e = event_of(first);
             event = NextEvent::Event(e);
             answer = 0;
         } else if cursor.is_dirty {
             let moved = cursor.take();
-            let read = moved.cursor;
+            pos = moved.cursor;
             let e = moved.event;
-            win.cursor = read;
             event = NextEvent::Event(e);
             answer = 0;
         }
     }
-    PoppedOne {
-        window: win,
+    Front {
+        cursor: pos,
+        head: front,
+        len: n,
         answer,
         event,
     }

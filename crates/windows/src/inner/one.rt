@@ -34,7 +34,9 @@ use order::layers::is_top;
 use order::layers::to_top;
 use order::layers::with_layer;
 use topmost::release::forget;
+use window::CursorPos;
 use window::Window;
+use window::damage::Area;
 use window::damage::Damage;
 
 // Where the window of an id lies: at its number. For a number that no window has it is 0, and the call is refused, whatever lies there.
@@ -72,29 +74,39 @@ pub fn is_used(win: Window, id: WinId) -> bool
     false
 }
 
-// A window of layer 0 that is not shown, not maximised and has no pixels, if the place of this id is free.
-pub fn create(win: Window, mut shared: Shared, id: WinId) -> CreatedOne
+// A window of layer 0 that is not shown, not maximised and has no pixels, if the place of this id is free. Only the
+// fields of a new window are written: past the entries of its damage and queue the arrays stay as they were.
+pub fn create(mut win: Window, mut shared: Shared, id: WinId) -> CreatedOne
     requires { ⌜ id .0 < 16 ⌝ }
     ensures { λ r. ⌜ CreatesAt (id .0) win shared r ⌝ }
 {
-    if win.used {
-        return CreatedOne {
-            window: win,
-            shared,
-            answer: 4,
-            id: NewId::Absent,
+    let mut answer: u32 = 4;
+    let mut new = NewId::Absent;
+    if !win.used {
+        let origin = Area {
+            x: 0,
+            y: 0,
+            w: 0,
+            h: 0,
         };
+        let cursor = CursorPos::new();
+        win.queue.len = 0;
+        win.damage.len = 0;
+        win.at = origin;
+        win.cursor = cursor;
+        win.used = true;
+        win.marked = false;
+        let at = id.0 as usize;
+        shared.layers[at] = 0;
+        shared.maximised[at] = false;
+        answer = 0;
+        new = NewId::Id(id);
     }
-    let window = Window::fresh();
-    let was = shared.layers;
-    let layers = with_layer(was, id, 0);
-    shared.layers = layers;
-    shared = shared.flagged(id, false);
     CreatedOne {
-        window,
+        window: win,
         shared,
-        answer: 0,
-        id: NewId::Id(id),
+        answer,
+        id: new,
     }
 }
 
@@ -267,25 +279,21 @@ pub fn set_layer(win: Window, mut shared: Shared, id: WinId, layer: u32) -> Chan
     }
 }
 
-// What is shared, without this window in the render order, and not remembered; as it is if the window is hidden.
-fn hidden(mut shared: Shared, id: WinId) -> Shared
-    requires { ⌜ SharedBy shared ⌝ }
+// What is shared, without the window at a place of the render order, and not remembered.
+fn hide_shown(mut shared: Shared, id: WinId, p: Place) -> Shared
+    requires { ⌜ SharedBy shared × (some (p .0) ≡ renderIdx (id .0) (ids (shared .shown) (shared .order))) ⌝ }
     ensures { λ r. ⌜ Hides (id .0) shared r ⌝ }
 {
     let n = shared.shown;
     let order = shared.order;
-    let idx = get_render_idx(order, n, id);
-    if let RenderIdx::At(p) = idx {
-        let closed = close_gap(order, n, p);
-        let focus = focus_after(shared.focus, id, closed, n - 1, p);
-        shared.order = closed;
-        shared.shown = n - 1;
-        shared.focus = focus;
-        let held = forget(shared.held, id);
-        shared.held = held;
-        shared = shared.owing();
-    }
-    shared
+    let closed = close_gap(order, n, p);
+    let focus = focus_after(shared.focus, id, closed, n - 1, p);
+    shared.order = closed;
+    shared.shown = n - 1;
+    shared.focus = focus;
+    let held = forget(shared.held, id);
+    shared.held = held;
+    shared.owing()
 }
 
 // Removed from the render order; nothing if hidden.
@@ -296,7 +304,11 @@ pub fn hide(win: Window, mut shared: Shared, id: WinId) -> Changed
     let mut answer: u32 = 3;
     if is_used(win, id) {
         answer = 0;
-        shared = hidden(shared, id);
+        let order = shared.order;
+        let idx = get_render_idx(order, shared.shown, id);
+        if let RenderIdx::At(p) = idx {
+            shared = hide_shown(shared, id, p);
+        }
     }
     Changed {
         window: win,
@@ -313,7 +325,11 @@ pub fn drop(mut win: Window, mut shared: Shared, id: WinId) -> Changed
     let mut answer: u32 = 3;
     if is_used(win, id) {
         answer = 0;
-        shared = hidden(shared, id);
+        let order = shared.order;
+        let idx = get_render_idx(order, shared.shown, id);
+        if let RenderIdx::At(p) = idx {
+            shared = hide_shown(shared, id, p);
+        }
         win.used = false;
     }
     Changed {

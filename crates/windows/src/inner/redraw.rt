@@ -92,7 +92,7 @@ pub fn draw_window(
     sh: u32,
     dim: bool,
 )
-    requires { ⌜ RepWindow w × (base + w .at .w * w .at .h ≤ length (now store)) × Lent n (now above) ⌝ }
+    requires { ⌜ RepWindow w × (base + w .at .w * w .at .h ≤ length (now store)) × Lent n (now above) × (n ≤ 16) ⌝ }
     requires { ⌜ (sw ≤ 32767) × (sh ≤ 32767) × (length (now screen) ≡ sw * sh) ⌝ }
     ensures { λ _. ⌜ now (screen .exit) ≡ cond (full || w .marked) (painted dim w full base (rectsOf n (now (above .entry))) (now (store .entry)) sw sh (now (screen .entry))) (now (screen .entry)) ⌝ }
 {

@@ -1,24 +1,26 @@
-// The calls that write the lent store, as functions of one window and of what the windows share: fill, blit and resize. Each asks its questions
-// and leaves the rest to a function translated from window.rs. There, `base` is the place in the store at which the window's pixels begin: its
-// number times C. Fill and blit hand back how many pixels of the store differ afterwards (document 02, N3).
+// The calls that write the lent store: fill, blit and resize. Each asks its questions and leaves the rest to a function
+// translated from window.rs. There, `base` is the place in the store at which the window's pixels begin: its number
+// times C. A resize is a function of one window and of what the windows share. A fill or a blit reads four fields of
+// them and changes the damage alone, so it is a function of these fields, and the window is not copied. Both hand back
+// how many pixels of the store differ afterwards (document 02, N3).
 ghost use mathlib.Core.Path.{_≡_};
 ghost use Prim.Native.Nat.{_≤_};
 ghost use lib.ListN.{length};
-ghost use Rattle.geom.specs.Geom.{rect};
+ghost use mathlib.Core.Bool.{false};
+ghost use Rattle.geom.specs.Geom.{rect, isEmpty};
 ghost use Rattle.scanline.specs.Pixels.{resizedAt};
-ghost use Rattle.scanline.specs.Rows.{Counted};
 ghost use Rattle.window.specs.Held.{Small, rectOf, RepDamage, RepWindow, winOf};
-ghost use Rattle.window.specs.Inner.{PastAs, Dirtied};
+ghost use Rattle.window.specs.Inner.{Dirtied};
 ghost use Rattle.rules.specs.Store.{resizedWin, filledAt, blitAt};
 ghost use Rattle.rules.specs.Displays.{taken};
 ghost use Rattle.rules.specs.Calls.{Call};
 ghost use Rattle.rules.specs.Panels.{Write};
 ghost use Rattle.windows.specs.View.{filledWin, blitWin};
-ghost use Rattle.windows.specs.One.{Held, MeetsStoreAt, MeetsAlteredAt};
-ghost use Rattle.windows.specs.Pixels.{Becomes, Stored, Resizable, setDamage};
+ghost use Rattle.windows.specs.One.{Held, HeldAs, MeetsStoreAt, MeetsAlteredAs};
+ghost use Rattle.windows.specs.Pixels.{Becomes, RowsIn, PaintsAs, BlitsAs, Resizable};
 use crate::Changed;
 use crate::Shared;
-use crate::WrittenOne;
+use crate::inner::dims::in_use;
 use crate::inner::one::is_used;
 use crate::inner::small::is_small;
 use crate::inner::small::is_small_size;
@@ -38,10 +40,11 @@ use window::damage::Area;
 use window::damage::Damage;
 use window::damage::add_dirty;
 
-// A window's damage after a write, and how many pixels of the store differ.
-struct Painted {
-    damage: Damage,
-    altered: usize,
+// A window's damage after a fill or a blit; the answer, and how many pixels of the store differ.
+#[repr(C)]
+pub struct Painted {
+    pub damage: Damage,
+    pub result: Altered,
 }
 
 // A window's own pixels, from its corner.
@@ -62,82 +65,102 @@ fn damaged(old: Damage, size: Area, area: Rect) -> Damage
 }
 
 // No pixel was written.
-fn unpainted(damage: Damage) -> Painted
-    ensures { λ r. ⌜ r ≡ record { damage = damage; altered = 0 } ⌝ }
+fn unpainted(damage: Damage, answer: u32) -> Painted
+    ensures { λ r. ⌜ r ≡ record { damage = damage; result = record { answer = answer; altered = 0 } } ⌝ }
 {
-    Painted { damage, altered: 0 }
+    let result = Altered { answer, altered: 0 };
+    Painted { damage, result }
 }
 
 // The part of the area that lies in the window takes the colour.
-fn fill_rect(win: Window, base: usize, area: Rect, colour: u32, store: &mut [u32]) -> Painted
-    requires { ⌜ Stored (length (now store)) base win × Small area ⌝ }
-    ensures { λ r. ⌜ Becomes win (filledWin area (winOf win)) (setDamage (r .damage) win) × Counted (filledAt base (winOf win) area colour (now (store .entry))) (now (store .entry)) (now (store .exit)) (r .altered) × PastAs (win .damage) (r .damage) ⌝ }
+fn fill_rect(
+    at: Area,
+    old: Damage,
+    base: usize,
+    area: Rect,
+    colour: u32,
+    store: &mut [u32],
+) -> Painted
+    requires { ⌜ RowsIn (length (now store)) base at × RepDamage old × Small area ⌝ }
+    ensures { λ r. ⌜ PaintsAs at old (filledWin area) (λ w. filledAt base w area colour (now (store .entry))) (now (store .entry)) r (now (store .exit)) ⌝ }
 {
-    let size = win.at;
-    let old = win.damage;
-    let all = bounds(size);
+    let all = bounds(at);
     let cut = area.intersect(all);
     match cut {
         Intersection::Common(part) => {
             let altered = fill_area(
                 store,
                 base,
-                size.w as usize,
+                at.w as usize,
                 part.pos.x as usize,
                 part.pos.y as usize,
                 part.dims.w as u16,
                 part.dims.h as usize,
                 colour,
             );
-            let damage = damaged(old, size, part);
-            Painted { damage, altered }
+            // after the pixels, so that the damage is not copied once more
+            let damage = damaged(old, at, part);
+            let result = Altered { answer: 0, altered };
+            Painted { damage, result }
         }
-        Intersection::Apart => unpainted(old),
+        Intersection::Apart => unpainted(old, 0),
         // never: question 14 holds of both
-        Intersection::Refused => unpainted(old),
+        Intersection::Refused => unpainted(old, 0),
     }
 }
 
-// Rows of the area take successive chunks of `stride` data, where they lie in the window. An empty area is left alone.
+// Rows of the area take successive chunks of `stride` data, where they lie in the window. How many pixels differ.
+fn blit_part(
+    at: Area,
+    base: usize,
+    area: Rect,
+    data: &[u32],
+    stride: usize,
+    store: &mut [u32],
+) -> usize
+    requires { ⌜ RowsIn (length (now store)) base at × Small area × (isEmpty area ≡ false) ⌝ }
+    ensures { λ n. ⌜ BlitsAs base at area (now («data» .entry)) stride (now (store .entry)) (now (store .exit)) n ⌝ }
+{
+    let all = bounds(at);
+    let cut = area.intersect(all);
+    match cut {
+        Intersection::Common(part) => blit_area(
+            store,
+            base,
+            at.w as usize,
+            part.pos.x as usize,
+            part.pos.y as usize,
+            part.dims.w as u16,
+            part.dims.h as usize,
+            data,
+            stride,
+        ),
+        Intersection::Apart => 0,
+        // never: question 14 holds of both
+        Intersection::Refused => 0,
+    }
+}
+
+// The same, with the area added to the damage uncut. An empty area is left alone.
 fn blit_rect(
-    win: Window,
+    at: Area,
+    old: Damage,
     base: usize,
     area: Rect,
     data: &[u32],
     stride: usize,
     store: &mut [u32],
 ) -> Painted
-    requires { ⌜ Stored (length (now store)) base win × Small area ⌝ }
-    ensures { λ r. ⌜ Becomes win (blitWin area (winOf win)) (setDamage (r .damage) win) × Counted (blitAt base (winOf win) area (now («data» .entry)) stride (now (store .entry))) (now (store .entry)) (now (store .exit)) (r .altered) × PastAs (win .damage) (r .damage) ⌝ }
+    requires { ⌜ RowsIn (length (now store)) base at × RepDamage old × Small area ⌝ }
+    ensures { λ r. ⌜ PaintsAs at old (blitWin area) (λ w. blitAt base w area (now («data» .entry)) stride (now (store .entry))) (now (store .entry)) r (now (store .exit)) ⌝ }
 {
-    let size = win.at;
-    let old = win.damage;
     if is_empty(area) {
-        return unpainted(old);
+        return unpainted(old, 0);
     }
-    // the area is added uncut
-    let damage = damaged(old, size, area);
-    let all = bounds(size);
-    let cut = area.intersect(all);
-    match cut {
-        Intersection::Common(part) => {
-            let altered = blit_area(
-                store,
-                base,
-                size.w as usize,
-                part.pos.x as usize,
-                part.pos.y as usize,
-                part.dims.w as u16,
-                part.dims.h as usize,
-                data,
-                stride,
-            );
-            Painted { damage, altered }
-        }
-        Intersection::Apart => unpainted(damage),
-        // never: question 14 holds of both
-        Intersection::Refused => unpainted(damage),
-    }
+    let altered = blit_part(at, base, area, data, stride, store);
+    let damage = damaged(old, at, area);
+    let result = Altered { answer: 0, altered };
+    Painted { damage, result }
 }
 
 // The window at a new place and of a new size, with all of it damaged and Resize queued.
@@ -179,81 +202,67 @@ fn resized(win: Window, base: usize, c: usize, size: Dims, store: &mut [u32]) ->
 }
 
 pub fn fill(
-    win: Window,
-    shared: Shared,
+    used: bool,
+    at: Area,
+    damage: Damage,
+    c: u32,
     id: WinId,
     area: Rect,
     colour: u32,
     store: &mut [u32],
-) -> WrittenOne
-    requires { ⌜ Held (id .0) win shared ⌝ }
-    ensures { λ r. ⌜ MeetsAlteredAt (id .0) (Write.fill area colour) (now (store .entry)) win shared r (now (store .exit)) ⌝ }
+) -> Painted
+    requires { ⌜ HeldAs (id .0) used at damage c ⌝ }
+    ensures { λ r. ⌜ MeetsAlteredAs (id .0) (Write.fill area colour) (now (store .entry)) used at damage c r (now (store .exit)) ⌝ }
 {
-    let mut window = win;
-    let mut result = Altered {
-        answer: 1,
-        altered: 0,
-    };
-    let c = shared.c as usize;
-    if store.len() == 16 * c {
-        result.answer = 3;
-        if is_used(win, id) {
-            result.answer = 5;
-            if is_small(area) {
-                result.answer = 0;
-                let painted = fill_rect(win, id.0 as usize * c, area, colour, store);
-                let damage = painted.damage;
-                window.damage = damage;
-                result.altered = painted.altered;
-            }
-        }
+    let pixels = c as usize;
+    if store.len() != 16 * pixels {
+        return unpainted(damage, 1);
     }
-    WrittenOne {
-        window,
-        shared,
-        result,
+    if !in_use(id, used) {
+        return unpainted(damage, 3);
     }
+    if !is_small(area) {
+        return unpainted(damage, 5);
+    }
+    fill_rect(at, damage, id.0 as usize * pixels, area, colour, store)
 }
 
 pub fn blit(
-    win: Window,
-    shared: Shared,
+    used: bool,
+    at: Area,
+    damage: Damage,
+    c: u32,
     id: WinId,
     area: Rect,
     stride: usize,
     data: &[u32],
     store: &mut [u32],
-) -> WrittenOne
-    requires { ⌜ Held (id .0) win shared ⌝ }
-    ensures { λ r. ⌜ MeetsAlteredAt (id .0) (Write.blit area (now («data» .entry)) stride) (now (store .entry)) win shared r (now (store .exit)) ⌝ }
+) -> Painted
+    requires { ⌜ HeldAs (id .0) used at damage c ⌝ }
+    ensures { λ r. ⌜ MeetsAlteredAs (id .0) (Write.blit area (now («data» .entry)) stride) (now (store .entry)) used at damage c r (now (store .exit)) ⌝ }
 {
-    let mut window = win;
-    let mut result = Altered {
-        answer: 1,
-        altered: 0,
-    };
-    let c = shared.c as usize;
-    if store.len() == 16 * c {
-        result.answer = 3;
-        if is_used(win, id) {
-            result.answer = 5;
-            if is_small(area) {
-                result.answer = 7;
-                if 1 <= stride {
-                    result.answer = 0;
-                    let painted = blit_rect(win, id.0 as usize * c, area, data, stride, store);
-                    let damage = painted.damage;
-                    window.damage = damage;
-                    result.altered = painted.altered;
-                }
-            }
-        }
+    let pixels = c as usize;
+    if store.len() != 16 * pixels {
+        return unpainted(damage, 1);
     }
-    WrittenOne {
-        window,
-        shared,
-        result,
+    if !in_use(id, used) {
+        return unpainted(damage, 3);
     }
+    if !is_small(area) {
+        return unpainted(damage, 5);
+    }
+    if stride < 1 {
+        return unpainted(damage, 7);
+    }
+    blit_rect(
+        at,
+        damage,
+        id.0 as usize * pixels,
+        area,
+        data,
+        stride,
+        store,
+    )
 }
 
 pub fn resize(

@@ -1,5 +1,5 @@
--- The function of one window, at this session; then its results are in their place.
-use Rattle.windows.proofs.laws.One.{held, by-altered}
+-- The function of a window's fields, at this session; then the damage is in its place.
+use Rattle.windows.proofs.laws.One.{held-as, by-altered}
 use borrow.Author.Needs.{needs}
 use Rattle.windows.proofs.Session.fill.Statement.{statement}
 use Rattle.windows.proofs.Session.fill.Tie as tie
@@ -7,17 +7,17 @@ use Rattle.windows.proofs.Session.fill.Tie as tie
 slot-requires : tie.Need-slot-requires
 slot-requires c κs = search needs
 
-mul-fill : tie.Need-mul-fill
-mul-fill c = search needs
+mul-win : tie.Need-mul-win
+mul-win c = search needs
 
-element-copy-out-fill : tie.Need-element-copy-out-fill
-element-copy-out-fill c = search needs
+element-copy-out-win : tie.Need-element-copy-out-win
+element-copy-out-win c = search needs
 
 fill-requires : tie.Need-fill-requires
-fill-requires c κs = let p = c .before .before .before in held (p .before .before .pre) (p .slot .ensures)
+fill-requires c κs = let p = c .before .before .before .before in held-as (p .before .before .pre) (p .slot .ensures)
 
-put-written-requires : tie.Need-put-written-requires
-put-written-requires c κs = search needs
+put-damage-requires : tie.Need-put-damage-requires
+put-damage-requires c κs = search needs
 
 same-length : tie.Need-same-length
 same-length c = search needs
@@ -25,17 +25,17 @@ same-length c = search needs
 returns : tie.Need-returns
 returns c =
     let d = c .before .before .before in
-    let p = d .before .before .before .before in
-    by-altered (p .before .before .pre) (p .slot .ensures) (d .fill .result) (d .fill .ensures) (c .put-written .ensures)
+    let p = d .before .before .before .before .before in
+    by-altered (p .before .before .pre) (p .slot .ensures) (d .fill .result) (d .fill .ensures) (c .put-damage .ensures)
 
 pub fill-spec : {M : Type 1} → statement M
 fill-spec =
     tie.close
     (tie.spec
     slot-requires
-    mul-fill
-    element-copy-out-fill
+    mul-win
+    element-copy-out-win
     fill-requires
-    put-written-requires
+    put-damage-requires
     same-length
     returns)

@@ -82,8 +82,10 @@ list-requires c κs =
     let n = c .before .before .before in
     let f = n .before .before .before in
     let r = f .before .before in
-    let s = r .before .before .before .before .before .before .before in (
-      (frame-fits _ (s .pre .0) _ _ (s .pre .1) _ (frame r), lends _ _ (f .from .ensures)),
+    let k = r .before .before in
+    let s = k .before .before .before .before .before in
+    let l = f .from .ensures in (
+      (frame-fits _ (s .pre .0) _ _ (s .pre .1) _ (frame r), lends _ _ l, omega (arith, l .few, l .count)),
       leb-true _ _ (sym (n .has-room .ensures) ∙ c .before .before .if1 .taken),
     )
 

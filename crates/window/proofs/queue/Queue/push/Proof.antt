@@ -7,8 +7,8 @@ use Rattle.window.proofs.queue.Queue.push.Tie as tie
 slot-of-requires : tie.Need-slot-of-requires
 slot-of-requires c κs = search needs
 
-cast-at : tie.Need-cast-at
-cast-at c = search needs
+back-requires : tie.Need-back-requires
+back-requires c κs = search needs
 
 mul-s : tie.Need-mul-s
 mul-s c = search needs
@@ -21,8 +21,10 @@ add-self c = search needs
 
 returns : tie.Need-returns
 returns c =
-    let s = c .before .before in
-    joins (s .args .t1) (s .args .e) (s .pre .0) (s .pre .1) (c .before .if1 .taken) (c .slot-of .result) (c .slot-of .ensures)
+    let p = c .before in
+    let s = p .before .before in
+    joins (s .args .t1) (s .args .e) (s .pre .0) (s .pre .1) (p .before .if1 .taken) (p .slot-of .result)
+    (p .slot-of .ensures) (c .back .result) (c .back .ensures .0)
 
 returns-2 : tie.Need-returns-2
 returns-2 c = dropped (c .before .args .t1) (c .before .args .e) (c .before .pre .0) (c .if1 .left)
@@ -30,4 +32,4 @@ returns-2 c = dropped (c .before .args .t1) (c .before .args .e) (c .before .pre
 pub push-spec : {M : Type 1} → statement M
 push-spec =
     tie.close
-    (tie.spec slot-of-requires cast-at mul-s element-set-from-s add-self returns returns-2)
+    (tie.spec slot-of-requires back-requires mul-s element-set-from-s add-self returns returns-2)

@@ -104,7 +104,12 @@ draw-window-requires c κs =
     let d = s .pre .1 in
     let l = t .if1 .taken in
     let r = w .window-at .ensures in (
-      (g .rep .each _ (at-low w), omega (arith, in-store _ g _ l _ r, d .whole), all-lent _ g _ l _ r _ (held (t .before .before .before .before .before))),
+      (
+        g .rep .each _ (at-low w),
+        omega (arith, in-store _ g _ l _ r, d .whole),
+        all-lent _ g _ l _ r _ (held (t .before .before .before .before .before)),
+        omega (arith, g .rep .shown),
+      ),
       (d .sw≤, d .sh≤, t .before .before .loop .inv .size ∙ d .size),
     )
 

@@ -23,7 +23,8 @@ draw-requires : tie.Need-draw-requires
 draw-requires c κs =
     let s = c .before .before .before .before .before .before .before .before .before .before .before .before .pre in
     let e = c .before .before .rect .ensures in
-    ((subst Small (sym e) (s .0 .0 .at), rw e (s .0 .1)), ((s .0 .2, lends _ _ (c .before .before .before .before .dirty-of .ensures)), s .1))
+    let d = lends _ _ (c .before .before .before .before .dirty-of .ensures) in
+    ((subst Small (sym e) (s .0 .0 .at), rw e (s .0 .1)), ((s .0 .2, s .0 .3, d), s .1))
 
 same-length : tie.Need-same-length
 same-length c = search needs

@@ -1,9 +1,10 @@
--- Questions 1, 3 and 5; then the window becomes what the fill leaves of it.
+-- Questions 1, 3 and 5; then the window becomes what the fill leaves of it, whatever its other fields are.
 use Prim.Native.Nat.{ℕ, _*_}
 use mathlib.Core.Path.{_≡_, refl, sym, ap, _∙_}
 use mathlib.Core.Bool.{true, false, cond}
 use mathlib.Core.List.{List, [], _∷_}
 use native.Mathlib.Omega.{arith}
+use borrow.Author.Tests.{not-true, not-false}
 use Rattle.geom.specs.declared.Rect.{Rect}
 use Rattle.geom.specs.Questions.{_is_}
 use Rattle.geom.specs.Geom.{smallRect, meets}
@@ -12,10 +13,10 @@ use Rattle.rules.specs.Group.{Group, win}
 use Rattle.rules.specs.Store as Spec
 use Rattle.rules.specs.Store.{bounds, filledAt}
 use Rattle.rules.specs.Calls.{Fill, does, accepted}
+use Rattle.rules.specs.Panels as Panels
 use Rattle.windows.specs.View.{filledWin}
-use Rattle.windows.proofs.laws.Shared.{same-shared}
-use Rattle.windows.proofs.laws.Pixels.{is-holding}
-use Rattle.windows.proofs.laws.Store.{Rule, Counts, Writable, writable, not-whole, not-used, no, yes, place, stored, small-rect, set-if, accepted-one, refused-one}
+use Rattle.windows.proofs.laws.Store.{Rule, Counts, Writable, writable, not-whole, not-used, no, small-rect, set-if}
+use Rattle.windows.proofs.laws.Store.{place-as, stored-as, accepted-as, refused-as}
 use borrow.Author.Needs.{needs}
 use Rattle.windows.proofs.inner.store.fill.Statement.{statement}
 use Rattle.windows.proofs.inner.store.fill.Tie as tie
@@ -37,25 +38,51 @@ unfolding does Spec.fill
 counts {id} {a} {v} {store} =
     record { counts = λ g. altered-cond (accepted g (Fill id a v store)) store (filledAt (id * g .c) (win g id) a v store) }
 
--- questions 1 and 3 are answered yes
-known : (c : tie.Then2) → let a = c .before .before .before .before .before .args in Writable (a .id .0) (a .win) (a .shared) (a .store .now)
-known c = writable (c .before .before .if1 .taken) (c .before .is-used .ensures) (c .if2 .taken)
+-- where the call starts, from questions 1 and 3 on
+abbrev start : tie.Else2 → tie.Start
+start c = c .before .before .before .before
+
+-- they are answered yes
+known : (c : tie.Else2) → let a = start c .args in Writable (a .id .0) (a .used) (a .c) (a .store .now)
+known c = writable (c .before .before .if1 .left) (c .before .in-use .ensures) (not-false _ (c .if2 .left))
 
 -- and question 5
-small : (c : tie.Then3) → smallRect (c .before .before .before .before .before .before .before .args .area) ≡ true
-small c = sym (c .before .is-small .ensures) ∙ c .if3 .taken
-
-cast-c : tie.Need-cast-c
-cast-c c = search needs
+small : (c : tie.Else3) → smallRect (start (c .before .before) .args .area) ≡ true
+small c = sym (c .before .is-small .ensures) ∙ not-false _ (c .if3 .left)
 
 mul-if1 : tie.Need-mul-if1
 mul-if1 c = search needs
 
-is-used-requires : tie.Need-is-used-requires
-is-used-requires c κs = search needs
+unpainted-requires : tie.Need-unpainted-requires
+unpainted-requires c κs = search needs
+
+returns : tie.Need-returns
+returns c = refused-as _ counts 0 (c .unpainted .ensures) (λ w k. not-whole rule (c .before .if1 .taken))
+
+in-use-requires : tie.Need-in-use-requires
+in-use-requires c κs = search needs
+
+unpainted-requires-2 : tie.Need-unpainted-requires-2
+unpainted-requires-2 c κs = search needs
+
+returns-2 : tie.Need-returns-2
+returns-2 c =
+    let t = c .before in
+    refused-as _ counts 2 (c .unpainted2 .ensures)
+    (λ w k. not-used rule (t .before .before .if1 .left) (t .before .in-use .ensures) (not-true _ (t .if2 .taken)))
 
 is-small-requires : tie.Need-is-small-requires
 is-small-requires c κs = search needs
+
+unpainted-requires-3 : tie.Need-unpainted-requires-3
+unpainted-requires-3 c κs = search needs
+
+returns-3 : tie.Need-returns-3
+returns-3 c =
+    let i = c .before .before in
+    let t = i .before in
+    let e : smallRect (start t .args .area) ≡ false = sym (i .is-small .ensures) ∙ not-true _ (c .before .if3 .taken) in
+    refused-as _ counts 4 (c .unpainted3 .ensures) (λ w k. no rule (known t) 4 (rw e))
 
 cast-fill-rect : tie.Need-cast-fill-rect
 cast-fill-rect c = search needs
@@ -63,53 +90,42 @@ cast-fill-rect c = search needs
 mul-fill-rect : tie.Need-mul-fill-rect
 mul-fill-rect c =
     let t = c .before .before .before in
-    omega (arith, place (t .before .before .before .before .before .pre) (known t))
+    omega (arith, place-as (start t .pre) (known t))
 
 fill-rect-requires : tie.Need-fill-rect-requires
 fill-rect-requires c κs =
     let f = c .before .before in
     let t = f .before .before in
-    let s = t .before .before .before .before .before in
-    (stored (s .pre) (known t), small-rect (s .args .area) (small f))
+    let s = start t in
+    let h = stored-as (s .pre) (known t) in
+    (h .0, h .1, small-rect (s .args .area) (small f))
 
 same-length : tie.Need-same-length
 same-length c = search needs
 
-returns : tie.Need-returns
-returns c =
-    let f = c .before .before .before .before .before .before in
-    let t = f .before .before in
-    let e = c .before .before .before .fill-rect .ensures in
-    accepted-one _ counts (known t) (is-holding (e .0) (e .2)) (yes rule (known t) same-shared _ _ (rw (small f)) (e .0, e .1 .pixels)) (e .1 .altered)
-
-returns-2 : tie.Need-returns-2
-returns-2 c =
-    let t = c .before .before in
-    let s = t .before .before .before .before .before in
-    let e : smallRect (s .args .area) ≡ false = sym (c .before .is-small .ensures) ∙ c .if3 .left in
-    refused-one _ counts 4 (no rule (known t) 4 (rw e))
-
-returns-3 : tie.Need-returns-3
-returns-3 c =
-    let t = c .before .before in
-    refused-one _ counts 2 (not-used rule (t .if1 .taken) (c .before .is-used .ensures) (c .if2 .left))
-
 returns-4 : tie.Need-returns-4
-returns-4 c = refused-one _ counts 0 (not-whole rule (c .if1 .left))
+returns-4 c =
+    let r = c .before .before in
+    let f = r .before .before .before in
+    let t = f .before .before in
+    let a = start t .args in
+    accepted-as (Panels.fill (a .area) (a .colour)) counts rule (known t) (rw (small f)) (r .fill-rect .ensures)
 
 pub fill-spec : {M : Type 1} → statement M
 fill-spec =
     tie.close
     (tie.spec
-    cast-c
     mul-if1
-    is-used-requires
+    unpainted-requires
+    returns
+    in-use-requires
+    unpainted-requires-2
+    returns-2
     is-small-requires
+    unpainted-requires-3
+    returns-3
     cast-fill-rect
     mul-fill-rect
     fill-rect-requires
     same-length
-    returns
-    returns-2
-    returns-3
     returns-4)

@@ -5,19 +5,24 @@ use native.Mathlib.Omega.{arith}
 use lib.ListN.{length}
 use Rattle.geom.specs.Geom.{meets, common}
 use Rattle.geom.proofs.geometry.Answers.{common-is, apart-is, not-refused}
-use Rattle.windows.proofs.laws.Pixels.{Cut, fits, in-window, room, part-small, dirty-win, filled, not-filled}
+use Rattle.rules.specs.Store.{filledAt}
+use Rattle.windows.specs.View.{filledWin}
+use Rattle.windows.proofs.laws.One.{fields}
+use Rattle.windows.proofs.laws.Pixels.{Cut, fits, in-window, room, part-small}
+use Rattle.windows.proofs.laws.Pixels.{paints, dirty-win, filled, not-filled}
 use borrow.Author.Needs.{needs}
 use Rattle.windows.proofs.inner.store.fill_rect.Statement.{statement}
 use Rattle.windows.proofs.inner.store.fill_rect.Tie as tie
 
 -- what is known once the window's own rectangle is there
-own : (c : tie.After-bounds) → let a = c .before .before .before .before .args in Cut (length (a .store .now)) (a .base) (a .win) (a .area) (c .bounds .result)
-own c = let s = c .before .before .before .before in record { stored = s .pre .0; small = s .pre .1; is = c .bounds .ensures }
+own : (c : tie.After-bounds) → let a = c .before .before .args in
+    Cut (length (a .store .now)) (a .base) (a .at) (a .area) (c .bounds .result)
+own c = let s = c .before .before in record { rows = s .pre .0; small = s .pre .2; is = c .bounds .ensures }
 
 -- the part that the area has in it
 met : (c : tie.After-cut) → let b = c .before .before .before in
-    (meets (b .before .before .before .before .args .area) (b .bounds .result) ≡ true)
-    × (c .cut .given .0 .0 ≡ common (b .before .before .before .before .args .area) (b .bounds .result))
+    let a = b .before .before .args in
+    (meets (a .area) (b .bounds .result) ≡ true) × (c .cut .given .0 .0 ≡ common (a .area) (b .bounds .result))
 met c = let b = c .before .before in common-is (fits (own (b .before))) (b .intersect .ensures) (c .cut .given .1)
 
 bounds-requires : tie.Need-bounds-requires
@@ -49,16 +54,19 @@ cast-fill-area-5 c = search needs
 
 fill-area-requires : tie.Need-fill-area-requires
 fill-area-requires c κs =
-    let k = c .before .before .before .before .before .before .before in
+    let f = c .before .before .before in
+    let k = f .before .before .before .before in
     let q = own (k .before .before .before) in
     room q (in-window q (met k .0) (met k .1))
 
 damaged-requires : tie.Need-damaged-requires
 damaged-requires c κs =
-    let k = c .before .before .before .before .before .before .before .before .before .before in
-    let q = own (k .before .before .before) in
-    let r = q .stored .rep in
-    (r .damage, part-small q (in-window q (met k .0) (met k .1)), r .at .width≤, r .at .height≤)
+    let f = c .before .before .before .before .before in
+    let k = f .before .before .before .before .before in
+    let b = k .before .before .before in
+    let q = own b in
+    let o = q .rows .small in
+    (b .before .before .pre .1, part-small q (in-window q (met k .0) (met k .1)), o .width≤, o .height≤)
 
 enum-told : tie.Need-enum-told
 enum-told c = search needs
@@ -77,25 +85,37 @@ same-length c = search needs
 
 returns : tie.Need-returns
 returns c =
-    let k = c .before .before .before .before .before .before .before .before .before .before .before in
+    let f = c .before .before .before in
+    let g = f .before .before .before .before in
+    let k = g .before .before .before .before in
     let b = k .before .before .before in
-    let a = b .before .before .before .before .args in
-    let f = filled (own b) (k .cut .given .0 .0) _ (a .colour) (a .store .now) _ _ (met k .0) (met k .1)
-    (dirty-win (a .win) (k .cut .given .0 .0) (c .damaged .result) (own b .stored .rep) (c .damaged .ensures)) (c .before .before .before .fill-area .ensures) in
-    (f .0, f .1, c .damaged .ensures .past)
+    let a = b .before .before .args in
+    let part = k .cut .given .0 .0 in
+    paints (filledWin (a .area)) (λ v. filledAt (a .base) v (a .area) (a .colour) (a .store .now))
+    (λ w rep.
+    let v = fields (w .used) (a .at) (a .old) w in
+    let p = filled v (own b) part _ (a .colour) (a .store .now) _ _ (met k .0) (met k .1)
+    (dirty-win v part (c .damaged .result) rep (c .damaged .ensures)) (f .fill-area .ensures) in
+    record { window = p .0; past = c .damaged .ensures .past; counted = p .1; answer = refl })
 
 returns-2 : tie.Need-returns-2
 returns-2 c =
-    let b = c .before .before .before in
-    let a = b .before .before .before .before .before .args in
-    let q = own (b .before) in
-    let n = not-filled q (a .colour) (a .store .now) (apart-is (fits q) (b .intersect .ensures) (c .before .enum-told .given .1)) in
-    rw (c .unpainted .ensures) (n .0, n .1, refl)
+    let i = c .before .before .before in
+    let b = i .before in
+    let a = b .before .before .args in
+    let q = own b in
+    rw (c .unpainted .ensures)
+    (paints (filledWin (a .area)) (λ v. filledAt (a .base) v (a .area) (a .colour) (a .store .now))
+    (λ w rep.
+    let v = fields (w .used) (a .at) (a .old) w in
+    let n = not-filled v q (a .colour) (a .store .now) rep
+    (apart-is (fits q) (i .intersect .ensures) (c .before .enum-told .given .1)) in
+    record { window = n .0; past = refl; counted = n .1; answer = refl }))
 
 returns-3 : tie.Need-returns-3
 returns-3 c =
-    let b = c .before .before .before in
-    absurd (not-refused (fits (own (b .before))) (b .intersect .ensures) (c .before .enum-told2 .given .1))
+    let i = c .before .before .before in
+    absurd (not-refused (fits (own (i .before))) (i .intersect .ensures) (c .before .enum-told2 .given .1))
 
 pub fill-rect-spec : {M : Type 1} → statement M
 fill-rect-spec =

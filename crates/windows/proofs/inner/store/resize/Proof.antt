@@ -39,7 +39,7 @@ product w h p = let m : w * h ≤ 32767 * h = mul-le-mul-right h (p .0) in omega
 abbrev start : tie.Then2 → tie.Start
 start c = let test = c .before .before in test .before .before .before
 
-known : (c : tie.Then2) → let a = start c .args in Writable (a .id .0) (a .win) (a .shared) (a .store .now)
+known : (c : tie.Then2) → let a = start c .args in Writable (a .id .0) (a .win .used) (a .shared .c) (a .store .now)
 known c = writable (c .before .before .if1 .taken) (c .before .is-used .ensures) (c .if2 .taken)
 
 -- question 5 is asked of the size that is made of the two numbers
