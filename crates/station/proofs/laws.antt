@@ -1,3 +1,4 @@
 -- Lemmas over plain lists and numbers.
 pub mod Events
 pub mod Parts
+pub mod Redraw

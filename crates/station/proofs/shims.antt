@@ -1,23 +1,40 @@
--- A call that takes the session behind a pointer: one walk of MIR for each shape, over any plain types. A call's own proof names the shape, the
--- types and the promise. `Place`, `Seek` and `Turn` change one window and what the windows share in place; `Shared` changes what they share alone;
--- `Settle` looks at the session and then settles it; `One` puts another session there; `Read` reads it.
+-- A call that takes the session behind a pointer: one walk of MIR for each shape, over any plain types. A call's own
+-- proof names the shape, the types and the promise. `Place`, `Seek` and `Turn` change one window and what the windows
+-- share in place; `Fields`, `Front` and `Back` touch single fields of them; `Field` changes one other field alone; `Each`
+-- goes through windows in a loop and touches two places of each (`Spot`), with the slices lent again in each turn
+-- (`Relend`); `Settle` looks at the session and then settles it; `One` puts another session there; `Read` reads it.
 pub mod Types
 pub mod Item
 pub mod Slots
 pub mod Locals
+pub mod Vars
 pub mod Steps
 pub mod Frame
 pub mod Args
 pub mod Passing
 pub mod Call
 pub mod Find
+pub mod Ask
 pub mod Lend
 pub mod InPlace
+pub mod Inside
+pub mod Stack
+pub mod Touch
 pub mod Parameters
+pub mod Spot
+pub mod Relend
+pub mod Rooms
+pub mod Each
+pub mod Spots
+pub mod Ways
+pub mod Queues
 pub mod Place
+pub mod Fields
+pub mod Front
+pub mod Back
 pub mod Seek
 pub mod Turn
-pub mod Shared
+pub mod Field
 pub mod Settle
 pub mod One
 pub mod Read

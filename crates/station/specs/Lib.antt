@@ -5,3 +5,4 @@ pub mod Looks
 pub mod Parts
 pub mod Rects
 pub mod Inner
+pub mod Redraw

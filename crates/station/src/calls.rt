@@ -1,5 +1,6 @@
-// The calls of a session, which lies behind a pointer. A call that touches one window works on that window and on what the windows share, and
-// puts both back in their place; one that touches no window, on what they share alone. The session is not copied.
+// The calls of a session, which lies behind a pointer. A call that touches one window works on that window and on what
+// the windows share, and puts both back in their place; one that touches no window, on what they share alone. A fill, a
+// blit, a route and a pop read and write single fields where they lie. The session is not copied.
 //
 // Before `roq_start` the memory holds zeros or a session; before any other call, a session that `roq_start` and later calls left.
 ghost use mathlib.Core.Path.{_≡_};
@@ -13,6 +14,7 @@ ghost use Rattle.station.specs.Looks.{lookOf};
 use crate::events::RoqEvent;
 use crate::looks;
 use crate::looks::RoqLook;
+use crate::redraw;
 use crate::values;
 use crate::values::RoqCreated;
 use crate::values::RoqDisplay;
@@ -21,6 +23,8 @@ use geom::Rect;
 use order::WinId;
 use sheet::Count;
 use winbuf::Altered;
+use window::queue::back;
+use window::queue::front;
 use windows::InView;
 use windows::Listing;
 use windows::Placed;
@@ -34,8 +38,6 @@ use windows::inner::events::tell;
 use windows::inner::one;
 use windows::inner::one::slot;
 use windows::inner::portion;
-use windows::inner::redraw::draw;
-use windows::inner::redraw::settled;
 use windows::inner::store;
 
 #[no_mangle]
@@ -187,11 +189,18 @@ pub extern "C" fn roq_fill(
     ensures { λ r. ⌜ MeetsAltered (id .0) (Write.fill area colour) (now (store .entry)) (now (s .entry)) (written (now (s .exit)) r) (now (store .exit)) ⌝ }
 {
     let at = slot(id);
-    let d = store::fill((*s).windows[at], (*s).shared, id, area, colour, store);
-    let w = d.window;
-    (*s).windows[at] = w;
-    let k = d.shared;
-    (*s).shared = k;
+    let d = store::fill(
+        (*s).windows[at].used,
+        (*s).windows[at].at,
+        (*s).windows[at].damage,
+        (*s).shared.c,
+        id,
+        area,
+        colour,
+        store,
+    );
+    let e = d.damage;
+    (*s).windows[at].damage = e;
     d.result
 }
 
@@ -208,11 +217,19 @@ pub extern "C" fn roq_blit(
     ensures { λ r. ⌜ MeetsAltered (id .0) (Write.blit area (now («data» .entry)) stride) (now (store .entry)) (now (s .entry)) (written (now (s .exit)) r) (now (store .exit)) ⌝ }
 {
     let at = slot(id);
-    let d = store::blit((*s).windows[at], (*s).shared, id, area, stride, data, store);
-    let w = d.window;
-    (*s).windows[at] = w;
-    let k = d.shared;
-    (*s).shared = k;
+    let d = store::blit(
+        (*s).windows[at].used,
+        (*s).windows[at].at,
+        (*s).windows[at].damage,
+        (*s).shared.c,
+        id,
+        area,
+        stride,
+        data,
+        store,
+    );
+    let e = d.damage;
+    (*s).windows[at].damage = e;
     d.result
 }
 
@@ -221,9 +238,9 @@ pub extern "C" fn roq_add_display(s: &mut Session, region: Rect) -> u32
     requires { ⌜ Given (now s) ⌝ }
     ensures { λ r. ⌜ Meets (Call.AddDisplay region) (now (s .entry)) (done (now (s .exit)) r) ⌝ }
 {
-    let d = (*s).add_display(region);
-    let t = d.session;
-    *s = t;
+    let d = (*s).displays.add(region);
+    let t = d.displays;
+    (*s).displays = t;
     d.answer
 }
 
@@ -261,11 +278,21 @@ pub extern "C" fn roq_route(s: &mut Session, e: RoqEvent) -> u32
 {
     let aim = values::aim(*s, e);
     let at = aim.at;
-    let d = tell((*s).windows[at], (*s).shared, aim.what);
-    let w = d.window;
-    (*s).windows[at] = w;
-    let k = d.shared;
-    (*s).shared = k;
+    let k = back((*s).windows[at].queue.head, (*s).windows[at].queue.len);
+    let d = tell(
+        (*s).windows[at].queue.slots[k],
+        (*s).windows[at].cursor,
+        (*s).windows[at].queue.len,
+        (*s).shared.held,
+        aim.what,
+    );
+    let x = d.slot;
+    (*s).windows[at].queue.slots[k] = x;
+    let c = d.cursor;
+    (*s).windows[at].cursor = c;
+    (*s).windows[at].queue.len = d.len;
+    let h = d.held;
+    (*s).shared.held = h;
     d.answer
 }
 
@@ -275,11 +302,19 @@ pub extern "C" fn roq_pop(s: &mut Session, id: WinId) -> RoqPopped
     ensures { λ r. ⌜ Pops (id .0) (now (s .entry)) (now (s .exit)) r ⌝ }
 {
     let at = slot(id);
-    let d = values::pop((*s).windows[at], (*s).shared, id);
-    let w = d.window;
-    (*s).windows[at] = w;
-    let k = d.shared;
-    (*s).shared = k;
+    let k = front((*s).windows[at].queue.head);
+    let d = values::pop(
+        (*s).windows[at].used,
+        (*s).windows[at].cursor,
+        (*s).windows[at].queue.head,
+        (*s).windows[at].queue.len,
+        (*s).windows[at].queue.slots[k],
+        id,
+    );
+    let c = d.cursor;
+    (*s).windows[at].cursor = c;
+    (*s).windows[at].queue.head = d.head;
+    (*s).windows[at].queue.len = d.len;
     d.popped
 }
 
@@ -295,11 +330,27 @@ pub extern "C" fn roq_redraw(
     requires { ⌜ Given (now s) ⌝ }
     ensures { λ r. ⌜ MeetsScreen (Call.Redraw told width height (now (store .entry)) (now (screen .entry))) (now (s .entry)) (done (now (s .exit)) r) (now (screen .exit)) ⌝ }
 {
-    let d = draw(*s, told, width, height, store, screen);
-    let e = settled(*s, d);
-    let t = e.session;
-    *s = t;
-    e.answer
+    let plan = redraw::plan(*s, told, width, height, store.len(), screen.len());
+    let mut p: usize = 0;
+    while p < plan.n {
+        let at = redraw::place(plan.order, p);
+        let d = redraw::draw_turn(
+            (*s).windows[at].damage,
+            plan.layout,
+            at,
+            p,
+            width,
+            height,
+            store,
+            screen,
+        );
+        (*s).windows[at].marked = d.marked;
+        (*s).windows[at].damage.len = d.len;
+        p += 1;
+    }
+    let due = redraw::paid((*s).shared.due, plan.answer);
+    (*s).shared.due = due;
+    plan.answer
 }
 
 #[no_mangle]

@@ -7,6 +7,7 @@ mod events;
 mod looks;
 mod pixels;
 mod rects;
+mod redraw;
 mod sheets;
 mod times;
 mod values;

@@ -1,21 +1,23 @@
 // The functions of one window where the exported call hands back something else: enums become numbers.
 ghost use mathlib.Core.Path.{_≡_};
-ghost use Prim.Native.Nat.{_<_};
-ghost use Rattle.window.specs.Held.{RepWindow};
+ghost use Prim.Native.Nat.{_≤_, _<_};
+ghost use Rattle.window.specs.Held.{RepCursor};
 ghost use Rattle.rules.specs.Group.{idOr};
 ghost use Rattle.rules.specs.DisplayAt.{displayAt};
 ghost use Rattle.windows.specs.View.{group, Given, Starts, idOf};
 ghost use Rattle.windows.specs.Aimed.{Aims};
 ghost use Rattle.station.specs.Events.{eventOf, Routes};
 ghost use Rattle.station.specs.Answers.{displayed};
-ghost use Rattle.station.specs.Inner.{MakesAt, TakesAt};
+ghost use Rattle.station.specs.Inner.{MakesAt, TakesFront};
 use crate::events;
 use crate::events::RoqEvent;
 use display::Located;
 use geom::Pos;
 use geom::Rect;
 use order::WinId;
+use window::CursorPos;
 use window::Window;
+use window::slots::Slot;
 use windows::Done;
 use windows::NewId;
 use windows::NextEvent;
@@ -56,11 +58,12 @@ pub struct Made {
     pub created: RoqCreated,
 }
 
-// What a pop makes of one window, and what it hands back.
+// What a pop makes of one window, field by field, and what it hands back.
 #[repr(C)]
 pub struct Taken {
-    pub window: Window,
-    pub shared: Shared,
+    pub cursor: CursorPos,
+    pub head: u8,
+    pub len: u8,
     pub popped: RoqPopped,
 }
 
@@ -122,21 +125,22 @@ pub fn create(win: Window, shared: Shared, id: WinId) -> Made
     }
 }
 
-pub fn pop(win: Window, shared: Shared, id: WinId) -> Taken
-    requires { ⌜ RepWindow win ⌝ }
-    ensures { λ r. ⌜ TakesAt (id .0) win shared r ⌝ }
+pub fn pop(used: bool, cursor: CursorPos, head: u8, len: u8, first: Slot, id: WinId) -> Taken
+    requires { ⌜ RepCursor cursor × (head < 16) × (len ≤ 16) ⌝ }
+    ensures { λ r. ⌜ TakesFront (id .0) used cursor head len first r ⌝ }
 {
-    let first = windows::inner::events::pop(win, id);
-    let next = first.event;
+    let front = windows::inner::events::pop(used, cursor, head, len, first, id);
+    let next = front.event;
     let event = events::numbers_of(next);
     let popped = RoqPopped {
-        answer: first.answer,
+        answer: front.answer,
         event,
     };
-    let window = first.window;
+    let read = front.cursor;
     Taken {
-        window,
-        shared,
+        cursor: read,
+        head: front.head,
+        len: front.len,
         popped,
     }
 }

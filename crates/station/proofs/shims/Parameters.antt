@@ -20,6 +20,8 @@ use Rattle.window.proofs.Window as Window
 use Rattle.window.proofs.Window.Laws as Window′
 use Rattle.display.proofs.Displays as Displays
 use Rattle.display.proofs.Displays.Laws as Displays′
+use Rattle.display.proofs.Added as Added
+use Rattle.display.proofs.Added.Laws as Added′
 use Rattle.order.proofs.WinId as WinId
 use Rattle.order.proofs.WinId.Laws as WinId′
 use Rattle.windows.specs.View.{blank}
@@ -33,8 +35,6 @@ use Rattle.windows.proofs.Done as Done
 use Rattle.windows.proofs.Done.Laws as Done′
 use Rattle.windows.proofs.Changed as Changed
 use Rattle.windows.proofs.Changed.Laws as Changed′
-use Rattle.windows.proofs.WrittenOne as WrittenOne
-use Rattle.windows.proofs.WrittenOne.Laws as WrittenOne′
 use Rattle.windows.proofs.FreeSlot as FreeSlot
 use Rattle.windows.proofs.FreeSlot.Laws as FreeSlot′
 use Rattle.windows.proofs.Listing as Listing
@@ -57,8 +57,6 @@ use Rattle.windows.proofs.inner.dims.Planned as Planned
 use Rattle.windows.proofs.inner.dims.Planned.Laws as Planned′
 use Rattle.windows.proofs.inner.events.Message as Message
 use Rattle.windows.proofs.inner.events.Message.Laws as Message′
-use Rattle.windows.proofs.inner.events.Aim as Aim
-use Rattle.windows.proofs.inner.events.Aim.Laws as Aim′
 use Rattle.station.proofs.events.RoqEvent as RoqEvent
 use Rattle.station.proofs.events.RoqEvent.Laws as RoqEvent′
 use Rattle.station.proofs.looks.RoqLook as RoqLook
@@ -71,8 +69,6 @@ use Rattle.station.proofs.values.RoqDisplay as RoqDisplay
 use Rattle.station.proofs.values.RoqDisplay.Laws as RoqDisplay′
 use Rattle.station.proofs.values.Made as Made
 use Rattle.station.proofs.values.Made.Laws as Made′
-use Rattle.station.proofs.values.Taken as Taken
-use Rattle.station.proofs.values.Taken.Laws as Taken′
 use Rattle.station.proofs.shims.Types.{Plain, Of, Pair, Trio, index, ofField, ofStruct}
 use Rattle.station.proofs.shims.Slots.{Slots, spelled, each-told, maps, each-out, each-in}
 
@@ -166,6 +162,7 @@ windows = record {
   shared = λ s. s .shared;
   rest = λ s. s .displays;
   make = λ ws h o. record { windows = ws; shared = h; displays = o };
+  made = λ ws h o. (refl, refl, refl);
   blank = blank;
   tells = λ s vs is. session .tells s vs is ∙ ap (λ (us : List Val). spelled window shared displays us (s .shared) (s .displays) ∷ []) (vals-of (s .windows));
   typed = λ 𝓤 H A W s v is. Laws.lawful Session.the-type Session′.the-laws 𝓤 H A W .typed s (v ∷ []) is .0;
@@ -220,16 +217,16 @@ sharedDone = record {
   owed = λ d v is. let parts = Laws.owed SharedDone.the-type SharedDone′.the-laws d (v ∷ []) is in (parts .0, parts .1 .0);
 }
 
--- a place, and what the window there is told
-abbrev pub aim : Pair index message
-aim = record {
-  type = Aim.the-row;
-  name = Aim.struct .name;
-  fst = λ d. d .at;
-  snd = λ d. d .what;
-  tells = Laws.tells Aim.the-type Aim′.the-laws;
-  typed = λ 𝓤 H A W d v is. Laws.lawful Aim.the-type Aim′.the-laws 𝓤 H A W .typed d (v ∷ []) is .0;
-  owed = λ d v is. let parts = Laws.owed Aim.the-type Aim′.the-laws d (v ∷ []) is in (parts .0, parts .1 .0);
+-- the displays, and the answer
+abbrev pub added : Pair displays number
+added = record {
+  type = Added.the-row;
+  name = Added.struct .name;
+  fst = λ d. d .displays;
+  snd = λ d. d .answer;
+  tells = Laws.tells Added.the-type Added′.the-laws;
+  typed = λ 𝓤 H A W d v is. Laws.lawful Added.the-type Added′.the-laws 𝓤 H A W .typed d (v ∷ []) is .0;
+  owed = λ d v is. let parts = Laws.owed Added.the-type Added′.the-laws d (v ∷ []) is in (parts .0, parts .1 .0);
 }
 
 -- the place of the window whose turn it is, and what is lent for it
@@ -281,19 +278,6 @@ changed = record {
   owed = λ d v is. let parts = Laws.owed Changed.the-type Changed′.the-laws d (v ∷ []) is in (parts .0, parts .1 .0, parts .1 .1 .0);
 }
 
--- the same of a fill or a blit
-abbrev pub writtenOne : Trio window shared altered
-writtenOne = record {
-  type = WrittenOne.the-row;
-  name = WrittenOne.struct .name;
-  fst = λ d. d .window;
-  snd = λ d. d .shared;
-  trd = λ d. d .result;
-  tells = Laws.tells WrittenOne.the-type WrittenOne′.the-laws;
-  typed = λ 𝓤 H A W d v is. Laws.lawful WrittenOne.the-type WrittenOne′.the-laws 𝓤 H A W .typed d (v ∷ []) is .0;
-  owed = λ d v is. let parts = Laws.owed WrittenOne.the-type WrittenOne′.the-laws d (v ∷ []) is in (parts .0, parts .1 .0, parts .1 .1 .0);
-}
-
 -- the same of a create
 abbrev pub made : Trio window shared created
 made = record {
@@ -305,17 +289,4 @@ made = record {
   tells = Laws.tells Made.the-type Made′.the-laws;
   typed = λ 𝓤 H A W d v is. Laws.lawful Made.the-type Made′.the-laws 𝓤 H A W .typed d (v ∷ []) is .0;
   owed = λ d v is. let parts = Laws.owed Made.the-type Made′.the-laws d (v ∷ []) is in (parts .0, parts .1 .0, parts .1 .1 .0);
-}
-
--- the same of a pop
-abbrev pub taken : Trio window shared popped
-taken = record {
-  type = Taken.the-row;
-  name = Taken.struct .name;
-  fst = λ d. d .window;
-  snd = λ d. d .shared;
-  trd = λ d. d .popped;
-  tells = Laws.tells Taken.the-type Taken′.the-laws;
-  typed = λ 𝓤 H A W d v is. Laws.lawful Taken.the-type Taken′.the-laws 𝓤 H A W .typed d (v ∷ []) is .0;
-  owed = λ d v is. let parts = Laws.owed Taken.the-type Taken′.the-laws d (v ∷ []) is in (parts .0, parts .1 .0, parts .1 .1 .0);
 }

@@ -1,15 +1,19 @@
--- `roq_add_display` is `Session::add_display` behind a pointer.
+-- `roq_add_display` is `Displays::add` of the session's displays.
+use mathlib.Core.List.{[], _∷_}
 use contract.Running.{tables}
-use contract.Monad.{fact}
 use denote.Triple.Spec.{tripleOf}
 use denote.Triple.Table.{entered}
 use Rattle.rules.specs.Calls.{AddDisplay}
+use Rattle.display.specs.Held.{RepDisplays, Adds}
+use Rattle.display.proofs.Displays.add.Symbol as value
+use Rattle.display.proofs.Displays.add.Met as value′
 use Rattle.windows.specs.View.{Given, Meets}
 use Rattle.windows.specs.View as View
-use Rattle.windows.proofs.Session.add_display.Symbol as value
-use Rattle.windows.proofs.Session.add_display.Met as value′
-use Rattle.station.proofs.shims.One as shim
-use Rattle.station.proofs.shims.Parameters.{session, rect, number, done}
+use Rattle.windows.proofs.laws.Dims.{adds-display}
+use Rattle.station.proofs.shims.Field as shim
+use Rattle.station.proofs.shims.Args.{value as plain}
+use Rattle.station.proofs.shims.Slots.{third}
+use Rattle.station.proofs.shims.Parameters.{window, shared, displays, rect, number, windows, added}
 use Rattle.station.proofs.calls.roq_add_display as f
 use Rattle.station.proofs.calls.roq_add_display.Key as key
 use Rattle.station.proofs.calls.roq_add_display.Statement.{statement}
@@ -20,5 +24,8 @@ unfolding code.routine
 roq-add-display-spec 𝓤 H 𝓜 𝓖 𝓡 =
     entered 𝓤 H (tripleOf 𝓤 H (𝓖 .A) f.signature (f.spec 𝓤 H (𝓖 .A) (𝓜 .mem) (𝓡 .run)))
     (tables 𝓤 H 𝓜 𝓡 code.env .C) (tables 𝓤 H 𝓜 𝓡 code.env .Λ) key.name code.function (code.unfolded 𝓤 H 𝓜 𝓡)
-    (shim.meets session rect number done (λ M 𝓤 s. fact 𝓤 (Given s)) (λ s r a t. Meets (AddDisplay r) s (View.done t a))
-    𝓤 H 𝓜 𝓖 𝓡 code.env value.name value.routine code.calls-windows·Session·add-display (value′.met 𝓤 H 𝓜 𝓖 𝓡))
+    (shim.meets window shared displays displays number 0 (plain rect ∷ []) windows (third windows) added
+    Given (λ d κs a. RepDisplays d) (λ d κs a r e. Adds d (a .0) r)
+    (λ κs s a n t e. Meets (AddDisplay (a .0)) s (View.done t n))
+    (λ κs s a h. h .rep .displays) (λ κs s a r ws h d. adds-display s h (a .0) r d)
+    𝓤 H 𝓜 𝓖 𝓡 code.env value.name value.routine code.calls-display·Displays·add (value′.met 𝓤 H 𝓜 𝓖 𝓡))

@@ -11,8 +11,9 @@ use Rattle.windows.specs.One.{MeetsShared}
 use Rattle.windows.proofs.inner.dim.dim as g
 use Rattle.windows.proofs.inner.dim.dim.Symbol as value
 use Rattle.windows.proofs.inner.dim.dim.Met as value′
-use Rattle.station.proofs.shims.Shared as shim
+use Rattle.station.proofs.shims.Field as shim
 use Rattle.station.proofs.shims.Args.{value as plain}
+use Rattle.station.proofs.shims.Slots.{second}
 use Rattle.station.proofs.shims.Steps.{asks-nothing}
 use Rattle.station.proofs.shims.Parameters.{window, shared, displays, number, flag, windows, sharedDone}
 use Rattle.station.proofs.calls.roq_dim as f
@@ -25,7 +26,7 @@ unfolding code.routine
 roq-dim-spec 𝓤 H 𝓜 𝓖 𝓡 =
     entered 𝓤 H (tripleOf 𝓤 H (𝓖 .A) f.signature (f.spec 𝓤 H (𝓖 .A) (𝓜 .mem) (𝓡 .run)))
     (tables 𝓤 H 𝓜 𝓡 code.env .C) (tables 𝓤 H 𝓜 𝓡 code.env .Λ) key.name code.function (code.unfolded 𝓤 H 𝓜 𝓡)
-    (shim.meets window shared displays number 0 (plain flag ∷ []) windows sharedDone
+    (shim.meets window shared displays shared number 0 (plain flag ∷ []) windows (second windows) sharedDone
     Given (λ k κs a. Unit {0}) (λ k κs a r e. MeetsShared (Dim (a .0)) k r)
     (λ κs s a n t e. Meets (Dim (a .0)) s (View.done t n))
     (λ κs s a h. tt) (λ κs s a r ws h d. d s h refl)

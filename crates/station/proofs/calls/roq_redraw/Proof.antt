@@ -1,20 +1,30 @@
--- `roq_redraw` draws, and then settles the session.
-use mathlib.Core.List.{[], _∷_}
+-- `roq_redraw` goes through the windows that are shown, lowest first.
+use Prim.Native.Nat.{_<_}
+use mathlib.Core.Path.{_≡_}
+use mathlib.Core.Bool.{cond}
+use lib.Dec.{eqb}
+use lib.ListN.{length, getD}
 use contract.Running.{tables}
 use denote.Ref.{now}
 use denote.Triple.Spec.{tripleOf}
 use denote.Triple.Table.{entered}
 use Rattle.rules.specs.Calls.{Redraw}
+use Rattle.order.specs.Order.{noId}
 use Rattle.windows.specs.View.{Given, MeetsScreen}
 use Rattle.windows.specs.View as View
-use Rattle.windows.specs.Drawing.{Draws, Settles}
-use Rattle.windows.proofs.inner.redraw.draw.Symbol as find
-use Rattle.windows.proofs.inner.redraw.draw.Met as find′
-use Rattle.windows.proofs.inner.redraw.settled.Symbol as value
-use Rattle.windows.proofs.inner.redraw.settled.Met as value′
-use Rattle.station.proofs.shims.Settle as shim
-use Rattle.station.proofs.shims.Args.{value, reads, writes}
-use Rattle.station.proofs.shims.Parameters.{session, flag, number, drawn, done}
+use Rattle.station.specs.Redraw.{PlansRedraw, SomeTurn, DrawsTurn, free}
+use Rattle.station.proofs.laws.Redraw.{Redrawing, begins, asks, inside, some-turn, goes-on, ends}
+use Rattle.station.proofs.redraw.plan.Symbol as plan
+use Rattle.station.proofs.redraw.plan.Met as plan′
+use Rattle.station.proofs.redraw.place.Symbol as place
+use Rattle.station.proofs.redraw.place.Met as place′
+use Rattle.station.proofs.redraw.draw_turn.Symbol as turn
+use Rattle.station.proofs.redraw.draw_turn.Met as turn′
+use Rattle.station.proofs.redraw.paid.Symbol as paid
+use Rattle.station.proofs.redraw.paid.Met as paid′
+use Rattle.station.proofs.shims.Each as shim
+use Rattle.station.proofs.shims.Parameters.{window, shared, displays, flag, number, windows}
+use Rattle.station.proofs.shims.Spots.{byte, damage, due, damaged, marked, entries, dues, order, layout, redrawPlan, cleared}
 use Rattle.station.proofs.calls.roq_redraw as f
 use Rattle.station.proofs.calls.roq_redraw.Key as key
 use Rattle.station.proofs.calls.roq_redraw.Statement.{statement}
@@ -25,10 +35,15 @@ unfolding code.routine
 roq-redraw-spec 𝓤 H 𝓜 𝓖 𝓡 =
     entered 𝓤 H (tripleOf 𝓤 H (𝓖 .A) f.signature (f.spec 𝓤 H (𝓖 .A) (𝓜 .mem) (𝓡 .run)))
     (tables 𝓤 H 𝓜 𝓡 code.env .C) (tables 𝓤 H 𝓜 𝓡 code.env .Λ) key.name code.function (code.unfolded 𝓤 H 𝓜 𝓡)
-    (shim.meets session drawn number 2 (value flag ∷ value number ∷ value number ∷ reads 0 tt ∷ writes 1 tt ∷ []) done
-    Given (λ s κs a d e. Draws (Redraw (a .0) (a .1 .0) (a .1 .1 .0) (now (a .1 .1 .1 .0)) (now (a .1 .1 .1 .1 .0))) s d (now (e .1 .1 .1 .1 .0)))
-    (λ s d. Given s) Settles
+    (shim.meets window shared displays order layout number damage flag byte due flag number number windows redrawPlan cleared damaged marked entries dues
+    Given PlansRedraw (λ o p. p < 16) (λ o p at. at ≡ getD (o .ids) p noId .0)
+    (λ d l at p w h store screen. SomeTurn d l at p w h (length store) (length screen)) DrawsTurn (λ u n r. r ≡ cond (eqb n 0) (free u) u)
     (λ κs s a n t e. MeetsScreen (Redraw (a .0) (a .1 .0) (a .1 .1 .0) (now (a .1 .1 .1 .0)) (now (a .1 .1 .1 .1 .0))) s (View.done t n) (now (e .1 .1 .1 .1 .0)))
-    (λ κs s a d ws h q. h) (λ κs s a d ws r h q m. q r m)
-    𝓤 H 𝓜 𝓖 𝓡 code.env find.name find.routine code.calls-windows·inner·redraw·draw (find′.met 𝓤 H 𝓜 𝓖 𝓡)
-    value.name value.routine code.calls-windows·inner·redraw·settled (value′.met 𝓤 H 𝓜 𝓖 𝓡))
+    (λ κs s₀ a t p s ys. Redrawing s₀ (a .0) (a .1 .0) (a .1 .1 .0) (now (a .1 .1 .1 .0)) (now (a .1 .1 .1 .1 .0)) t p s ys)
+    (λ κs s a t h q. begins s (a .0) (a .1 .0) (a .1 .1 .0) (now (a .1 .1 .1 .0)) (now (a .1 .1 .1 .1 .0)) t h q)
+    (λ κs s₀ a t p s ys q l. asks q l) (λ κs s₀ a t p s ys q l at f. inside q l at f) (λ κs s₀ a t p s ys q l at f. some-turn q l at f)
+    (λ κs s₀ a t p s ys q l at f r zs size d. goes-on q l at f r zs size d) (λ κs s₀ a t p s ys q over u pay. ends q over u pay)
+    𝓤 H 𝓜 𝓖 𝓡 code.env plan.name plan.routine code.calls-station·redraw·plan (plan′.met 𝓤 H 𝓜 𝓖 𝓡)
+    place.name place.routine code.calls-station·redraw·place (place′.met 𝓤 H 𝓜 𝓖 𝓡)
+    turn.name turn.routine code.calls-station·redraw·draw-turn (turn′.met 𝓤 H 𝓜 𝓖 𝓡)
+    paid.name paid.routine code.calls-station·redraw·paid (paid′.met 𝓤 H 𝓜 𝓖 𝓡))

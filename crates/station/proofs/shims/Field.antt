@@ -1,5 +1,5 @@
--- A call that changes the other field alone in place, with any arguments: `fn(s: &mut S, p: P, ..) -> R { let d = g((*s).shared, p, ..);
--- let k = d.fst; (*s).shared = k; d.snd }`.
+-- A call that changes one field alone in place, with any arguments: `fn(s: &mut S, p: P, ..) -> R {
+-- let d = g((*s).field, p, ..); let k = d.fst; (*s).field = k; d.snd }`.
 use mathlib.Core.Path.{_≡_, refl}
 use Prim.Native.Nat.{ℕ, suc}
 use mathlib.Core.List.{[], _∷_, List}
@@ -40,17 +40,22 @@ use Rattle.station.proofs.shims.Frame as frame
 use Rattle.station.proofs.shims.Passing.{given, lent, passedv, fills, prepares, hands}
 use Rattle.station.proofs.shims.Locals.{past, sits}
 use Rattle.station.proofs.shims.Steps.{opens-at, closes-at, answers}
-use Rattle.station.proofs.shims.InPlace.{reads-shared, writes-shared, fetch-shared, restore-shared}
+use Rattle.station.proofs.shims.InPlace.{reads-field, writes-field, fetch-field, restore-field}
 
--- E is the element's type, K the other field's, O that of the field which stays, R the answer's, and ps the arguments, of which n are slices; D is the struct of two that the other
--- field's function hands back
-module _ (E K O R : Plain) (n : ℕ) (ps : List (Arg n)) (L : Slots E K O) (D : Pair K R) where
+-- E is the element's type, K and O those of the other fields, F that of the one which changes, R the answer's, and ps
+-- the arguments, of which n are slices; G is the field, and D the struct of two that its function hands back
+module _ (E K O F R : Plain) (n : ℕ) (ps : List (Arg n)) (L : Slots E K O) (G : slots.Field L F) (D : Pair F R) where
   abbrev S : Plain
   S = slots.plain L
 
-  -- the function of the other field, by value
+  -- the function of the field, by value
   abbrev valueSig : Signature
-  valueSig = record { lifetimes = n; outlives = []; params = plain (λ _. row K) ∷ args.slots′ ps; result = plain (λ _. D .type) }
+  valueSig = record {
+    lifetimes = n;
+    outlives = [];
+    params = plain (λ _. row F) ∷ args.slots′ ps;
+    result = plain (λ _. D .type);
+  }
 
   abbrev valueEnded : Ended
   valueEnded = record { signature = valueSig; kept = all yes (valueSig .params) }
@@ -60,7 +65,7 @@ module _ (E K O R : Plain) (n : ℕ) (ps : List (Arg n)) (L : Slots E K O) (D : 
   first = call.result S R n ps ∷ call.pointer S R n ps ∷ []
 
   abbrev own : List Local
-  own = local (pairTy D) valueLocal ∷ local (K .ty) valueLocal ∷ local (K .ty) valueLocal ∷ []
+  own = local (pairTy D) valueLocal ∷ local (F .ty) valueLocal ∷ local (F .ty) valueLocal ∷ []
 
   -- their numbers
   abbrev own-at : ℕ → ℕ
@@ -76,21 +81,23 @@ module _ (E K O R : Plain) (n : ℕ) (ps : List (Arg n)) (L : Slots E K O) (D : 
     params = past (args.locals ps) 1;
     locals = frame.frame first ps own [];
     body =
-        reads-shared L (own-at 2)
+        reads-field L (G .at) (own-at 2)
         (preps ps 2 lent-at
         (seq (calls g (copy (place (own-at 2) []) ∷ ops ps 2 lent-at) (place (own-at 0) []))
-        (writes-shared L 0 (own-at 0) (own-at 1)
+        (writes-field L (G .at) 0 (own-at 0) (own-at 1)
         return)));
   }
 
-  -- what is known of the session; what the other field's function asks and promises; and what the call promises
-  module _ (Ok : Of S → Type 0) (Pre : Of K → (κs : Lfts n) → args.Passed ps κs → Type 0)
-      (Does : Of K → (κs : Lfts n) → args.Passed ps κs → D .type .Denot → Outs κs (args.slots′ ps) (all yes (args.slots′ ps)) → Type 0)
+  -- what is known of the session; what the field's function asks and promises; and what the call promises
+  module _ (Ok : Of S → Type 0) (Pre : Of F → (κs : Lfts n) → args.Passed ps κs → Type 0)
+      (Does : Of F → (κs : Lfts n) → args.Passed ps κs → D .type .Denot
+      → Outs κs (args.slots′ ps) (all yes (args.slots′ ps)) → Type 0)
       (Q : (κs : Lfts (suc n)) → Of S → args.Given ps κs → Of R → Of S → call.AtExit S R n ps κs → Type 0)
-      (ready : (κs : Lfts (suc n)) (s : Of S) (a : args.Given ps κs) → Ok s → Pre (L .shared s) (κs .1) (pass ps κs a))
+      (ready : (κs : Lfts (suc n)) (s : Of S) (a : args.Given ps κs) → Ok s → Pre (G .get s) (κs .1) (pass ps κs a))
       (law : (κs : Lfts (suc n)) (s : Of S) (a : args.Given ps κs) (r : D .type .Denot) (ws : Left ps κs a) → Ok s
-      → Does (L .shared s) (κs .1) (pass ps κs a) r (outs (κs .1) (args.slots′ ps) (all yes (args.slots′ ps)) (pass ps κs a) ws)
-      → Q κs s a (D .snd r) (slots.share L (D .fst r) s) (call.at-exit S R n ps κs a ws)) where
+      → Does (G .get s) (κs .1) (pass ps κs a) r
+      (outs (κs .1) (args.slots′ ps) (all yes (args.slots′ ps)) (pass ps κs a) ws)
+      → Q κs s a (D .snd r) (G .put (D .fst r) s) (call.at-exit S R n ps κs a ws)) where
     module _ {M : Type 1} (𝓤 : URA M) (H : Heap 𝓤) (A : Atoms 𝓤) where
       abbrev valueClauses : Clauses 𝓤 valueEnded
       valueClauses κs a = record {
@@ -120,14 +127,14 @@ module _ (E K O R : Plain) (n : ℕ) (ps : List (Arg n)) (L : Slots E K O) (D : 
       tokens = raw (toks 𝓤 A n (κs .1) (qs .1))
 
       abbrev to-value : Value 𝓤 H A .Ghost
-      to-value = ((κs .1, qs .1, tt, (L .shared h, pass ps κs (a .1)), (K .val (L .shared h) ∷ [], passedv κs ps (a .1))), tt)
+      to-value = ((κs .1, qs .1, tt, (G .get h, pass ps κs (a .1)), (F .val (G .get h) ∷ [], passedv κs ps (a .1))), tt)
 
-      goes-value : Is (row K) (L .shared h) (K .val (L .shared h) ∷ []) → Pre (L .shared h) (κs .1) (pass ps κs (a .1))
+      goes-value : Is (row F) (G .get h) (F .val (G .get h) ∷ []) → Pre (G .get h) (κs .1) (pass ps κs (a .1))
           → ent 𝓤 (⋆ 𝓤 H A (tokens ∷ others ∷ [])) (Value 𝓤 H A .pre to-value)
-      goes-value k-is pre =
+      goes-value f-is pre =
           qed W (tokens ∷ others ∷ []) ∵ says ! pre $ move ! (1 ∷ []) $
           rewrite ! 0 (λ (F : Fml). ‵ F) (same-owns ps κs (a .1) (call.vss S R n ps Ok Q 𝓤 H A κs qs a .1)) refl $
-          has ! K (L .shared h) k-is $ fjoin ! $ move ! (1 ∷ 0 ∷ []) $ done !
+          has ! F (G .get h) f-is $ fjoin ! $ move ! (1 ∷ 0 ∷ []) $ done !
 
       module _ (C : Calls 𝓤 H) (Λ : Loops 𝓤 H) (fm : FmC 𝓤 H (W .laws) C) (g : Name) (known : Triple 𝓤 (C g) (Value 𝓤 H A)) where
         walk : call.Walk S R n ps Ok Q 𝓤 H A κs qs a (WpFn 𝓤 H C Λ (code g))
@@ -142,24 +149,26 @@ module _ (E K O R : Plain) (n : ℕ) (ps : List (Arg n)) (L : Slots E K O) (D : 
             let there = frame.sits-lent first ps own [] 𝓤 H bs₀ bs bs₁ xs bs₂ in
             params1 ! $ pass1 ! (init ! 11 refl (tt, tt)) $ move ! (8 ∷ []) $ fills κs W ! _ _ _ ps (a .1) bs (are .1) (
             move ! (14 ∷ 15 ∷ 16 ∷ []) $ opens-at S ! tt b o (λ was.
-            -- the other field is read: [the session; the open borrow; obs; auth; the arguments at 4; the lent at 5 and their ends; its own from 7 on
-            -- and their ends; the arguments' ends; _0 and _1 at 14 and their ends; what the arguments own; the tokens]
-            move ! (0 ∷ 15 ∷ 9 ∷ []) $ fetch-shared L h was ! refl (mine .1 .1 .0) $
+            -- the field is read: [the session; the open borrow; obs; auth; the arguments at 4; the lent at 5 and their
+            -- ends; its own from 7 on and their ends; the arguments' ends; _0 and _1 at 14 and their ends; what the
+            -- arguments own; the tokens]
+            move ! (0 ∷ 15 ∷ 9 ∷ []) $ fetch-field L G h was ! refl (mine .1 .1 .0) $
             move ! (6 ∷ 7 ∷ []) $ prepares κs W N _ ! _ ps (a .1) bs xs 2 lent-at (are .1) here there (
-            move ! (19 ∷ 18 ∷ []) $ use2 W (raw (Value 𝓤 H A .pre to-value)) (goes-value (slots.shared-is L h was) (ready κs h (a .1) ok)) $
-            -- [what the call asks; the arguments; the lent; the session; _1; the other field at 5; …]
+            move ! (19 ∷ 18 ∷ []) $
+            use2 W (raw (Value 𝓤 H A .pre to-value)) (goes-value (G .is-get h was) (ready κs h (a .1) ok)) $
+            -- [what the call asks; the arguments; the lent; the session; _1; the field at 5; …]
             calls-at ! fm (Value 𝓤 H A) known to-value (and-then ! (load ! (sits ! (mine .1 .1 .0) (stop !)) (look ! 5 refl))
             (hands κs W N ! _ _ ps (a .1) bs xs 2 lent-at here there)) (λ v.
-            answers W ! tt valueEnded (κs .1) (L .shared h, pass ps κs (a .1)) v tokens
-            (λ r ws. Does (L .shared h) (κs .1) (pass ps κs (a .1)) r
+            answers W ! tt valueEnded (κs .1) (G .get h, pass ps κs (a .1)) v tokens
+            (λ r ws. Does (G .get h) (κs .1) (pass ps κs (a .1)) r
             (outs (κs .1) (args.slots′ ps) (all yes (args.slots′ ps)) (pass ps κs (a .1)) (ws .1))) (λ r ws is e.
             move ! (1 ∷ []) $ fsplit ! $ drop ! $ rewrite ! 0 (λ (F : Fml). ‵ F) (same-lasts ps κs (a .1) (ws .1)) refl $
             -- it is put back: [what is last; the tokens; the arguments; the lent; the session at 4; _1; what was read; the open borrow; obs; auth;
             -- the lent's ends; its own two at 11; …; _0 at 17; …]
-            let t = slots.share L (D .fst r) h in
+            let t = G .put (D .fst r) h in
             let owed = D .owed r v is in
-            move ! (4 ∷ 17 ∷ 5 ∷ 11 ∷ 12 ∷ []) $ restore-shared L h was D r v is ! refl refl (mine .0) (mine .1 .0) $
-            move ! (0 ∷ 10 ∷ 11 ∷ 12 ∷ []) $ closes-at S ! tt t b o (slots.is-share L h was (D .fst r) (owed .0)) $
+            move ! (4 ∷ 17 ∷ 5 ∷ 11 ∷ 12 ∷ []) $ restore-field L G h was D r v is ! refl refl (mine .0) (mine .1 .0) $
+            move ! (0 ∷ 10 ∷ 11 ∷ 12 ∷ []) $ closes-at S ! tt t b o (G .is-put h was (D .fst r) (owed .0)) $
             -- all are freed, in the order of the locals
             returns ! (look ! 3 refl) $ move ! (3 ∷ 4 ∷ 17 ∷ 18 ∷ 9 ∷ 16 ∷ 5 ∷ 6 ∷ 11 ∷ 13 ∷ 14 ∷ 15 ∷ 10 ∷ 12 ∷ []) $
             frame.frees-all first ps own [] bs₀ bs bs₁ xs bs₂ ! _ (given κs 𝓤 H ps (a .1) bs) _ (lent κs 𝓤 H ps (a .1) xs) _
