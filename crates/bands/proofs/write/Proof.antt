@@ -34,9 +34,11 @@ same-length c = search needs
 
 returns : tie.Need-returns
 returns c =
-    let s = c .before .before .before .before .before .before .before .before .before .before .before .before .before .before in
-    let sorted = c .before .before .before .before .before .before .before .before .before .before .sort in
-    let made = c .before .before .before .before .before .before .scan in
+    let scanned = c .before .before .before .before .before .before in
+    let after-sort = scanned .before .before .before .before in
+    let s = after-sort .before .before .before .before in
+    let sorted = after-sort .sort in
+    let made = scanned .scan in
     let w = c .before .before .write in
     let bs = rectsOf (s .args .n) (sorted .last .1 .1 .0) in
     subst (λ (z : Sheet). Writes z (s .args .out .now) (w .result) (w .last .1 .1 .1 .0))

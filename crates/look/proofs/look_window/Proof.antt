@@ -51,22 +51,27 @@ returns c =
 target-fits-requires : tie.Need-target-fits-requires
 target-fits-requires c κs = search needs
 
--- where both questions are answered
+-- the start, from where both questions are answered
+abbrev entry : tie.Then1 → tie.Start
+entry c =
+    let whole = c .before .before .before in
+    whole .before .before .before .before .before
+
 sizes : (c : tie.Then1) → Sizes
 sizes c =
-    let a = c .before .before .before .before .before .before .before .before .args in
+    let a = entry c .args in
     record { w = a .w; h = a .h; tw = a .tw; th = a .th }
 
-fits : (c : tie.Then1) → let a = c .before .before .before .before .before .before .before .before .args in targetFits (length (a .target .now)) (a .tw) (a .th) ≡ true
+fits : (c : tie.Then1) → let a = entry c .args in targetFits (length (a .target .now)) (a .tw) (a .th) ≡ true
 fits c = sym (c .before .target-fits .ensures) ∙ c .if1 .taken
 
 is-small : (c : tie.Then1) → Small (sizes c)
 unfolding sizes
 is-small c =
-    let p = c .before .before .before .before .before .before .before .before in
+    let p = entry c in
     small (sizes c) (length (p .args .target .now)) (p .pre .0) (p .pre .1) (fits c)
 
-steps : (c : tie.Then1) → let l = c .before .before .before .before .before .before .before .before .args .look in
+steps : (c : tie.Then1) → let l = entry c .args .look in
     (allowed l ≡ true) × (stepsOf l (sizes c) ≡ c .before .before .before .whole .given .0 .0)
 unfolding sizes
 steps c =
@@ -81,7 +86,7 @@ look-rows-requires : tie.Need-look-rows-requires
 unfolding sizes
 look-rows-requires c κs =
     let k = c .before in
-    let p = k .before .before .before .before .before .before .before .before in
+    let p = entry k in
     (steps-on (p .args .look) (sizes k) _ (steps k) (is-small k), fitting (length (p .args .target .now)) (p .args .tw) (p .args .th) (fits k) .2, is-small k .th, p .pre .2)
 
 same-length : tie.Need-same-length
@@ -91,7 +96,7 @@ returns-2 : tie.Need-returns-2
 unfolding sizes
 returns-2 c =
     let k = c .before .before .before .before in
-    let a = k .before .before .before .before .before .before .before .before .args in
+    let a = entry k .args in
     written (a .look) (sizes k) _ (steps k) (is-small k) (a .base) (a .store .now) (a .target .now) _ (fits k) (c .before .before .look-rows .ensures)
 
 returns-3 : tie.Need-returns-3

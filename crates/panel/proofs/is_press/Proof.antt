@@ -18,12 +18,16 @@ use borrow.Author.Tests.{eq-eqb, ne-eqb}
 use Rattle.panel.proofs.is_press.Statement.{statement}
 use Rattle.panel.proofs.is_press.Tie as tie
 
+-- the start, from where the event is known to be a press
+abbrev entry : tie.After-known-told2 → tie.Start
+entry c = c .before .before .before .before .before .before
+
 -- of a press, the rule compares the point
-press : (c : tie.After-known-told2) → let a = c .before .before .before .before .before .before .args in
+press : (c : tie.After-known-told2) → let a = entry c .args in
     let at = c .before .e .given .0 in
     isPress (eventIn (a .popped)) (a .px) (a .py) ≡ eqb (at .0) (a .px) && eqb (at .1 .0) (a .py)
 press c =
-    let a = c .before .before .before .before .before .before .args in
+    let a = entry c .args in
     ap (λ (n : NextEvent). isPress (eventIn n) (a .px) (a .py)) (c .before .before .before .before .popped .given .1)
     ∙ ap (λ (e : Event). isPress (some e) (a .px) (a .py)) (c .before .e .given .1)
 
@@ -49,13 +53,13 @@ enum-told c = search needs
 
 returns : tie.Need-returns
 returns c =
-    let a = c .before .before .before .before .before .before .before .args in
+    let a = entry (c .before) .args in
     let at = c .before .before .e .given .0 in
     sym (press (c .before) ∙ ap (λ (t : Bool). t && eqb (at .1 .0) (a .py)) (eq-eqb (at .0) (a .px) (c .if1 .taken)))
 
 returns-2 : tie.Need-returns-2
 returns-2 c =
-    let a = c .before .before .before .before .before .before .before .args in
+    let a = entry (c .before) .args in
     let at = c .before .before .e .given .0 in
     let other = ne-eqb (at .0) (a .px) (c .if1 .left) in
     other ∙ sym (press (c .before) ∙ ap (λ (t : Bool). t && eqb (at .1 .0) (a .py)) other)

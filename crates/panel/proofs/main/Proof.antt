@@ -39,8 +39,14 @@ shown : (c : tie.After-show) → Next calls.resized (Show 0) (c .show .result)
 shown c = next calls.resized (Show 0) refl (resized (c .before .before .before .before) .ran) (by-meets refl refl (c .show .ensures))
 
 -- the code's fill, with the area that `Rect::new` gives and that store
-fill : (c : tie.After-fill) → Fill 0 (c .before .before .new2 .result) 7 (c .before .before .before .before .before .before .before .resize .last .1 .1 .1 .0) ≡ calls.fill
-fill c = λ i. Fill 0 (c .before .before .new2 .ensures i) 7 (cleared (c .before .before .before .before .before .before .before) i)
+abbrev at-resize : tie.After-fill → tie.After-resize
+at-resize c =
+    let show = c .before .before .before in
+    show .before .before .before .before
+
+fill : (c : tie.After-fill) → let cleared = at-resize c .resize .last .1 .1 .1 .0 in
+    Fill 0 (c .before .before .new2 .result) 7 cleared ≡ calls.fill
+fill c = λ i. Fill 0 (c .before .before .new2 .ensures i) 7 (cleared (at-resize c) i)
 
 filled : (c : tie.After-fill) → Next calls.shown calls.fill (done (c .fill .result .session) (c .fill .result .answer))
 filled c = next calls.shown calls.fill (fill c) (shown (c .before .before .before) .ran) (by-store refl (c .fill .ensures .meets))
@@ -57,8 +63,13 @@ marked : (c : tie.After-mark) → Next calls.filled (Mark 0) (c .mark .result)
 marked c = next calls.filled (Mark 0) refl (filled (c .before .before .before .before) .ran) (by-meets refl refl (c .mark .ensures .meets))
 
 -- the code's redraw, with that store
-redraw : (c : tie.After-redraw) → Redraw false 3 2 (c .before .before .before .before .before .before .before .fill .last .1 .1 .1 .1 .0) (replicate 6 5) ≡ calls.redraw
-redraw c = λ i. Redraw false 3 2 (coloured (c .before .before .before .before .before .before .before) i) (replicate 6 5)
+abbrev at-fill : tie.After-redraw → tie.After-fill
+at-fill c =
+    let mark = c .before .before .before in
+    mark .before .before .before .before
+
+redraw : (c : tie.After-redraw) → Redraw false 3 2 (at-fill c .fill .last .1 .1 .1 .1 .0) (replicate 6 5) ≡ calls.redraw
+redraw c = λ i. Redraw false 3 2 (coloured (at-fill c) i) (replicate 6 5)
 
 redrawn : (c : tie.After-redraw) → Next calls.marked calls.redraw (c .redraw .result)
 redrawn c = next calls.marked calls.redraw (redraw c) (marked (c .before .before .before) .ran) (by-screen (c .redraw .ensures))

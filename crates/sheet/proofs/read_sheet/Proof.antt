@@ -15,8 +15,9 @@ returns c =
 
 write-rects-requires : tie.Need-write-rects-requires
 write-rects-requires c κs =
-    let s = c .before .before .before .before .before .before .before in
-    let k = c .before .before .before .before .check in
+    let checked = c .before .before .before .before in
+    let s = checked .before .before .before in
+    let k = checked .check in
     reads-room (s .args .list .now) (k .ensures) (c .before .before .before .if1 .taken) (c .before .if2 .left)
 
 same-length : tie.Need-same-length
@@ -24,10 +25,13 @@ same-length c = search needs
 
 returns-2 : tie.Need-returns-2
 returns-2 c =
-    let s = c .before .before .before .before .before .before .before .before .before .before in
-    let k = c .before .before .before .before .before .before .before .check in
-    let d = c .before .before in
-    reads-whole (s .args .list .now) (k .ensures) (d .before .before .before .before .if1 .taken) (d .before .before .if2 .left) (d .write-rects .ensures)
+    let after-write = c .before .before in
+    let room = after-write .before .before in
+    let checked = room .before .before .before in
+    let s = checked .before .before .before in
+    let k = checked .check in
+    reads-whole (s .args .list .now) (k .ensures) (room .before .before .if1 .taken) (room .if2 .left)
+    (after-write .write-rects .ensures)
 
 returns-3 : tie.Need-returns-3
 returns-3 c =

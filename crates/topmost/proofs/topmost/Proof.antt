@@ -25,13 +25,15 @@ abbrev μ-loop : tie.MeasureT-loop
 looked : (c : tie.In-loop Inv-loop μ-loop) → getD (c .before .before .args .t2) (c .before .loop .left - 1) noId .0 < 16
 looked c = c .before .before .pre .low _ (omega (arith, c .loop-test .taken, c .before .loop .inv .within))
 
--- the test is the rule's
-asks : (c : tie.After-contains Inv-loop μ-loop)
-    → let l = c .before .before .before .before .before .before .before in
+-- the turn, from its test, and that the test is the rule's
+abbrev turn-of : tie.After-contains Inv-loop μ-loop → tie.In-loop Inv-loop μ-loop
+turn-of asked = asked .before .before .before .before .before .before
+
+asks : (c : tie.After-contains Inv-loop μ-loop) → let l = turn-of c .before in
     let a = l .before .args in
     c .contains .result .yes ≡ contains (frameAt (a .t1) (getD (a .t2) (l .loop .left - 1) noId .0)) (a .x) (a .y)
 asks c =
-    let i = c .before .before .before .before .before .before in
+    let i = turn-of c in
     let s = i .before .before in
     let r = c .before .before .rect in
     let fits : Fits (r .result) = rw (r .ensures) (small-fits _ (s .pre .small _ (looked i))) in
@@ -70,7 +72,7 @@ contains-requires c κs = search needs
 
 returns : tie.Need-returns Inv-loop μ-loop
 returns c =
-    let i = c .before .before .before .before .before .before .before in
+    let i = turn-of (c .before) in
     hit (i .before .loop .inv) (search needs) (i .loop-test .taken) _ refl (sym (asks (c .before)) ∙ c .if1 .taken)
 
 sub-left : tie.Need-sub-left Inv-loop μ-loop
@@ -81,7 +83,7 @@ loop-less c = omega arith
 
 loop-again : tie.Need-loop-again Inv-loop μ-loop
 loop-again c =
-    let i = c .before .before .before .before .before .before .before in
+    let i = turn-of (c .before) in
     miss (i .before .loop .inv) (search needs) (i .loop-test .taken) _ refl (sym (asks (c .before)) ∙ c .if1 .left)
 
 returns-2 : tie.Need-returns-2 Inv-loop μ-loop

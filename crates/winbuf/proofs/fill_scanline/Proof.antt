@@ -67,9 +67,10 @@ same-length c = search needs
 
 returns-4 : tie.Need-returns-4
 returns-4 c =
-    let g = c .before .before .before .before .before .place .given in
+    let found = c .before .before .before .before .before in
+    let g = found .place .given in
     let f = c .before .before .fill-part .ensures in
-    left (c .before .before .before .before .before .before .before) (Found (g .0 .0) (g .0 .1 .0)) _ _ (g .1) (counted f) (f .pixels)
+    left (found .before .before) (Found (g .0 .0) (g .0 .1 .0)) _ _ (g .1) (counted f) (f .pixels)
 
 pub fill-scanline-spec : {M : Type 1} → statement M
 fill-scanline-spec =

@@ -61,8 +61,9 @@ cast-n c = search needs
 
 set-part-requires : tie.Need-set-part-requires
 set-part-requires c κs =
-    let x = c .before .before .before .before .before .before .before .before .args in
-    let p = c .before .before .before .before .before .line-place in
+    let placed = c .before .before .before .before .before in
+    let x = placed .before .before .before .args in
+    let p = placed .line-place in
     let g = c .before .before .before .place .given in
     omega
     (arith, found-lies (length (x .pixels .now)) (x .width) (x .height) (x .line) (x .ofs) (x .len) (p .result) (g .0 .0) (g .0 .1 .0) (p .ensures) (g .1))
@@ -81,13 +82,15 @@ same-length c = search needs
 
 returns-4 : tie.Need-returns-4
 returns-4 c =
-    let x = c .before .before .before .before .before .before .before .before .before .before .before .args in
-    let g = c .before .before .before .before .before .before .place .given in
+    let found = c .before .before .before .before .before .before in
+    let placed = found .before .before in
+    let x = placed .before .before .before .args in
+    let g = found .place .given in
     let n = c .before .before .before .before .least in
     let cut = ap (λ (k : ℕ). take k (x .«data» .now)) (n .ensures) ∙ sym (take-cut (g .0 .1 .0) (x .«data» .now)) in
     let f : Counted (sets (x .pixels .now) (g .0 .0) (take (g .0 .1 .0) (x .«data» .now))) (x .pixels .now) _ _ =
     rw cut at (c .before .before .set-part .ensures) in
-    left (c .before .before .before .before .before .before .before .before) (Found (g .0 .0) (g .0 .1 .0)) _ _ (g .1) (counted f) (f .pixels)
+    left placed (Found (g .0 .0) (g .0 .1 .0)) _ _ (g .1) (counted f) (f .pixels)
 
 pub set-scanline-spec : {M : Type 1} → statement M
 set-scanline-spec =

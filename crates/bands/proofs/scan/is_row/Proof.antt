@@ -19,10 +19,13 @@ same-length c = search needs
 
 returns : tie.Need-returns
 returns c =
-    let s = c .before .before .before .before .before .before .before in
-    let r = c .before .before .before .row in (
-      is-row-longer (s .args .at) (rectsOf (s .args .n) (s .args .above .now)) (s .args .z) (s .args .nums .now) (s .args .e) (s .args .k) (s .pre .1 .0) (r .result) (r .last .1 .1 .1 .1 .0) (r .ensures) (c .if1 .taken),
-      kept-row (s .args .at) (rectsOf (s .args .n) (s .args .above .now)) (s .args .z) (s .args .nums .now) (s .args .e) (s .args .k) (s .pre .1 .0) (r .result) (r .last .1 .1 .1 .1 .0) (r .ensures),
+    let after-row = c .before .before .before in
+    let s = after-row .before .before .before .before in
+    let r = after-row .row in (
+      is-row-longer (s .args .at) (rectsOf (s .args .n) (s .args .above .now)) (s .args .z) (s .args .nums .now)
+          (s .args .e) (s .args .k) (s .pre .1 .0) (r .result) (r .last .1 .1 .1 .1 .0) (r .ensures) (c .if1 .taken),
+      kept-row (s .args .at) (rectsOf (s .args .n) (s .args .above .now)) (s .args .z) (s .args .nums .now) (s .args .e)
+          (s .args .k) (s .pre .1 .0) (r .result) (r .last .1 .1 .1 .1 .0) (r .ensures),
     )
 
 mul-same : tie.Need-mul-same
@@ -39,10 +42,14 @@ same-length-2 c = search needs
 
 returns-2 : tie.Need-returns-2
 returns-2 c =
-    let s = c .before .before .before .before .before .before .before .before .before in
-    let r = c .before .before .before .before .before .row in (
-      is-row-same (s .args .at) (rectsOf (s .args .n) (s .args .above .now)) (s .args .z) (s .args .nums .now) (s .args .e) (s .args .k) (s .pre .1 .0) (r .result) (r .last .1 .1 .1 .1 .0) (r .ensures) (c .before .before .if1 .left) (c .same .ensures),
-      kept-row (s .args .at) (rectsOf (s .args .n) (s .args .above .now)) (s .args .z) (s .args .nums .now) (s .args .e) (s .args .k) (s .pre .1 .0) (r .result) (r .last .1 .1 .1 .1 .0) (r .ensures),
+    let after-row = c .before .before .before .before .before in
+    let s = after-row .before .before .before .before in
+    let r = after-row .row in (
+      is-row-same (s .args .at) (rectsOf (s .args .n) (s .args .above .now)) (s .args .z) (s .args .nums .now)
+          (s .args .e) (s .args .k) (s .pre .1 .0) (r .result) (r .last .1 .1 .1 .1 .0) (r .ensures)
+          (c .before .before .if1 .left) (c .same .ensures),
+      kept-row (s .args .at) (rectsOf (s .args .n) (s .args .above .now)) (s .args .z) (s .args .nums .now) (s .args .e)
+          (s .args .k) (s .pre .1 .0) (r .result) (r .last .1 .1 .1 .1 .0) (r .ensures),
     )
 
 pub is-row-spec : {M : Type 1} → statement M

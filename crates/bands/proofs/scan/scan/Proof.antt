@@ -4,10 +4,12 @@ use mathlib.Core.Path.{refl, sym, subst}
 use mathlib.Core.List.{List}
 use native.Mathlib.Omega.{arith}
 use lib.ListN.{length, length-set}
+use Rattle.geom.specs.declared.Rect.{Rect}
 use Rattle.geom.specs.Geom.{bottom}
 use Rattle.window.proofs.laws.Entries.{small-fits}
 use Rattle.rules.specs.Visible.{rectsOf}
 use Rattle.rules.proofs.Lent.{length-rects}
+use Rattle.bands.specs.Scan.{RowMade}
 use Rattle.bands.proofs.laws.Down.{row-stands, row-kept}
 use Rattle.bands.proofs.laws.Scans.{Scan, scan-none, scan-room, scan-empty, scan-band, scan-all}
 use Rattle.bands.proofs.scan.scan.Statement.{statement}
@@ -23,6 +25,48 @@ abbrev μ-loop : tie.MeasureT-loop
 few : (n : ℕ) (l : List ℕ) → n ≤ 15 → length (rectsOf n l) ≤ 15
 few n l h = rw (length-rects n l) h
 
+-- the start, from a turn, and the rectangles that are lent
+abbrev entry : tie.In-loop Inv-loop μ-loop → tie.Start Inv-loop μ-loop
+entry turn = turn .before .before .before .before .before
+
+abbrev lent : tie.In-loop Inv-loop μ-loop → List Rect
+lent turn = rectsOf (entry turn .args .n) (entry turn .args .above .now)
+
+few-lent : (turn : tie.In-loop Inv-loop μ-loop) → length (lent turn) ≤ 15
+few-lent turn = few (entry turn .args .n) (entry turn .args .above .now) (entry turn .pre .0 .1)
+
+-- a turn's row is one of the rectangle's, and there is room for its band
+inside : (turn : tie.In-loop Inv-loop μ-loop) → turn .before .loop .y < bottom (entry turn .args .at)
+inside turn = omega (arith, turn .loop-test .taken, turn .before .before .bottom .ensures)
+
+room : (turn : tie.In-loop Inv-loop μ-loop) → let l = turn .before .loop in
+    (l .end + 67 ≤ length (l .nums)) × (l .bands ≤ 30)
+room turn =
+    let a = entry turn .args in
+    let l = turn .before .loop in
+    scan-room (a .at) (lent turn) (a .nums .now) (l .nums) (l .y) (l .bands) (l .end) (l .inv)
+    (inside turn) (few-lent turn) (entry turn .pre .1)
+
+-- the row that a turn made, and the turn, from behind its run of rows
+abbrev row-made : tie.After-run-rows Inv-loop μ-loop → tie.After-row Inv-loop μ-loop
+row-made run = run .before .before .before .before
+
+abbrev turn-of : tie.After-run-rows Inv-loop μ-loop → tie.In-loop Inv-loop μ-loop
+turn-of run = row-made run .before .before
+
+-- the row's numbers stand once the run is found
+kept : (run : tie.After-run-rows Inv-loop μ-loop) → let turn = turn-of run in
+    let l = turn .before .loop in
+    RowMade (entry turn .args .at) (lent turn) (l .y) (l .nums) (l .end + 3) (row-made run .row .result)
+    (run .run-rows .last .1 .1 .1 .1 .0)
+kept run =
+    let turn = turn-of run in
+    let l = turn .before .loop in
+    let r = row-made run .row in
+    let q = run .run-rows in
+    row-kept (entry turn .args .at) (lent turn) (l .y) (l .nums) (l .end + 3) (r .result) (r .last .1 .1 .1 .1 .0)
+    (q .last .1 .1 .1 .1 .0) (r .ensures) (q .ensures .1)
+
 bottom-requires : tie.Need-bottom-requires Inv-loop μ-loop
 bottom-requires c κs = small-fits (c .before .before .args .at) (c .before .before .pre .0 .2)
 
@@ -32,114 +76,108 @@ loop-holds c =
     scan-none (s .args .at) (rectsOf (s .args .n) (s .args .above .now)) (s .args .nums .now)
 
 add-row : tie.Need-add-row Inv-loop μ-loop
-add-row c =
-    let s = c .before .before .before .before .before .before in
-    let l = c .before .before .loop in
-    let h : l .y < bottom (s .args .at) = omega (arith, c .before .loop-test .taken, c .before .before .before .bottom .ensures) in
-    let room = scan-room (s .args .at) (rectsOf (s .args .n) (s .args .above .now)) (s .args .nums .now) (l .nums) (l .y) (l .bands) (l .end) (l .inv) h (few (s .args .n) (s .args .above .now) (s .pre .0 .1)) (s .pre .1) in
-    omega (arith, room)
+add-row c = omega (arith, room (c .before))
 
 row-requires : tie.Need-row-requires Inv-loop μ-loop
 row-requires c κs =
-    let s = c .before .before .before .before .before .before in
-    let l = c .before .before .loop in
-    let h : l .y < bottom (s .args .at) = omega (arith, c .before .loop-test .taken, c .before .before .before .bottom .ensures) in
-    let room = scan-room (s .args .at) (rectsOf (s .args .n) (s .args .above .now)) (s .args .nums .now) (l .nums) (l .y) (l .bands) (l .end) (l .inv) h (few (s .args .n) (s .args .above .now) (s .pre .0 .1)) (s .pre .1) in
-    (s .pre .0, omega (arith, room, s .pre .0 .1))
+    let turn = c .before in
+    let p = entry turn .pre in
+    (p .0, omega (arith, room turn, p .0 .1))
 
 add-run-rows : tie.Need-add-run-rows Inv-loop μ-loop
-add-run-rows c =
-    let s = c .before .before .before .before .before .before .before .before .before .before in
-    let l = c .before .before .before .before .before .before .loop in
-    let h : l .y < bottom (s .args .at) = omega (arith, c .before .before .before .before .before .loop-test .taken, c .before .before .before .before .before .before .before .bottom .ensures) in
-    let room = scan-room (s .args .at) (rectsOf (s .args .n) (s .args .above .now)) (s .args .nums .now) (l .nums) (l .y) (l .bands) (l .end) (l .inv) h (few (s .args .n) (s .args .above .now) (s .pre .0 .1)) (s .pre .1) in
-    omega (arith, room)
+add-run-rows c = omega (arith, room (c .before .before .before .before .before))
 
 run-rows-requires : tie.Need-run-rows-requires Inv-loop μ-loop
 run-rows-requires c κs =
-    let s = c .before .before .before .before .before .before .before .before .before .before in
-    let l = c .before .before .before .before .before .before .loop in
-    let h : l .y < bottom (s .args .at) = omega (arith, c .before .before .before .before .before .loop-test .taken, c .before .before .before .before .before .before .before .bottom .ensures) in
-    let room = scan-room (s .args .at) (rectsOf (s .args .n) (s .args .above .now)) (s .args .nums .now) (l .nums) (l .y) (l .bands) (l .end) (l .inv) h (few (s .args .n) (s .args .above .now) (s .pre .0 .1)) (s .pre .1) in
-    let r = c .before .before .before .row in
-    ((s .pre .0 .0, s .pre .0 .1, s .pre .0 .2, s .pre .0 .3, h), (row-stands (s .args .at) (rectsOf (s .args .n) (s .args .above .now)) (l .y) (l .nums) (l .end + 3) (r .result) (r .last .1 .1 .1 .1 .0) (r .ensures), omega (arith, room, s .pre .0 .1, r .ensures .size)))
+    let after-row = c .before .before .before in
+    let turn = after-row .before .before in
+    let l = turn .before .loop in
+    let r = after-row .row in
+    let p = entry turn .pre .0 in (
+      (p .0, p .1, p .2, p .3, inside turn),
+      (
+        row-stands (entry turn .args .at) (lent turn) (l .y) (l .nums) (l .end + 3) (r .result) (r .last .1 .1 .1 .1 .0)
+            (r .ensures),
+        omega (arith, room turn, p .1, r .ensures .size),
+      ),
+    )
 
 sub-head : tie.Need-sub-head Inv-loop μ-loop
-sub-head c = c .before .before .before .before .before .before .before .before .before .before .before .loop .inv .low
+sub-head c = turn-of (c .before .before .before .before) .before .loop .inv .low
 
 sub-head-2 : tie.Need-sub-head-2 Inv-loop μ-loop
-sub-head-2 c = omega (arith, c .before .before .before .before .before .before .before .before .before .before .before .loop .inv .low, c .before .before .before .before .run-rows .ensures .0 .beyond)
+sub-head-2 c =
+    let run = c .before .before .before .before in
+    omega (arith, turn-of run .before .loop .inv .low, run .run-rows .ensures .0 .beyond)
 
 head-requires : tie.Need-head-requires Inv-loop μ-loop
 head-requires c κs =
-    let s = c .before .before .before .before .before .before .before .before .before .before .before .before .before .before .before in
-    let l = c .before .before .before .before .before .before .before .before .before .before .before .loop in
-    let h : l .y < bottom (s .args .at) = omega (arith, c .before .before .before .before .before .before .before .before .before .before .loop-test .taken, c .before .before .before .before .before .before .before .before .before .before .before .before .bottom .ensures) in
-    let room = scan-room (s .args .at) (rectsOf (s .args .n) (s .args .above .now)) (s .args .nums .now) (l .nums) (l .y) (l .bands) (l .end) (l .inv) h (few (s .args .n) (s .args .above .now) (s .pre .0 .1)) (s .pre .1) in
-    let r = c .before .before .before .before .before .before .before .before .row .ensures in
-    let q = c .before .before .before .before .run-rows .ensures .1 in
-    (omega (arith, room, r .size, q .size), omega (arith, r .few, few (s .args .n) (s .args .above .now) (s .pre .0 .1)))
+    let run = c .before .before .before .before in
+    let turn = turn-of run in
+    let r = row-made run .row .ensures in
+    let q = run .run-rows .ensures .1 in
+    (omega (arith, room turn, r .size, q .size), omega (arith, r .few, few-lent turn))
+
+-- what a turn that saw something adds to the numbers
+more : (c : tie.Then1 Inv-loop μ-loop) → let run = c .before .before .before in
+    let turn = turn-of run in
+    (turn .before .loop .end + 67 ≤ length (turn .before .loop .nums)) × (turn .before .loop .bands ≤ 30)
+    × (row-made run .row .result ≤ length (lent turn) + 1) × (length (lent turn) ≤ 15)
+more c =
+    let run = c .before .before .before in
+    let turn = turn-of run in
+    (room turn .0, room turn .1, row-made run .row .ensures .few, few-lent turn)
 
 add-end : tie.Need-add-end Inv-loop μ-loop
-add-end c =
-    let s = c .before .before .before .before .before .before .before .before .before .before .before .before .before .before .before .before .before .before in
-    let l = c .before .before .before .before .before .before .before .before .before .before .before .before .before .before .loop in
-    let h : l .y < bottom (s .args .at) = omega (arith, c .before .before .before .before .before .before .before .before .before .before .before .before .before .loop-test .taken, c .before .before .before .before .before .before .before .before .before .before .before .before .before .before .before .bottom .ensures) in
-    let room = scan-room (s .args .at) (rectsOf (s .args .n) (s .args .above .now)) (s .args .nums .now) (l .nums) (l .y) (l .bands) (l .end) (l .inv) h (few (s .args .n) (s .args .above .now) (s .pre .0 .1)) (s .pre .1) in
-    omega (arith, room, c .before .before .before .before .before .before .before .before .before .before .before .row .ensures .few, few (s .args .n) (s .args .above .now) (s .pre .0 .1))
+add-end c = omega (arith, more (c .before .before .before .before))
 
 mul-end : tie.Need-mul-end Inv-loop μ-loop
-mul-end c =
-    let s = c .before .before .before .before .before .before .before .before .before .before .before .before .before .before .before .before .before .before in
-    let l = c .before .before .before .before .before .before .before .before .before .before .before .before .before .before .loop in
-    let h : l .y < bottom (s .args .at) = omega (arith, c .before .before .before .before .before .before .before .before .before .before .before .before .before .loop-test .taken, c .before .before .before .before .before .before .before .before .before .before .before .before .before .before .before .bottom .ensures) in
-    let room = scan-room (s .args .at) (rectsOf (s .args .n) (s .args .above .now)) (s .args .nums .now) (l .nums) (l .y) (l .bands) (l .end) (l .inv) h (few (s .args .n) (s .args .above .now) (s .pre .0 .1)) (s .pre .1) in
-    omega (arith, room, c .before .before .before .before .before .before .before .before .before .before .before .row .ensures .few, few (s .args .n) (s .args .above .now) (s .pre .0 .1))
+mul-end c = omega (arith, more (c .before .before .before .before))
 
 add-end-2 : tie.Need-add-end-2 Inv-loop μ-loop
-add-end-2 c =
-    let s = c .before .before .before .before .before .before .before .before .before .before .before .before .before .before .before .before .before .before in
-    let l = c .before .before .before .before .before .before .before .before .before .before .before .before .before .before .loop in
-    let h : l .y < bottom (s .args .at) = omega (arith, c .before .before .before .before .before .before .before .before .before .before .before .before .before .loop-test .taken, c .before .before .before .before .before .before .before .before .before .before .before .before .before .before .before .bottom .ensures) in
-    let room = scan-room (s .args .at) (rectsOf (s .args .n) (s .args .above .now)) (s .args .nums .now) (l .nums) (l .y) (l .bands) (l .end) (l .inv) h (few (s .args .n) (s .args .above .now) (s .pre .0 .1)) (s .pre .1) in
-    omega (arith, room, c .before .before .before .before .before .before .before .before .before .before .before .row .ensures .few, few (s .args .n) (s .args .above .now) (s .pre .0 .1))
+add-end-2 c = omega (arith, more (c .before .before .before .before))
 
 add-bands : tie.Need-add-bands Inv-loop μ-loop
-add-bands c =
-    let s = c .before .before .before .before .before .before .before .before .before .before .before .before .before .before .before .before .before .before in
-    let l = c .before .before .before .before .before .before .before .before .before .before .before .before .before .before .loop in
-    let h : l .y < bottom (s .args .at) = omega (arith, c .before .before .before .before .before .before .before .before .before .before .before .before .before .loop-test .taken, c .before .before .before .before .before .before .before .before .before .before .before .before .before .before .before .bottom .ensures) in
-    let room = scan-room (s .args .at) (rectsOf (s .args .n) (s .args .above .now)) (s .args .nums .now) (l .nums) (l .y) (l .bands) (l .end) (l .inv) h (few (s .args .n) (s .args .above .now) (s .pre .0 .1)) (s .pre .1) in
-    omega (arith, room, c .before .before .before .before .before .before .before .before .before .before .before .row .ensures .few, few (s .args .n) (s .args .above .now) (s .pre .0 .1))
+add-bands c = omega (arith, more (c .before .before .before .before))
 
 loop-less : tie.Need-loop-less Inv-loop μ-loop
-loop-less c = omega (arith, c .before .before .before .before .before .before .before .run-rows .ensures .0 .beyond, c .before .before .before .before .before .before .before .before .before .before .before .before .before .loop-test .taken)
+loop-less c =
+    let seen = c .before .before .before .before in
+    let run = seen .before .before .before in
+    omega (arith, run .run-rows .ensures .0 .beyond, turn-of run .loop-test .taken)
 
 loop-again : tie.Need-loop-again Inv-loop μ-loop
 loop-again c =
-    let s = c .before .before .before .before .before .before .before .before .before .before .before .before .before .before .before .before .before .before in
-    let l = c .before .before .before .before .before .before .before .before .before .before .before .before .before .before .loop in
-    let h : l .y < bottom (s .args .at) = omega (arith, c .before .before .before .before .before .before .before .before .before .before .before .before .before .loop-test .taken, c .before .before .before .before .before .before .before .before .before .before .before .before .before .before .before .bottom .ensures) in
-    let room = scan-room (s .args .at) (rectsOf (s .args .n) (s .args .above .now)) (s .args .nums .now) (l .nums) (l .y) (l .bands) (l .end) (l .inv) h (few (s .args .n) (s .args .above .now) (s .pre .0 .1)) (s .pre .1) in
-    let r = c .before .before .before .before .before .before .before .before .before .before .before .row in
-    let q = c .before .before .before .before .before .before .before .run-rows in
-    let m = row-kept (s .args .at) (rectsOf (s .args .n) (s .args .above .now)) (l .y) (l .nums) (l .end + 3) (r .result) (r .last .1 .1 .1 .1 .0) (q .last .1 .1 .1 .1 .0) (r .ensures) (q .ensures .1) in
-    subst (λ (z : List ℕ). Scan (s .args .at) (rectsOf (s .args .n) (s .args .above .now)) (s .args .nums .now) z (q .result) (l .bands + 1) (l .end + 3 + 2 * r .result)) (sym (c .before .before .head .ensures))
-    (scan-band (s .args .at) (rectsOf (s .args .n) (s .args .above .now)) (s .args .nums .now) (l .nums) (l .y) (l .bands) (l .end) (l .inv) h (q .result) (q .ensures .0) (r .result) (q .last .1 .1 .1 .1 .0) m (c .before .before .before .before .if1 .taken) (s .pre .0 .2) (few (s .args .n) (s .args .above .now) (s .pre .0 .1)) (omega (arith, room, m .size)))
+    let seen = c .before .before .before .before in
+    let run = seen .before .before .before in
+    let turn = turn-of run in
+    let a = entry turn .args in
+    let l = turn .before .loop in
+    let r = row-made run .row in
+    let q = run .run-rows in
+    let m = kept run in
+    let end = l .end + 3 + 2 * r .result in
+    subst (λ (z : List ℕ). Scan (a .at) (lent turn) (a .nums .now) z (q .result) (l .bands + 1) end)
+    (sym (c .before .before .head .ensures))
+    (scan-band (a .at) (lent turn) (a .nums .now) (l .nums) (l .y) (l .bands) (l .end) (l .inv) (inside turn)
+    (q .result) (q .ensures .0) (r .result) (q .last .1 .1 .1 .1 .0) m (seen .if1 .taken)
+    (entry turn .pre .0 .2) (few-lent turn) (omega (arith, room turn, m .size)))
 
 loop-less-2 : tie.Need-loop-less-2 Inv-loop μ-loop
-loop-less-2 c = omega (arith, c .before .before .before .run-rows .ensures .0 .beyond, c .before .before .before .before .before .before .before .before .before .loop-test .taken)
+loop-less-2 c =
+    let run = c .before .before .before in
+    omega (arith, run .run-rows .ensures .0 .beyond, turn-of run .loop-test .taken)
 
 loop-again-2 : tie.Need-loop-again-2 Inv-loop μ-loop
 loop-again-2 c =
-    let s = c .before .before .before .before .before .before .before .before .before .before .before .before .before .before in
-    let l = c .before .before .before .before .before .before .before .before .before .before .loop in
-    let h : l .y < bottom (s .args .at) = omega (arith, c .before .before .before .before .before .before .before .before .before .loop-test .taken, c .before .before .before .before .before .before .before .before .before .before .before .bottom .ensures) in
-    let room = scan-room (s .args .at) (rectsOf (s .args .n) (s .args .above .now)) (s .args .nums .now) (l .nums) (l .y) (l .bands) (l .end) (l .inv) h (few (s .args .n) (s .args .above .now) (s .pre .0 .1)) (s .pre .1) in
-    let r = c .before .before .before .before .before .before .before .row in
-    let q = c .before .before .before .run-rows in
-    let m = row-kept (s .args .at) (rectsOf (s .args .n) (s .args .above .now)) (l .y) (l .nums) (l .end + 3) (r .result) (r .last .1 .1 .1 .1 .0) (q .last .1 .1 .1 .1 .0) (r .ensures) (q .ensures .1) in
-    scan-empty (s .args .at) (rectsOf (s .args .n) (s .args .above .now)) (s .args .nums .now) (l .nums) (l .y) (l .bands) (l .end) (l .inv) h (q .result) (q .ensures .0) (r .result) (q .last .1 .1 .1 .1 .0) m (c .if1 .left)
+    let run = c .before .before .before in
+    let turn = turn-of run in
+    let a = entry turn .args in
+    let l = turn .before .loop in
+    let r = row-made run .row in
+    let q = run .run-rows in
+    scan-empty (a .at) (lent turn) (a .nums .now) (l .nums) (l .y) (l .bands) (l .end) (l .inv) (inside turn)
+    (q .result) (q .ensures .0) (r .result) (q .last .1 .1 .1 .1 .0) (kept run) (c .if1 .left)
 
 same-length : tie.Need-same-length Inv-loop μ-loop
 same-length c = c .before .loop .inv .size

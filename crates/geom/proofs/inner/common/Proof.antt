@@ -2,11 +2,22 @@
 use Prim.Native.Nat.{min}
 use mathlib.Core.Path.{ap₂, _∙_}
 use native.Mathlib.Omega.{arith}
-use Rattle.geom.proofs.geometry.Facts.{says-meet}
+use Rattle.geom.proofs.geometry.Facts.{Meet, says-meet}
 use Rattle.geom.proofs.geometry.Sides.{common-sides}
 use borrow.Author.Needs.{needs}
 use Rattle.geom.proofs.inner.common.Statement.{statement}
 use Rattle.geom.proofs.inner.common.Tie as tie
+
+-- the two rectangles meet
+meeting : (c : tie.Start) → Meet (c .args .a) (c .args .b)
+meeting c = says-meet (c .args .a) (c .args .b) .fact (c .pre .1)
+
+-- the start, from where all four sides are known
+abbrev entry : tie.After-least2 → tie.Start
+entry bottom =
+    let right = bottom .before .before .before in
+    let top = right .before .before .before in
+    top .before .before
 
 greatest-requires : tie.Need-greatest-requires
 greatest-requires c κs = search needs
@@ -33,20 +44,24 @@ least-requires-2 : tie.Need-least-requires-2
 least-requires-2 c κs = search needs
 
 sub-new : tie.Need-sub-new
-sub-new c = let m = says-meet (c .before .before .before .before .before .before .before .before .args .a) (c .before .before .before .before .before .before .before .before .args .b) .fact (c .before .before .before .before .before .before .before .before .pre .1) in omega arith
+sub-new c = let m = meeting (entry c) in omega arith
 
 sub-new-2 : tie.Need-sub-new-2
-sub-new-2 c = let m = says-meet (c .before .before .before .before .before .before .before .before .args .a) (c .before .before .before .before .before .before .before .before .args .b) .fact (c .before .before .before .before .before .before .before .before .pre .1) in omega arith
+sub-new-2 c = let m = meeting (entry c) in omega arith
 
 new-requires : tie.Need-new-requires
 new-requires c κs = search needs
 
 returns : tie.Need-returns
 returns c =
+    let bottom = c .before in
+    let right = bottom .before .before .before in
+    let top = right .before .before .before in
+    let left = top .before in
     c .new .ensures
-    ∙ common-sides _ _ _ _ _ _ (c .before .before .before .before .before .before .before .before .greatest .ensures) (c .before .before .before .before .before .before .before .greatest2 .ensures)
-    (c .before .before .before .before .least .ensures ∙ ap₂ min (c .before .before .before .before .before .before .right .ensures) (c .before .before .before .before .before .right2 .ensures))
-    (c .before .least2 .ensures ∙ ap₂ min (c .before .before .before .bottom .ensures) (c .before .before .bottom2 .ensures))
+    ∙ common-sides _ _ _ _ _ _ (left .greatest .ensures) (top .greatest2 .ensures)
+    (right .least .ensures ∙ ap₂ min (right .before .before .right .ensures) (right .before .right2 .ensures))
+    (bottom .least2 .ensures ∙ ap₂ min (bottom .before .before .bottom .ensures) (bottom .before .bottom2 .ensures))
 
 pub common-spec : {M : Type 1} → statement M
 common-spec =

@@ -36,7 +36,15 @@ contains-requires-2 c κs = search needs
 returns-2 : tie.Need-returns-2
 unfolding containsRect
 returns-2 c =
-    rw (sym (c .before .before .before .before .before .before .contains .ensures) ∙ c .before .before .before .before .before .if1 .taken, sym (c .before .before .before .before .is-empty .ensures) ∙ c .before .before .before .if2 .left) (c .contains2 .ensures ∙ ap₂ (λ x y. contains (c .before .before .before .before .before .before .before .args .a) (x - 1) (y - 1)) (c .before .before .right .ensures) (c .before .bottom .ensures))
+    let not-empty = c .before .before .before in
+    let has-first = not-empty .before .before in
+    let first = has-first .before in
+    let a = first .before .args .a in
+    let has = sym (first .contains .ensures) ∙ has-first .if1 .taken in
+    let some = sym (not-empty .before .is-empty .ensures) ∙ not-empty .if2 .left in
+    rw (has, some)
+    (c .contains2 .ensures
+    ∙ ap₂ (λ x y. contains a (x - 1) (y - 1)) (c .before .before .right .ensures) (c .before .bottom .ensures))
 
 returns-3 : tie.Need-returns-3
 unfolding containsRect

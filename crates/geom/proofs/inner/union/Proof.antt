@@ -41,10 +41,14 @@ new-requires c κs = search needs
 
 returns : tie.Need-returns
 returns c =
+    let bottom = c .before in
+    let right = bottom .before .before .before in
+    let top = right .before .before .before in
+    let left = top .before in
     c .new .ensures
-    ∙ union-sides _ _ _ _ _ _ (c .before .before .before .before .before .before .before .before .least .ensures) (c .before .before .before .before .before .before .before .least2 .ensures)
-    (c .before .before .before .before .greatest .ensures ∙ ap₂ max (c .before .before .before .before .before .before .right .ensures) (c .before .before .before .before .before .right2 .ensures))
-    (c .before .greatest2 .ensures ∙ ap₂ max (c .before .before .before .bottom .ensures) (c .before .before .bottom2 .ensures))
+    ∙ union-sides _ _ _ _ _ _ (left .least .ensures) (top .least2 .ensures)
+    (right .greatest .ensures ∙ ap₂ max (right .before .before .right .ensures) (right .before .right2 .ensures))
+    (bottom .greatest2 .ensures ∙ ap₂ max (bottom .before .before .bottom .ensures) (bottom .before .bottom2 .ensures))
 
 pub union-spec : {M : Type 1} → statement M
 union-spec =

@@ -21,10 +21,11 @@ same-length c = search needs
 
 returns : tie.Need-returns
 returns c =
-    let a = c .before .before .before .before .before .before .before .before .before .before .args in
-    let p = c .before .before .before .before .before .before in
+    let after-take = c .before .before .before .before .before .before in
+    let a = after-take .before .before .before .before .args in
     let q = c .before .before .fill-part in
-    two-parts (a .store .now) (a .target .now) _ (q .last .0) (a .at) (a .from) (a .x) (a .step) (a .n) (a .tw) (p .take-part .ensures) (q .ensures .pixels)
+    two-parts (a .store .now) (a .target .now) _ (q .last .0) (a .at) (a .from) (a .x) (a .step) (a .n) (a .tw)
+    (after-take .take-part .ensures) (q .ensures .pixels)
 
 pub look-row-spec : {M : Type 1} → statement M
 look-row-spec = tie.close (tie.spec take-part-requires add-fill-part sub-fill-part fill-part-requires same-length returns)

@@ -67,14 +67,15 @@ add-look-row c = omega (arith, inside (c .before))
 
 look-row-requires : tie.Need-look-row-requires Inv-loop μ-loop
 look-row-requires c κs =
-    let s = c .before .before .before .before .before .before .before in
-    let n = c .before .before .before .before .columns .ensures in
-    let l = c .before .before .before .loop in (
+    let head = c .before .before .before in
+    let entry = head .before .before .before .before in
+    let n = head .before .columns .ensures in
+    let l = head .loop in (
       record {
         room = omega (arith, room (c .before .before), n .few, l .inv .1);
         read = λ i b. omega (arith, inside (c .before), n .inside i b);
-        near = s .pre .0 .x;
-        short = s .pre .0 .short;
+        near = entry .pre .0 .x;
+        short = entry .pre .0 .short;
       },
       n .few,
       omega (arith, room (c .before .before), l .inv .1),
@@ -85,9 +86,12 @@ fill-part-requires c κs = omega (arith, room (c .before .before), c .before .be
 
 add-place : tie.Need-add-place Inv-loop μ-loop
 add-place c =
-    let s = c .before .before .before .before .before .before .before in
-    let l = c .before .before .before .loop in
-    omega (arith, l .inv .2, mul-le-mul-left (l .j) (s .pre .0 .short), s .pre .0 .y, s .pre .0 .short, s .pre .2, c .before .before .loop-test .taken)
+    let head = c .before .before .before in
+    let entry = head .before .before .before .before in
+    let l = head .loop in
+    let p = entry .pre .0 in
+    let t = c .before .before .loop-test .taken in
+    omega (arith, l .inv .2, mul-le-mul-left (l .j) (p .short), p .y, p .short, entry .pre .2, t)
 
 add-at : tie.Need-add-at Inv-loop μ-loop
 add-at c = omega (arith, room (c .before .before))
@@ -100,10 +104,11 @@ loop-less c = omega arith
 
 loop-again : tie.Need-loop-again Inv-loop μ-loop
 loop-again c =
-    let s = c .before .before .before .before .before .before .before in
-    let a = s .args in
-    let l = c .before .before .before .loop in
-    let n = c .before .before .before .before .columns in
+    let head = c .before .before .before in
+    let entry = head .before .before .before .before in
+    let a = entry .args in
+    let l = head .loop in
+    let n = head .before .columns in
     let q = c .before .if1 .target in
     let f = seen (a .store .now) (a .base) (a .w) (a .h) (a .t) in
     let next : (l .j + 1) * a .tw ≡ l .j * a .tw + a .tw = ap (λ (k : ℕ). k * a .tw) (add-one (l .j)) ∙ suc-mul (l .j) (a .tw) in

@@ -40,11 +40,12 @@ same-length c = search needs
 
 returns : tie.Need-returns
 returns c =
-    let s = c .before .before .before .before .before .before .before .before in
-    let a = s .args in
-    let t = c .before .before .before .before in
+    let factor-one = c .before .before .before .before in
+    let entry = factor-one .before .before .before .before in
+    let a = entry .args in
     c .before .before .copy-part .ensures
-    ∙ ap (λ (l : List ℕ). sets (a .target .now) (a .at) l) (beside (a .store .now) (a .from) (a .n) (a .x) (a .step) (t .if2 .taken) (ends t))
+    ∙ ap (λ (l : List ℕ). sets (a .target .now) (a .at) l)
+    (beside (a .store .now) (a .from) (a .n) (a .x) (a .step) (factor-one .if2 .taken) (ends factor-one))
 
 same-length-2 : tie.Need-same-length-2
 same-length-2 c = search needs

@@ -23,12 +23,21 @@ put-id-requires c κs = search needs
 end-requires : tie.Need-end-requires
 end-requires c κs = search needs
 
+-- behind the session's call, and the start
+abbrev created : tie.After-end → tie.After-create
+created c =
+    let after-number = c .before .before .before .before in
+    after-number .before .before .before .before
+
+abbrev entry : tie.After-end → tie.Start
+entry c = created c .before .before
+
 -- the player that is handed back
 abbrev next : tie.After-end → Player
 next c =
-    let args = c .before .before .before .before .before .before .before .before .before .before .args in
+    let args = entry c .args in
     record {
-      session = c .before .before .before .before .before .before .before .before .create .result .session;
+      session = created c .create .result .session;
       lent = args .p .lent;
       «is_set» = args .p .«is_set»;
       screen = args .p .screen;
@@ -44,9 +53,9 @@ next c =
 
 returns : tie.Need-returns
 returns c =
-    let r = c .before .before .before .before .before .before .before .before .before .before .pre in
-    let a = c .before .before .before .before .before .before .before .before .before .before .args in
-    let made = c .before .before .before .before .before .before .before .before .create in
+    let r = entry c .pre in
+    let a = entry c .args in
+    let made = created c .create in
     let d = done (made .result .session) (made .result .answer) in
     makes Create (a .p) (next c) d (made .ensures .meets)
     (record {

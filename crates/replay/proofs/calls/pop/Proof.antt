@@ -28,12 +28,21 @@ put-event-requires c κs = search needs
 end-requires : tie.Need-end-requires
 end-requires c κs = search needs
 
+-- behind the session's call, and the start
+abbrev popped : tie.After-end → tie.After-pop
+popped c =
+    let after-number = c .before .before .before .before in
+    after-number .before .before .before .before
+
+abbrev entry : tie.After-end → tie.Start
+entry c = popped c .before .before .before
+
 -- the player that is handed back
 abbrev next : tie.After-end → Player
 next c =
-    let args = c .before .before .before .before .before .before .before .before .before .before .before .args in
+    let args = entry c .args in
     record {
-      session = c .before .before .before .before .before .before .before .before .pop .result .session;
+      session = popped c .pop .result .session;
       lent = args .p .lent;
       «is_set» = args .p .«is_set»;
       screen = args .p .screen;
@@ -49,11 +58,12 @@ next c =
 
 returns : tie.Need-returns
 returns c =
-    let r = c .before .before .before .before .before .before .before .before .before .before .before .pre in
-    let a = c .before .before .before .before .before .before .before .before .before .before .before .args in
-    let made = c .before .before .before .before .before .before .before .before .pop in
+    let r = entry c .pre in
+    let a = entry c .args in
+    let made = popped c .pop in
     let d = done (made .result .session) (made .result .answer) in
-    makes (Pop (idOf (a .ns .now))) (a .p) (next c) d (subst (λ (i : ℕ). Meets (Pop i) (a .p .session) d) (c .before .before .before .before .before .before .before .before .before .id .ensures) (made .ensures .meets))
+    makes (Pop (idOf (a .ns .now))) (a .p) (next c) d
+    (subst (λ (i : ℕ). Meets (Pop i) (a .p .session) d) (popped c .before .id .ensures) (made .ensures .meets))
     (record {
       ready = record { given = made .ensures .meets .given; lent = r .lent; screen = r .screen; list = r .list; target = r .target; sheet = r .sheet; at = c .end .ensures };
       session = refl;

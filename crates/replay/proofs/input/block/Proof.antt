@@ -37,14 +37,31 @@ ended-requires c κs = search needs
 fresh-requires : tie.Need-fresh-requires Inv-loop μ-loop
 fresh-requires c κs = search needs
 
+-- where a newline was met, from behind the line that it ends, and the turn
+abbrev at-newline : tie.After-fresh Inv-loop μ-loop → tie.Then1 Inv-loop μ-loop
+at-newline c =
+    let list-lent = c .before .before .before .before .before .before in
+    list-lent .before .before .before
+
+abbrev turn-of : tie.Then1 Inv-loop μ-loop → tie.In-loop Inv-loop μ-loop
+turn-of newline = newline .before .before .before .before .before .before
+
 add-at : tie.Need-add-at Inv-loop μ-loop
-add-at c = record { fits = omega (arith, c .before .before .before .before .before .before .before .before .before .if1 .taken, c .before .before .before .before .before .before .before .before .before .before .before .before .before .before .before .before .before .before .before .fits .n) }
+add-at c =
+    let newline = at-newline c in
+    let entry = turn-of newline .before .before .before .before in
+    record { fits = omega (arith, newline .if1 .taken, entry .fits .n) }
 
 loop-less : tie.Need-loop-less Inv-loop μ-loop
-loop-less c = omega (arith, c .before .before .before .before .before .before .before .before .before .if1 .taken, c .before .before .before .before .before .before .before .before .before .before .before .read .ensures .0 .forward, c .before .before .before .before .before .before .before .before .before .before .before .before .before .before .before .loop-test .taken)
+loop-less c =
+    let newline = at-newline c in
+    let after-read = newline .before .before in
+    omega (arith, newline .if1 .taken, after-read .read .ensures .0 .forward, turn-of newline .loop-test .taken)
 
 loop-again : tie.Need-loop-again Inv-loop μ-loop
-loop-again c = (c .before .ended .ensures .0, omega (arith, c .before .before .before .before .before .before .before .before .before .if1 .taken), c .before .before .before .before .before .before .before .before .before .before .before .before .before .before .before .before .loop .inv .2)
+loop-again c =
+    let newline = at-newline c in
+    (c .before .ended .ensures .0, omega (arith, newline .if1 .taken), turn-of newline .before .loop .inv .2)
 
 loop-less-2 : tie.Need-loop-less-2 Inv-loop μ-loop
 loop-less-2 c = search needs

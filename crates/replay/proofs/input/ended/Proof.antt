@@ -18,16 +18,20 @@ line-requires-2 c κs = search needs
 
 returns : tie.Need-returns
 returns c =
-    let args = c .before .before .before .before .before .before .before .before .before .args in (
+    let after-counted = c .before .before .before .before .before .before in
+    let after-line = after-counted .before in
+    let args = after-line .before .before .args in
+    let left = pixels (c .line2 .last .1 .1 .1 .1 .0) (c .line2 .last .1 .1 .1 .1 .1 .0) in
+    let lent = pixels (args .store .now) (args .screen .now) in (
       ready-of (c .line2 .ensures),
       λ bs n r. record {
-        line = c .before .before .before .before .before .before .before .line .result;
+        line = after-line .line .result;
         numbers = args .ns .now;
         name = args .name .now;
-        heard = c .before .before .before .before .before .before .before .line .ensures .1 bs (args .name .now) n r;
+        heard = after-line .line .ensures .1 bs (args .name .now) n r;
         plays =
-            subst (λ (q : Player). Plays (c .before .before .before .before .before .before .before .line .result) (args .ns .now) q (pixels (args .store .now) (args .screen .now)) (c .line2 .result) (pixels (c .line2 .last .1 .1 .1 .1 .0) (c .line2 .last .1 .1 .1 .1 .1 .0)))
-            (c .before .before .before .before .before .before .counted .ensures .1) (c .line2 .ensures);
+            subst (λ (q : Player). Plays (after-line .line .result) (args .ns .now) q lent (c .line2 .result) left)
+            (after-counted .counted .ensures .1) (c .line2 .ensures);
       },
     )
 

@@ -31,7 +31,12 @@ block-requires : tie.Need-block-requires Inv-loop μ-loop
 block-requires c κs = search needs
 
 left-requires : tie.Need-left-requires Inv-loop μ-loop
-left-requires c κs = c .before .before .before .before .before .before .before .before .before .before .before .before .before .before .before .before .loop-test .taken
+left-requires c κs =
+    let after-block = c .before .before in
+    let list-lent = after-block .before .before .before .before .before in
+    let after-next = list-lent .before .before .before .before .before in
+    let turn = after-next .before .before .before .before in
+    turn .loop-test .taken
 
 loop-less : tie.Need-loop-less Inv-loop μ-loop
 loop-less c = search needs

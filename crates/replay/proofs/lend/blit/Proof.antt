@@ -28,12 +28,16 @@ same-length c = search needs
 
 returns : tie.Need-returns
 returns c =
-    let args = c .before .before .before .before .before .before .before .before .before .before .args in
-    let b = c .before .before in
-    let d = b .before .before in
-    let w = d .before in
-    subst₃ (λ (id : ℕ) (a : Rect) (stride : ℕ). MeetsAltered id (blit a (args .«data» .now) stride) (args .store .now) (args .s) (b .blit .result) (b .blit .last .1 .1 .1 .1 .1 .0))
-    (d .id .ensures) (w .before .before .rect .ensures) (w .wide .ensures) (b .blit .ensures)
+    let after-blit = c .before .before in
+    let after-id = after-blit .before .before in
+    let args = after-id .before .before .before .before .before .before .args in
+    let b = after-blit .blit in
+    let store = args .store .now in
+    let left = b .last .1 .1 .1 .1 .1 .0 in
+    subst₃
+    (λ (id : ℕ) (a : Rect) (n : ℕ). MeetsAltered id (blit a (args .«data» .now) n) store (args .s) (b .result) left)
+    (after-id .id .ensures) (after-id .before .before .before .rect .ensures) (after-id .before .wide .ensures)
+    (b .ensures)
 
 pub blit-spec : {M : Type 1} → statement M
 blit-spec =

@@ -36,7 +36,10 @@ same-length-2 : tie.Need-same-length-2
 same-length-2 c = search needs
 
 returns-2 : tie.Need-returns-2
-returns-2 c = rw (ne-eqb _ Kind.portion (c .before .before .before .before .before .before .before .if1 .left)) (c .before .before .redraw .ensures)
+returns-2 c =
+    let after-redraw = c .before .before in
+    rw (ne-eqb _ Kind.portion (after-redraw .before .before .before .before .before .if1 .left))
+    (after-redraw .redraw .ensures)
 
 pub draw-spec : {M : Type 1} → statement M
 draw-spec =

@@ -39,11 +39,16 @@ whole n = omega arith
 
 returns : tie.Need-returns
 returns c =
-    let args = c .before .before .before .before .before .before .before .args in
-    let made = c .before .before .draw in
+    let after-draw = c .before .before in
+    let args = after-draw .before .before .before .before .before .args in
+    let made = after-draw .draw in
+    let screen = take (args .len - 0) (drop 0 (args .screen .now)) in
+    let drawn = made .last .1 .1 .1 .1 .0 in
     let call = screenCall (args .k) (args .ns .now) in
-    screen-part (call (take (args .lent) (args .store .now))) (args .len) (args .len - 0) (args .screen .now) (made .last .1 .1 .1 .1 .0) (args .s) (made .result) (omega arith)
-    (subst (λ (n : ℕ). MeetsScreen (call (take n (args .store .now)) (take (args .len - 0) (drop 0 (args .screen .now)))) (args .s) (made .result) (made .last .1 .1 .1 .1 .0))
+    screen-part (call (take (args .lent) (args .store .now))) (args .len) (args .len - 0) (args .screen .now)
+    drawn (args .s) (made .result) (omega arith)
+    (subst
+    (λ (n : ℕ). MeetsScreen (call (take n (args .store .now)) screen) (args .s) (made .result) drawn)
     (whole (args .lent)) (made .ensures))
 
 pub draw-part-spec : {M : Type 1} → statement M

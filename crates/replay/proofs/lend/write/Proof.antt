@@ -37,20 +37,30 @@ same-length c = search needs
 
 returns : tie.Need-returns
 returns c =
-    let args = c .before .before .before .before .before .before .before .before .before .args in
+    let after-fill = c .before .before in
+    let after-rect = after-fill .before .before .before in
+    let args = after-rect .before .before .before .before .args in
     let ns = args .ns .now in
-    let made : Call.Fill (c .before .before .before .before .before .before .id .result .0) (c .before .before .before .before .before .rect .result) (num ns 5) (args .store .now) ≡ Call.Fill (idOf ns) (rectAt ns 1) (num ns 5) (args .store .now) =
-    λ i. Call.Fill (c .before .before .before .before .before .before .id .ensures i) (c .before .before .before .before .before .rect .ensures i) (num ns 5) (args .store .now) in
-    store-at (c .before .before .before .before .before .before .before .match .keys1) (args .line .count) ns (args .store .now) refl
-    (subst (λ (k : Call). MeetsStore k (args .s) (done (c .before .before .fill .result .session) (c .before .before .fill .result .answer)) (c .before .before .fill .last .1 .1 .1 .1 .0)) made (c .before .before .fill .ensures .meets))
+    let id = after-rect .before .id in
+    let rect = after-rect .rect in
+    let f = after-fill .fill in
+    let made : Call.Fill (id .result .0) (rect .result) (num ns 5) (args .store .now)
+    ≡ Call.Fill (idOf ns) (rectAt ns 1) (num ns 5) (args .store .now) =
+    λ i. Call.Fill (id .ensures i) (rect .ensures i) (num ns 5) (args .store .now) in
+    store-at (after-rect .before .before .match .keys1) (args .line .count) ns (args .store .now) refl
+    (subst
+    (λ (k : Call). MeetsStore k (args .s) (done (f .result .session) (f .result .answer)) (f .last .1 .1 .1 .1 .0)) made
+    (f .ensures .meets))
 
 same-length-2 : tie.Need-same-length-2
 same-length-2 c = search needs
 
 returns-2 : tie.Need-returns-2
 returns-2 c =
-    let args = c .before .before .before .before .before .before .before .args in
-    store-at (c .before .before .before .before .before .match .keys2) (args .line .count) (args .ns .now) (args .store .now) refl (c .before .before .part .ensures .meets)
+    let after-part = c .before .before in
+    let args = after-part .before .before .before .before .before .args in
+    store-at (after-part .before .before .before .match .keys2) (args .line .count) (args .ns .now)
+    (args .store .now) refl (after-part .part .ensures .meets)
 
 same-length-3 : tie.Need-same-length-3
 same-length-3 c = search needs

@@ -6,6 +6,12 @@ use borrow.Author.Needs.{needs}
 use Rattle.replay.proofs.show.pixels.Statement.{statement}
 use Rattle.replay.proofs.show.pixels.Tie as tie
 
+-- the start, from where the whole store is known to be lent
+abbrev entry : tie.Then2 → tie.Start
+entry lent =
+    let placed = lent .before .before .before .before in
+    placed .before .before
+
 -- the window's pixels lie in the store that the session wants
 inside : (c : tie.Then2) →
     let p = c .before .before .before .before in
@@ -35,16 +41,25 @@ cast-n-2 : tie.Need-cast-n-2
 cast-n-2 c = search needs
 
 mul-n : tie.Need-mul-n
-mul-n c = record { fits = omega (arith, inside (c .before .before .before), c .before .before .before .if2 .taken, c .before .before .before .before .before .before .before .before .before .pre .1) }
+mul-n c =
+    let lent = c .before .before .before in
+    record { fits = omega (arith, inside lent, lent .if2 .taken, entry lent .pre .1) }
 
 cast-put : tie.Need-cast-put
 cast-put c = search needs
 
 mul-put : tie.Need-mul-put
-mul-put c = record { fits = omega (arith, inside (c .before .before .before .before .before), c .before .before .before .before .before .if2 .taken, c .before .before .before .before .before .before .before .before .before .before .before .pre .1) }
+mul-put c =
+    let lent = c .before .before .before .before .before in
+    record { fits = omega (arith, inside lent, lent .if2 .taken, entry lent .pre .1) }
 
 put-requires : tie.Need-put-requires
-put-requires c κs = (omega (arith, inside (c .before .before .before .before .before .before), c .before .before .before .before .before .before .if2 .taken, c .before .before .before .before .before .before .before .before .before .before .before .before .pre .1, c .before .before .put-arg .given), c .before .before .before .before .before .before .before .before .before .before .before .before .pre .2)
+put-requires c κs =
+    let lent = c .before .before .before .before .before .before in (
+      omega
+          (arith, inside lent, lent .if2 .taken, entry lent .pre .1, c .before .before .put-arg .given),
+      entry lent .pre .2,
+    )
 
 returns : tie.Need-returns
 returns c = search needs

@@ -53,8 +53,9 @@ keeps-requires c κs = omega arith
 
 add-kept : tie.Need-add-kept Inv-loop μ-loop
 add-kept c =
-    let l = c .before .before .before .before .loop in
-    let a = c .before .before .before .before .before .before .before .args in
+    let head = c .before .before .before .before in
+    let l = head .loop in
+    let a = head .before .before .before .args in
     omega (arith, c .keeps .ensures)
 
 cast-px : tie.Need-cast-px Inv-loop μ-loop
@@ -77,8 +78,9 @@ loop-less c = omega arith
 
 loop-again : tie.Need-loop-again Inv-loop μ-loop
 loop-again c =
-    let l = c .before .before .before .before .loop in
-    let a = c .before .before .before .before .before .before .before .args in
+    let head = c .before .before .before .before in
+    let l = head .loop in
+    let a = head .before .before .before .args in
     let next : a .at + l .i + 1 ≡ a .at + (l .i + 1) = omega arith in (
       copy-turn (l .px) (a .src .now) (a .at) (a .from) (a .n) (l .i) (omega arith) (omega arith) ∙ l .inv .0,
       rw (← next, c .keeps .ensures) (along-kept (l .inv .1) (l .inv .2) (getD (a .src .now) (a .from + l .i) 0) (omega arith)),

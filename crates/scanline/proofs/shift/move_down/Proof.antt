@@ -46,8 +46,9 @@ loop-less c = omega arith
 
 loop-again : tie.Need-loop-again Inv-loop μ-loop
 loop-again c =
-    let a = c .before .before .before .before .before .before .before .before .args in
-    let l = c .before .before .before .before .before .before .loop in
+    let head = c .before .before .before .before .before .before in
+    let a = head .before .before .args in
+    let l = head .loop in
     let m = c .before .before .move-eight in (
       down-more (l .px) (m .last .0) (a .dst) (a .src) (a .n) (l .i) 8 (omega arith) (omega arith) (omega arith) (m .ensures) ∙ l .inv .0,
       m .kept .0 ∙ l .inv .1,

@@ -27,8 +27,9 @@ same-length c = search needs
 
 returns : tie.Need-returns
 returns c =
-    let a = c .before .before .before .before .before .before .before .before .before .before .args in
-    let k = c .before .before .before .before .before .before .copy-part in
+    let kept-eight = c .before .before .before .before .before .before in
+    let a = kept-eight .before .before .before .before .args in
+    let k = kept-eight .copy-part in
     c .before .before .copy-part2 .ensures
     ∙ ap (λ t. sets (a .px .now) (a .dst) t)
     (kept-is (replicate 8 0) (part (a .src) 8 (a .px .now)) (k .last .0) 8 refl (full-part (a .px .now) (a .src) 8 (omega arith)) (k .ensures))

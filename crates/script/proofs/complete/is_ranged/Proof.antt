@@ -72,7 +72,8 @@ returns-8 c = rw (c .before .before .if8 .taken, c .wide .ensures .0)
 
 slice-aggregate-are-bytes : tie.Need-slice-aggregate-are-bytes
 slice-aggregate-are-bytes c =
-    let p = c .before .before .before .before .before .before .before .before .before .before in
+    let no-mouse = c .before .before .before .before .before in
+    let p = no-mouse .before .before .before .before .before in
     sym (length-take-le (p .args .count) (p .args .numbers .now) (search needs))
 
 are-bytes-requires : tie.Need-are-bytes-requires
@@ -85,10 +86,11 @@ returns-9 c = rw (c .before .before .if9 .taken) (c .are-bytes .ensures)
 returns-10 : tie.Need-returns-10
 unfolding ranged
 returns-10 c =
+    let no-mouse = c .before .before .before .before .before in
     rw (
-      ne-eqb _ Kind.mousedown (c .before .before .before .before .before .before .before .if1 .left),
-      ne-eqb _ Kind.mouseup (c .before .before .before .before .before .before .if2 .left),
-      ne-eqb _ Kind.mouseclick (c .before .before .before .before .before .if3 .left),
+      ne-eqb _ Kind.mousedown (no-mouse .before .before .if1 .left),
+      ne-eqb _ Kind.mouseup (no-mouse .before .if2 .left),
+      ne-eqb _ Kind.mouseclick (no-mouse .if3 .left),
       ne-eqb _ Kind.redraw (c .before .before .before .before .if5 .left),
       ne-eqb _ Kind.begin (c .before .before .before .if6 .left),
       ne-eqb _ Kind.dim (c .before .before .if7 .left),

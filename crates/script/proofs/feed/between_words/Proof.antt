@@ -28,12 +28,13 @@ same-length c = search needs
 
 returns-2 : tie.Need-returns-2
 returns-2 c =
-    let a = c .before .before .before .before .before .before .before .before .before .args in
+    let asked-name = c .before .before .before .before .before in
+    let a = asked-name .before .before .before .before .args in
     λ w.
     c .before .before .more .ensures w _
     ∙ name-begins (a .reading .kind) (a .numbers .now) (a .reading .count)
-    (c .before .before .before .before .before .before .before .before .before .pre .1)
-    (c .before .before .before .before .before .name-next .ensures) (a .b) (c .before .before .before .before .before .before .if1 .left)
+    (asked-name .before .before .before .before .pre .1)
+    (asked-name .name-next .ensures) (a .b) (asked-name .before .if1 .left)
     (c .before .before .before .before .if2 .taken)
 
 first-requires : tie.Need-first-requires
@@ -44,12 +45,13 @@ same-length-2 c = search needs
 
 returns-3 : tie.Need-returns-3
 returns-3 c =
-    let a = c .before .before .before .before .before .before .before .before .before .args in
+    let asked-name = c .before .before .before .before .before in
+    let a = asked-name .before .before .before .before .args in
     λ w.
     c .before .before .first .ensures w _
     ∙ number-begins (a .reading .kind) (a .numbers .now) (a .reading .count)
-    (c .before .before .before .before .before .before .before .before .before .pre .1)
-    (c .before .before .before .before .before .name-next .ensures) (a .b) (c .before .before .before .before .before .before .if1 .left)
+    (asked-name .before .before .before .before .pre .1)
+    (asked-name .name-next .ensures) (a .b) (asked-name .before .if1 .left)
     (c .before .before .before .before .if2 .left)
 
 pub between-words-spec : {M : Type 1} → statement M

@@ -22,14 +22,24 @@ loop-holds c =
 shared-slice-read-b : tie.Need-shared-slice-read-b Inv-loop μ-loop
 shared-slice-read-b c = omega arith
 
+-- the start, from the head of the loop
+abbrev entry : tie.At-loop Inv-loop μ-loop → tie.Start Inv-loop μ-loop
+entry head = head .before .before .before .before .before
+
 same-length : tie.Need-same-length Inv-loop μ-loop
-same-length c = c .before .before .before .loop .inv .word-room ∙ sym (c .before .before .before .before .before .before .before .before .pre .1)
+same-length c =
+    let head = c .before .before .before in
+    head .loop .inv .word-room ∙ sym (entry head .pre .1)
 
 same-length-2 : tie.Need-same-length-2 Inv-loop μ-loop
-same-length-2 c = c .before .before .before .loop .inv .number-room ∙ sym (c .before .before .before .before .before .before .before .before .pre .2)
+same-length-2 c =
+    let head = c .before .before .before in
+    head .loop .inv .number-room ∙ sym (entry head .pre .2)
 
 same-length-3 : tie.Need-same-length-3 Inv-loop μ-loop
-same-length-3 c = c .before .before .before .loop .inv .name-room ∙ sym (c .before .before .before .before .before .before .before .before .pre .3)
+same-length-3 c =
+    let head = c .before .before .before in
+    head .loop .inv .name-room ∙ sym (entry head .pre .3)
 
 returns : tie.Need-returns Inv-loop μ-loop
 returns c = (fed-to (c .before .before .before .loop .inv) (λ _. c .if1 .taken), c .before .before .before .loop .inv .state)
@@ -46,21 +56,30 @@ loop-less c = omega arith
 
 loop-again : tie.Need-loop-again Inv-loop μ-loop
 loop-again c =
-    fed-more (c .before .before .before .before .before .before .before .before .before .before .before .before .before .loop .inv)
-    (c .before .before .before .before .before .before .before .before .before .before .before .before .loop-test .taken)
-    (c .before .before .before .before .before .before .before .before .before .before .if1 .left)
-    (c .before .before .before .before .before .before .feed .kept .1 .1 .0)
-    (c .before .before .before .before .before .before .feed .kept .1 .1 .1 .0)
-    (c .before .before .before .before .before .before .feed .kept .1 .1 .1 .1 .0) (c .before .before .before .before .before .before .feed .ensures)
+    let after-feed = c .before .before .before .before .before .before in
+    let no-newline = after-feed .before .before .before .before in
+    let turn = no-newline .before .before in
+    fed-more (turn .before .loop .inv)
+    (turn .loop-test .taken)
+    (no-newline .if1 .left)
+    (after-feed .feed .kept .1 .1 .0)
+    (after-feed .feed .kept .1 .1 .1 .0)
+    (after-feed .feed .kept .1 .1 .1 .1 .0) (after-feed .feed .ensures)
 
 same-length-4 : tie.Need-same-length-4 Inv-loop μ-loop
-same-length-4 c = c .before .loop .inv .word-room ∙ sym (c .before .before .before .before .before .before .pre .1)
+same-length-4 c =
+    let head = c .before in
+    head .loop .inv .word-room ∙ sym (entry head .pre .1)
 
 same-length-5 : tie.Need-same-length-5 Inv-loop μ-loop
-same-length-5 c = c .before .loop .inv .number-room ∙ sym (c .before .before .before .before .before .before .pre .2)
+same-length-5 c =
+    let head = c .before in
+    head .loop .inv .number-room ∙ sym (entry head .pre .2)
 
 same-length-6 : tie.Need-same-length-6 Inv-loop μ-loop
-same-length-6 c = c .before .loop .inv .name-room ∙ sym (c .before .before .before .before .before .before .pre .3)
+same-length-6 c =
+    let head = c .before in
+    head .loop .inv .name-room ∙ sym (entry head .pre .3)
 
 returns-2 : tie.Need-returns-2 Inv-loop μ-loop
 returns-2 c = (fed-to (c .before .loop .inv) (λ h. omega (arith, c .loop-test .left)), c .before .loop .inv .state)

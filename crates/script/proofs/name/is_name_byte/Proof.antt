@@ -35,12 +35,36 @@ returns-4 c =
 returns-5 : tie.Need-returns-5
 unfolding nameByte
 returns-5 c =
-    rw (← c .before .before .before .before .before .before .before .is-between .ensures, c .before .before .before .before .before .before .if1 .left, ← c .before .before .before .before .before .is-between2 .ensures, c .before .before .before .before .if2 .left, ← c .before .before .before .is-between3 .ensures, c .before .before .if3 .left, ne-eqb _ 45 (c .before .if4 .left), eq-eqb _ 95 (c .if5 .taken))
+    let no-small = c .before .before in
+    let no-large = no-small .before .before in
+    let no-digit = no-large .before .before in
+    rw (
+      ← no-digit .before .is-between .ensures,
+      no-digit .if1 .left,
+      ← no-large .before .is-between2 .ensures,
+      no-large .if2 .left,
+      ← no-small .before .is-between3 .ensures,
+      no-small .if3 .left,
+      ne-eqb _ 45 (c .before .if4 .left),
+      eq-eqb _ 95 (c .if5 .taken),
+    )
 
 returns-6 : tie.Need-returns-6
 unfolding nameByte
 returns-6 c =
-    rw (← c .before .before .before .before .before .before .before .is-between .ensures, c .before .before .before .before .before .before .if1 .left, ← c .before .before .before .before .before .is-between2 .ensures, c .before .before .before .before .if2 .left, ← c .before .before .before .is-between3 .ensures, c .before .before .if3 .left, ne-eqb _ 45 (c .before .if4 .left), ne-eqb _ 95 (c .if5 .left))
+    let no-small = c .before .before in
+    let no-large = no-small .before .before in
+    let no-digit = no-large .before .before in
+    rw (
+      ← no-digit .before .is-between .ensures,
+      no-digit .if1 .left,
+      ← no-large .before .is-between2 .ensures,
+      no-large .if2 .left,
+      ← no-small .before .is-between3 .ensures,
+      no-small .if3 .left,
+      ne-eqb _ 45 (c .before .if4 .left),
+      ne-eqb _ 95 (c .if5 .left),
+    )
 
 pub is-name-byte-spec : {M : Type 1} → statement M
 is-name-byte-spec =

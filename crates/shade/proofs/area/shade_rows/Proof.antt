@@ -51,8 +51,9 @@ loop-less c = omega arith
 
 loop-again : tie.Need-loop-again Inv-loop μ-loop
 loop-again c =
-    let a = c .before .before .before .before .before .before .before .before .args in
-    let l = c .before .before .before .before .before .loop in
+    let head = c .before .before .before .before .before in
+    let a = head .before .before .before .args in
+    let l = head .loop in
     let f = c .before .before .shade-part in (
       rows-more (λ k. a .at + k * a .pitch) (λ k. map shade (part (a .from + k * a .step) (a .w) (a .src .now))) (a .px .now) (l .px) (f .last .0) (l .r)
           (l .inv .0) (f .ensures),

@@ -48,8 +48,9 @@ loop-less c = omega arith
 
 loop-again : tie.Need-loop-again Inv-loop μ-loop
 loop-again c =
-    let a = c .before .before .before .before .before .before .before .before .before .args in
-    let l = c .before .before .before .before .before .before .loop in
+    let head = c .before .before .before .before .before .before in
+    let a = head .before .before .before .args in
+    let l = head .loop in
     let m = c .before .before .shade-eight in (
       through-more shade (l .px) (m .last .0) (a .src .now) (a .at) (a .from) (a .n) (l .i) 8 (omega arith) (omega arith) (m .ensures) ∙ l .inv .0,
       m .kept .0 ∙ l .inv .1,
@@ -79,8 +80,9 @@ loop-less-2 c = omega arith
 
 loop-again-2 : tie.Need-loop-again-2 Inv-loop μ-loop
 loop-again-2 c =
-    let a = c .before .before .before .before .before .before .before .before .before .args in
-    let l = c .before .before .before .before .before .before .loop in
+    let head = c .before .before .before .before .before .before in
+    let a = head .before .before .before .args in
+    let l = head .loop in
     let m = c .before .before .shade-each in
     let e : l .i + (a .n - l .i) ≡ a .n = omega arith in (
       rw e at (through-more shade (l .px) (m .last .0) (a .src .now) (a .at) (a .from) (a .n) (l .i) (a .n - l .i) (omega arith) (omega arith) (m .ensures))

@@ -24,18 +24,22 @@ loop-holds c =
     let a = s .args in
     pass-none (frameAt (a .t1)) (a .t2) (a .shown) (search needs) (s .pre .0 .few) (a .points .now) (a .n) _ _ (c .before .before .nobody .ensures)
 
+-- the start, from a turn
+abbrev entry : tie.In-loop Inv-loop μ-loop → tie.Start Inv-loop μ-loop
+entry turn =
+    let after-nobody = turn .before .before .before .before in
+    after-nobody .before .before .before .before
+
 sub-p : tie.Need-sub-p Inv-loop μ-loop
 sub-p c = omega (arith, c .loop-test .taken)
 
 mul-id : tie.Need-mul-id Inv-loop μ-loop
 mul-id c =
-    let s = c .before .before .before .before .before .before .before .before in
-    omega (arith, c .loop-test .taken, c .before .loop .inv .within, s .pre .0 .few)
+    omega (arith, c .loop-test .taken, c .before .loop .inv .within, entry c .pre .0 .few)
 
 array-copy-out-id : tie.Need-array-copy-out-id Inv-loop μ-loop
 array-copy-out-id c =
-    let s = c .before .before .before .before .before .before .before .before in
-    omega (arith, c .loop-test .taken, c .before .loop .inv .within, s .pre .0 .few)
+    omega (arith, c .loop-test .taken, c .before .loop .inv .within, entry c .pre .0 .few)
 
 cast-at : tie.Need-cast-at Inv-loop μ-loop
 cast-at c = search needs
@@ -45,9 +49,8 @@ mul-area c = search needs
 
 array-copy-out-area : tie.Need-array-copy-out-area Inv-loop μ-loop
 array-copy-out-area c =
-    let i = c .before .before in
-    let s = i .before .before .before .before .before .before .before .before in
-    s .pre .0 .low _ (omega (arith, i .loop-test .taken, i .before .loop .inv .within))
+    let turn = c .before .before in
+    entry turn .pre .0 .low _ (omega (arith, turn .loop-test .taken, turn .before .loop .inv .within))
 
 rect-requires : tie.Need-rect-requires Inv-loop μ-loop
 rect-requires c κs = search needs
@@ -63,19 +66,27 @@ look-all-requires c κs =
     )
 
 sub-left : tie.Need-sub-left Inv-loop μ-loop
-sub-left c = omega (arith, c .before .before .before .before .before .before .before .before .loop-test .taken)
+sub-left c =
+    let after-look = c .before .before in
+    let turn = after-look .before .before .before .before .before .before in
+    omega (arith, turn .loop-test .taken)
 
 loop-less : tie.Need-loop-less Inv-loop μ-loop
-loop-less c = omega (arith, c .before .before .before .before .before .before .before .before .loop-test .taken)
+loop-less c =
+    let after-look = c .before .before in
+    let turn = after-look .before .before .before .before .before .before in
+    omega (arith, turn .loop-test .taken)
 
 loop-again : tie.Need-loop-again Inv-loop μ-loop
 loop-again c =
-    let l = c .before .before in
-    let i = l .before .before .before .before .before .before in
-    let s = i .before .before .before .before .before .before .before .before in
+    let after-look = c .before .before in
+    let turn = after-look .before .before .before .before .before .before in
+    let s = entry turn in
     let a = s .args in
-    pass-next (frameAt (a .t1)) (a .t2) (a .shown) (search needs) (s .pre .0 .few) (a .points .now) (a .n) (i .before .loop .inv) (s .pre .0 .low)
-    (i .loop-test .taken) _ refl _ (rw (l .before .before .rect .ensures) at (l .look-all .ensures))
+    let p = s .pre .0 in
+    pass-next (frameAt (a .t1)) (a .t2) (a .shown) (search needs) (p .few) (a .points .now) (a .n)
+    (turn .before .loop .inv) (p .low) (turn .loop-test .taken) _ refl _
+    (rw (after-look .before .before .rect .ensures) at (after-look .look-all .ensures))
 
 same-length : tie.Need-same-length Inv-loop μ-loop
 same-length c = omega (arith, c .before .loop .inv .so-far .same, c .before .before .before .before .nobody .ensures .same)

@@ -5,6 +5,13 @@ use borrow.Author.Needs.{needs}
 use Rattle.geom.proofs.inner.pieces.around.Statement.{statement}
 use Rattle.geom.proofs.inner.pieces.around.Tie as tie
 
+-- the start, from where the right piece is made
+abbrev entry : tie.After-new3 → tie.Start
+entry right =
+    let left = right .before .before .before in
+    let above = left .before .before .before in
+    above .before .before .before
+
 sub-new : tie.Need-sub-new
 sub-new c = search needs
 
@@ -36,7 +43,7 @@ bottom-requires-2 : tie.Need-bottom-requires-2
 bottom-requires-2 c κs = search needs
 
 sub-new-4 : tie.Need-sub-new-4
-sub-new-4 c = omega (arith, c .before .before .before .before .before .before .before .before .before .before .before .pre .1)
+sub-new-4 c = omega (arith, entry (c .before .before) .pre .1)
 
 new-requires-4 : tie.Need-new-requires-4
 new-requires-4 c κs = search needs
@@ -58,15 +65,20 @@ with-requires-4 c κs = search needs
 
 returns : tie.Need-returns
 returns c =
-    let s = c .before .before .before .before .before in
-    let a = c .before .before .before .before .before .before .before .before .before .before .before .before .before .before .before .before .before .args .a in
-    let i = c .before .before .before .before .before .before .before .before .before .before .before .before .before .before .before .before .before .args .i in
-    four a i _ _ _ _ _ _ _ _ _ (c .before .before .before .before .none .ensures)
-    (s .before .before .before .before .before .before .before .before .before .new .ensures) (c .before .before .before .with .ensures)
-    (s .before .before .before .before .before .before .new2 .ensures) (c .before .before .with2 .ensures)
-    (right-is a i _ _ _ (s .before .before .before .before .before .right .ensures) (s .before .before .before .before .right2 .ensures) (s .before .before .before .new3 .ensures))
+    let none = c .before .before .before .before in
+    let below = none .before in
+    let right = below .before .before .before in
+    let left = right .before .before .before in
+    let above = left .before .before .before in
+    let a = entry right .args .a in
+    let i = entry right .args .i in
+    four a i _ _ _ _ _ _ _ _ _ (none .none .ensures)
+    (above .new .ensures) (c .before .before .before .with .ensures)
+    (left .new2 .ensures) (c .before .before .with2 .ensures)
+    (right-is a i _ _ _ (right .before .before .right .ensures) (right .before .right2 .ensures) (right .new3 .ensures))
     (c .before .with3 .ensures)
-    (below-is a i _ _ _ (s .before .before .bottom .ensures) (s .before .bottom2 .ensures) (s .new4 .ensures))
+    (below-is a i _ _ _ (below .before .before .bottom .ensures) (below .before .bottom2 .ensures)
+    (below .new4 .ensures))
     (c .with4 .ensures)
 
 pub around-spec : {M : Type 1} → statement M

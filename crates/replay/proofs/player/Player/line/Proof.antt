@@ -25,10 +25,16 @@ read-sheet-requires c κs =
 shown-requires : tie.Need-shown-requires
 shown-requires c κs = search needs
 
+-- the start, from where the kind is known to be a look
+abbrev entry : tie.Then6 → tie.Start
+entry look =
+    let past-region = look .before .before in
+    past-region .before .before .before .before .before
+
 look-requires : tie.Need-look-requires
 look-requires c κs =
     let t = c .before .before .before in
-    let p = t .before .before .before .before .before .before .before .pre in
+    let p = entry t .pre in
     (p .0, on-target _ (t .before .if5 .left) (t .if6 .taken))
 
 stored-requires : tie.Need-stored-requires
@@ -70,7 +76,7 @@ returns-5 c = shows (c .before .before .before .before .before .before .if3 .lef
 
 returns-6 : tie.Need-returns-6
 returns-6 c =
-    let args = c .before .before .before .before .before .before .before .before .before .before .before .args in
+    let args = entry (c .before .before .before .before) .args in
     c .look .ensures (pixels (args .store .now) (args .screen .now))
 
 returns-7 : tie.Need-returns-7

@@ -43,7 +43,9 @@ add-put : tie.Need-add-put Inv-loop μ-loop
 add-put c = omega arith
 
 put-requires : tie.Need-put-requires Inv-loop μ-loop
-put-requires c κs = omega (arith, c .before .before .before .before .before .loop .inv, c .before .before .before .before .before .before .before .before .pre)
+put-requires c κs =
+    let head = c .before .before .before .before .before in
+    omega (arith, head .loop .inv, head .before .before .before .pre)
 
 add-i : tie.Need-add-i Inv-loop μ-loop
 add-i c = omega arith
@@ -53,9 +55,12 @@ loop-less c = omega arith
 
 loop-again : tie.Need-loop-again Inv-loop μ-loop
 loop-again c =
-    let l = c .before .before .before .before .before .before .before .before .loop in
-    let d = c .before .before in
-    written-next (l .inv) (d .before .before .before .before .before .loop-test .taken) (d .before .before .before .before .read .ensures) (d .before .before .before .read2 .ensures) (d .before .before .rect-of .ensures) (d .put .ensures)
+    let after-put = c .before .before in
+    let turn = after-put .before .before .before .before .before in
+    let l = turn .before .loop in
+    written-next (l .inv) (turn .loop-test .taken) (after-put .before .before .before .before .read .ensures)
+    (after-put .before .before .before .read2 .ensures) (after-put .before .before .rect-of .ensures)
+    (after-put .put .ensures)
 
 same-length : tie.Need-same-length Inv-loop μ-loop
 same-length c = c .before .loop .inv .room

@@ -48,61 +48,90 @@ add-write-band c =
 
 write-band-requires : tie.Need-write-band-requires Inv-loop μ-loop
 write-band-requires c κs =
-    let s = c .before .before .before .before .before .before .before .before .before in
-    let r = c .before .before .before .before .before .before .read in
-    let l = c .before .before .before .before .before .loop in
-    let t = c .before .before .before .before .loop-test in
+    let turn = c .before .before .before .before in
+    let r = turn .before .before .read in
+    let l = turn .before .loop in
+    let t = turn .loop-test in
     let r2 = c .before .before .before .read2 in
     let r3 = c .before .before .read3 in
-    (omega (arith, l .inv .few, l .inv .near, t .taken, r .ensures .small, r2 .ensures .small, r3 .ensures .small, c .before .read4 .ensures .small), omega (arith, l .inv .room, copying-room (l .inv) (t .taken) (r2 .ensures) (r3 .ensures) (c .before .read4 .ensures) (room-fields (r .ensures) (s .pre))))
+    let r4 = c .before .read4 in
+    let entry = turn .before .before .before .before .before in
+    let fields = room-fields (r .ensures) (entry .pre) in
+    let room = copying-room (l .inv) (t .taken) (r2 .ensures) (r3 .ensures) (r4 .ensures) fields in (
+      omega (
+        arith,
+        l .inv .few,
+        l .inv .near,
+        t .taken,
+        r .ensures .small,
+        r2 .ensures .small,
+        r3 .ensures .small,
+        r4 .ensures .small,
+      ),
+      omega (arith, l .inv .room, room),
+    )
 
 add-place : tie.Need-add-place Inv-loop μ-loop
 add-place c =
-    let s = c .before .before .before .before .before .before .before .before .before .before .before .before in
-    let r = c .before .before .before .before .before .before .before .before .before .read in
-    let l = c .before .before .before .before .before .before .before .before .loop in
-    let r2 = c .before .before .before .before .before .before .read2 in
-    let r3 = c .before .before .before .before .before .read3 in
-    let d = c .before .before .before .before in
-    omega (arith, copying-room (l .inv) (d .before .before .before .loop-test .taken) (r2 .ensures) (r3 .ensures) (d .read4 .ensures) (room-fields (r .ensures) (s .pre)))
+    let fields-read = c .before .before .before .before in
+    let turn = fields-read .before .before .before in
+    let r = turn .before .before .read in
+    let l = turn .before .loop in
+    let r2 = fields-read .before .before .read2 in
+    let r3 = fields-read .before .read3 in
+    let r4 = fields-read .read4 in
+    let entry = turn .before .before .before .before .before in
+    let fields = room-fields (r .ensures) (entry .pre) in
+    omega
+    (arith, copying-room (l .inv) (turn .loop-test .taken) (r2 .ensures) (r3 .ensures) (r4 .ensures) fields)
 
 add-at : tie.Need-add-at Inv-loop μ-loop
 add-at c =
-    let r = c .before .before .before .before .before .before .before .before .before .read in
-    let l = c .before .before .before .before .before .before .before .before .loop in
-    omega (arith, l .inv .few, l .inv .near, c .before .before .before .before .before .before .before .loop-test .taken, r .ensures .small)
+    let fields-read = c .before .before .before .before in
+    let turn = fields-read .before .before .before in
+    let r = turn .before .before .read in
+    let l = turn .before .loop in
+    omega (arith, l .inv .few, l .inv .near, turn .loop-test .taken, r .ensures .small)
 
 mul-at : tie.Need-mul-at Inv-loop μ-loop
 mul-at c =
-    let r = c .before .before .before .before .before .before .before .before .before .read in
-    let l = c .before .before .before .before .before .before .before .before .loop in
-    let d = c .before .before .before .before in
-    omega (arith, l .inv .few, l .inv .near, d .before .before .before .loop-test .taken, r .ensures .small, d .read4 .ensures .small)
+    let fields-read = c .before .before .before .before in
+    let turn = fields-read .before .before .before in
+    let r = turn .before .before .read in
+    let l = turn .before .loop in
+    omega
+    (arith, l .inv .few, l .inv .near, turn .loop-test .taken, r .ensures .small, fields-read .read4 .ensures .small)
 
 add-at-2 : tie.Need-add-at-2 Inv-loop μ-loop
 add-at-2 c =
-    let r = c .before .before .before .before .before .before .before .before .before .read in
-    let l = c .before .before .before .before .before .before .before .before .loop in
-    let d = c .before .before .before .before in
-    omega (arith, l .inv .few, l .inv .near, d .before .before .before .loop-test .taken, r .ensures .small, d .read4 .ensures .small)
+    let fields-read = c .before .before .before .before in
+    let turn = fields-read .before .before .before in
+    let r = turn .before .before .read in
+    let l = turn .before .loop in
+    omega
+    (arith, l .inv .few, l .inv .near, turn .loop-test .taken, r .ensures .small, fields-read .read4 .ensures .small)
 
 add-i : tie.Need-add-i Inv-loop μ-loop
 add-i c =
-    let r = c .before .before .before .before .before .before .before .before .before .read in
-    let l = c .before .before .before .before .before .before .before .before .loop in
-    omega (arith, l .inv .few, l .inv .near, c .before .before .before .before .before .before .before .loop-test .taken, r .ensures .small)
+    let fields-read = c .before .before .before .before in
+    let turn = fields-read .before .before .before in
+    let r = turn .before .before .read in
+    let l = turn .before .loop in
+    omega (arith, l .inv .few, l .inv .near, turn .loop-test .taken, r .ensures .small)
 
 loop-less : tie.Need-loop-less Inv-loop μ-loop
 loop-less c = omega arith
 
 loop-again : tie.Need-loop-again Inv-loop μ-loop
 loop-again c =
-    let l = c .before .before .before .before .before .before .before .before .loop in
-    let r2 = c .before .before .before .before .before .before .read2 in
-    let r3 = c .before .before .before .before .before .read3 in
+    let fields-read = c .before .before .before .before in
+    let turn = fields-read .before .before .before in
+    let l = turn .before .loop in
+    let r2 = fields-read .before .before .read2 in
+    let r3 = fields-read .before .read3 in
     let w = c .before .before .write-band in
-    let d = c .before .before .before .before in
-    copying-next (l .inv) (d .before .before .before .loop-test .taken) (r2 .ensures) (r3 .ensures) (d .read4 .ensures) (w .ensures)
+    copying-next (l .inv) (turn .loop-test .taken) (r2 .ensures) (r3 .ensures) (fields-read .read4 .ensures)
+    (w .ensures)
 
 same-length : tie.Need-same-length Inv-loop μ-loop
 same-length c = c .before .loop .inv .room

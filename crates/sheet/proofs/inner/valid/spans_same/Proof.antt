@@ -64,9 +64,11 @@ read-requires-4 c κs = search needs
 
 returns-2 : tie.Need-returns-2 Inv-loop μ-loop
 returns-2 c =
-    let l = c .before .before .before .before .before .before .before .loop in
-    let d = c .before .before in
-    unlike-right (l .inv) (d .before .before .before .before .loop-test .taken) (d .before .before .before .read .ensures) (d .before .before .read2 .ensures) (d .read3 .ensures) (c .before .read4 .ensures) (c .if2 .taken)
+    let lefts = c .before .before .before .before in
+    let turn = lefts .before .before in
+    let l = turn .before .loop in
+    unlike-right (l .inv) (turn .loop-test .taken) (lefts .before .read .ensures) (lefts .read2 .ensures)
+    (c .before .before .read3 .ensures) (c .before .read4 .ensures) (c .if2 .taken)
 
 add-i : tie.Need-add-i Inv-loop μ-loop
 add-i c = omega arith
@@ -76,9 +78,12 @@ loop-less c = omega arith
 
 loop-again : tie.Need-loop-again Inv-loop μ-loop
 loop-again c =
-    let l = c .before .before .before .before .before .before .before .loop in
-    let d = c .before .before in
-    alike-next (l .inv) (d .before .before .before .before .loop-test .taken) (d .before .before .before .read .ensures) (d .before .before .read2 .ensures) (d .read3 .ensures) (c .before .read4 .ensures) (d .before .if1 .left) (c .if2 .left)
+    let lefts = c .before .before .before .before in
+    let turn = lefts .before .before in
+    let l = turn .before .loop in
+    alike-next (l .inv) (turn .loop-test .taken) (lefts .before .read .ensures) (lefts .read2 .ensures)
+    (c .before .before .read3 .ensures) (c .before .read4 .ensures) (c .before .before .before .if1 .left)
+    (c .if2 .left)
 
 returns-3 : tie.Need-returns-3 Inv-loop μ-loop
 returns-3 c = alike-all (c .before .loop .inv) (c .loop-test .left)

@@ -26,74 +26,83 @@ loop-holds c =
     let s = c .before .before .before .before .before .before in
     sheeted-none (s .args .nums .now) (s .args .n) (c .before .before .put .last .0)
 
+-- the start, from a turn
+abbrev entry : tie.In-loop Inv-loop μ-loop → tie.Start Inv-loop μ-loop
+entry turn =
+    let after-put = turn .before .before .before .before in
+    after-put .before .before .before .before
+
 add-m : tie.Need-add-m Inv-loop μ-loop
 add-m c =
-    let s = c .before .before .before .before .before .before .before .before in
     let l = c .before .loop in
-    omega (arith, sheeted-numbers (l .inv) (c .loop-test .taken) (s .pre .0 .1))
+    omega (arith, sheeted-numbers (l .inv) (c .loop-test .taken) (entry c .pre .0 .1))
 
 mul-m : tie.Need-mul-m Inv-loop μ-loop
 mul-m c =
-    let s = c .before .before .before .before .before .before .before .before in
     let l = c .before .loop in
-    omega (arith, sheeted-numbers (l .inv) (c .loop-test .taken) (s .pre .0 .1))
+    omega (arith, sheeted-numbers (l .inv) (c .loop-test .taken) (entry c .pre .0 .1))
 
 shared-slice-read-m : tie.Need-shared-slice-read-m Inv-loop μ-loop
 shared-slice-read-m c =
-    let s = c .before .before .before .before .before .before .before .before .before in
-    let l = c .before .before .loop in
-    omega (arith, sheeted-numbers (l .inv) (c .before .loop-test .taken) (s .pre .0 .1))
+    let turn = c .before in
+    let l = turn .before .loop in
+    omega (arith, sheeted-numbers (l .inv) (turn .loop-test .taken) (entry turn .pre .0 .1))
 
 cast-m : tie.Need-cast-m Inv-loop μ-loop
 cast-m c = omega (arith, c .shared-slice-known2 .given (c .before .before .loop .e + 2))
 
 put-band-requires : tie.Need-put-band-requires Inv-loop μ-loop
 put-band-requires c κs =
-    let s = c .before .before .before .before .before .before .before .before .before .before in
-    let l = c .before .before .before .loop in
-    let d = c .before .before in
-    omega (arith, sheeted-numbers (l .inv) (d .loop-test .taken) (s .pre .0 .1), sheeted-room (l .inv) (d .loop-test .taken) (s .pre .1 .0), sheeted-room (l .inv) (d .loop-test .taken) (s .pre .1 .1), l .inv .put .size, d .before .before .before .before .put .ensures .size)
+    let turn = c .before .before in
+    let l = turn .before .loop in
+    let t = turn .loop-test .taken in
+    let p = entry turn .pre in
+    let numbers = sheeted-numbers (l .inv) t (p .0 .1) in
+    let bytes = sheeted-room (l .inv) t (p .1 .0) in
+    let places = sheeted-room (l .inv) t (p .1 .1) in
+    let size = turn .before .before .before .before .put .ensures .size in
+    omega (arith, numbers, bytes, places, l .inv .put .size, size)
 
 add-k : tie.Need-add-k Inv-loop μ-loop
 add-k c =
-    let s = c .before .before .before .before .before .before .before .before .before .before .before .before .before in
-    let l = c .before .before .before .before .before .before .loop in
-    omega (arith, sheeted-room (l .inv) (c .before .before .before .before .before .loop-test .taken) (s .pre .1 .1))
+    let turn = c .before .before .before .before .before in
+    let l = turn .before .loop in
+    omega (arith, sheeted-room (l .inv) (turn .loop-test .taken) (entry turn .pre .1 .1))
 
 mul-k : tie.Need-mul-k Inv-loop μ-loop
 mul-k c =
-    let s = c .before .before .before .before .before .before .before .before .before .before .before .before .before in
-    let l = c .before .before .before .before .before .before .loop in
-    omega (arith, sheeted-room (l .inv) (c .before .before .before .before .before .loop-test .taken) (s .pre .1 .1))
+    let turn = c .before .before .before .before .before in
+    let l = turn .before .loop in
+    omega (arith, sheeted-room (l .inv) (turn .loop-test .taken) (entry turn .pre .1 .1))
 
 add-k-2 : tie.Need-add-k-2 Inv-loop μ-loop
 add-k-2 c =
-    let s = c .before .before .before .before .before .before .before .before .before .before .before .before .before in
-    let l = c .before .before .before .before .before .before .loop in
-    omega (arith, sheeted-room (l .inv) (c .before .before .before .before .before .loop-test .taken) (s .pre .1 .1))
+    let turn = c .before .before .before .before .before in
+    let l = turn .before .loop in
+    omega (arith, sheeted-room (l .inv) (turn .loop-test .taken) (entry turn .pre .1 .1))
 
 add-e : tie.Need-add-e Inv-loop μ-loop
 add-e c =
-    let s = c .before .before .before .before .before .before .before .before .before .before .before .before .before in
-    let l = c .before .before .before .before .before .before .loop in
-    omega (arith, sheeted-numbers (l .inv) (c .before .before .before .before .before .loop-test .taken) (s .pre .0 .1))
+    let turn = c .before .before .before .before .before in
+    let l = turn .before .loop in
+    omega (arith, sheeted-numbers (l .inv) (turn .loop-test .taken) (entry turn .pre .0 .1))
 
 mul-e : tie.Need-mul-e Inv-loop μ-loop
 mul-e c =
-    let s = c .before .before .before .before .before .before .before .before .before .before .before .before .before in
-    let l = c .before .before .before .before .before .before .loop in
-    omega (arith, sheeted-numbers (l .inv) (c .before .before .before .before .before .loop-test .taken) (s .pre .0 .1))
+    let turn = c .before .before .before .before .before in
+    let l = turn .before .loop in
+    omega (arith, sheeted-numbers (l .inv) (turn .loop-test .taken) (entry turn .pre .0 .1))
 
 add-e-2 : tie.Need-add-e-2 Inv-loop μ-loop
 add-e-2 c =
-    let s = c .before .before .before .before .before .before .before .before .before .before .before .before .before in
-    let l = c .before .before .before .before .before .before .loop in
-    omega (arith, sheeted-numbers (l .inv) (c .before .before .before .before .before .loop-test .taken) (s .pre .0 .1))
+    let turn = c .before .before .before .before .before in
+    let l = turn .before .loop in
+    omega (arith, sheeted-numbers (l .inv) (turn .loop-test .taken) (entry turn .pre .0 .1))
 
 add-i : tie.Need-add-i Inv-loop μ-loop
 add-i c =
-    let d = c .before .before .before .before .before in
-    omega (arith, d .loop-test .taken, d .before .before .before .before .before .before .before .before .pre .0 .0)
+    let turn = c .before .before .before .before .before in
+    omega (arith, turn .loop-test .taken, entry turn .pre .0 .0)
 
 loop-less : tie.Need-loop-less Inv-loop μ-loop
 loop-less c = omega (arith, c .before .before .before .before .before .loop-test .taken)

@@ -19,6 +19,10 @@ loop-holds c =
     let s = c .before .before in
     (omega arith, spans-none (s .args .k) (s .args .e) (s .args .nums .now) (s .args .out .now))
 
+-- the start, from a turn
+abbrev entry : tie.In-loop Inv-loop μ-loop → tie.Start Inv-loop μ-loop
+entry turn = turn .before .before .before .before
+
 mul-put : tie.Need-mul-put Inv-loop μ-loop
 mul-put c = omega (arith, c .before .loop-test .taken, c .before .before .before .before .before .pre)
 
@@ -44,68 +48,81 @@ put-requires c κs =
 
 mul-put-4 : tie.Need-mul-put-4 Inv-loop μ-loop
 mul-put-4 c =
-    let s = c .before .before .before .before .before .before .before .before .before .before in
-    omega (arith, c .before .before .before .before .before .before .loop-test .taken, s .pre)
+    let turn = c .before .before .before .before .before .before in
+    omega (arith, turn .loop-test .taken, entry turn .pre)
 
 add-put-3 : tie.Need-add-put-3 Inv-loop μ-loop
 add-put-3 c =
-    let s = c .before .before .before .before .before .before .before .before .before .before in
-    omega (arith, c .before .before .before .before .before .before .loop-test .taken, s .pre)
+    let turn = c .before .before .before .before .before .before in
+    omega (arith, turn .loop-test .taken, entry turn .pre)
 
 add-put-4 : tie.Need-add-put-4 Inv-loop μ-loop
 add-put-4 c =
-    let s = c .before .before .before .before .before .before .before .before .before .before in
-    omega (arith, c .before .before .before .before .before .before .loop-test .taken, s .pre)
+    let turn = c .before .before .before .before .before .before in
+    omega (arith, turn .loop-test .taken, entry turn .pre)
 
 mul-put-5 : tie.Need-mul-put-5 Inv-loop μ-loop
 mul-put-5 c =
-    let s = c .before .before .before .before .before .before .before .before .before .before in
-    omega (arith, c .before .before .before .before .before .before .loop-test .taken, s .pre)
+    let turn = c .before .before .before .before .before .before in
+    omega (arith, turn .loop-test .taken, entry turn .pre)
 
 add-put-5 : tie.Need-add-put-5 Inv-loop μ-loop
 add-put-5 c =
-    let s = c .before .before .before .before .before .before .before .before .before .before in
-    omega (arith, c .before .before .before .before .before .before .loop-test .taken, s .pre)
+    let turn = c .before .before .before .before .before .before in
+    omega (arith, turn .loop-test .taken, entry turn .pre)
 
 add-put-6 : tie.Need-add-put-6 Inv-loop μ-loop
 add-put-6 c =
-    let s = c .before .before .before .before .before .before .before .before .before .before in
-    omega (arith, c .before .before .before .before .before .before .loop-test .taken, s .pre)
+    let turn = c .before .before .before .before .before .before in
+    omega (arith, turn .loop-test .taken, entry turn .pre)
 
 mul-put-6 : tie.Need-mul-put-6 Inv-loop μ-loop
 mul-put-6 c =
-    let s = c .before .before .before .before .before .before .before .before .before .before in
-    omega (arith, c .before .before .before .before .before .before .loop-test .taken, s .pre)
+    let turn = c .before .before .before .before .before .before in
+    omega (arith, turn .loop-test .taken, entry turn .pre)
 
 shared-slice-read-put-2 : tie.Need-shared-slice-read-put-2 Inv-loop μ-loop
 shared-slice-read-put-2 c =
-    let s = c .before .before .before .before .before .before .before .before .before .before .before in
-    omega (arith, c .before .before .before .before .before .before .before .loop-test .taken, s .pre)
+    let after-put = c .before .before .before .before in
+    let turn = after-put .before .before .before in
+    omega (arith, turn .loop-test .taken, entry turn .pre)
 
 put-requires-2 : tie.Need-put-requires-2 Inv-loop μ-loop
 put-requires-2 c κs =
-    let s = c .before .before .before .before .before .before .before .before .before .before .before in
-    let l = c .before .before .before .before .before .before .before .before .loop in
-    let d = c .before .before .before .before in
-    omega (arith, l .inv .1 .size, d .put .ensures .size, d .before .before .before .loop-test .taken, s .pre)
+    let after-put = c .before .before .before .before in
+    let turn = after-put .before .before .before in
+    let l = turn .before .loop in
+    omega (arith, l .inv .1 .size, after-put .put .ensures .size, turn .loop-test .taken, entry turn .pre)
 
 add-i : tie.Need-add-i Inv-loop μ-loop
 add-i c =
-    let s = c .before .before .before .before .before .before .before .before .before .before .before .before .before .before in
-    let t = c .before .before .before .before .before .before .before .before .before .before .loop-test in
-    omega (arith, t .taken, s .pre)
+    let after-put2 = c .before .before in
+    let after-put = after-put2 .before .before .before .before .before in
+    let turn = after-put .before .before .before in
+    let t = turn .loop-test in
+    omega (arith, t .taken, entry turn .pre)
 
 loop-less : tie.Need-loop-less Inv-loop μ-loop
-loop-less c = omega (arith, c .before .before .before .before .before .before .before .before .before .before .loop-test .taken)
+loop-less c =
+    let after-put2 = c .before .before in
+    let after-put = after-put2 .before .before .before .before .before in
+    let turn = after-put .before .before .before in
+    omega (arith, turn .loop-test .taken)
 
 loop-again : tie.Need-loop-again Inv-loop μ-loop
 loop-again c =
-    let s = c .before .before .before .before .before .before .before .before .before .before .before .before .before .before in
-    let l = c .before .before .before .before .before .before .before .before .before .before .before .loop in
-    let t = c .before .before .before .before .before .before .before .before .before .before .loop-test in
-    let p = c .before .before .before .before .before .before .before .put in
-    let p2 = c .before .before .put2 in
-    (omega (arith, t .taken), spans-put (s .args .k) (s .args .e) (l .i) (s .args .nums .now) (s .args .out .now) (l .out) (p .last .0) (p2 .last .0) (l .inv .1) (p .ensures) (p2 .ensures))
+    let after-put2 = c .before .before in
+    let after-put = after-put2 .before .before .before .before .before in
+    let turn = after-put .before .before .before in
+    let l = turn .before .loop in
+    let t = turn .loop-test in
+    let p = after-put .put in
+    let p2 = after-put2 .put2 in
+    let a = entry turn .args in (
+      omega (arith, t .taken),
+      spans-put (a .k) (a .e) (l .i) (a .nums .now) (a .out .now) (l .out) (p .last .0)
+          (p2 .last .0) (l .inv .1) (p .ensures) (p2 .ensures),
+    )
 
 same-length : tie.Need-same-length Inv-loop μ-loop
 same-length c = c .before .loop .inv .1 .size

@@ -34,9 +34,10 @@ same-length c = search needs
 
 returns-2 : tie.Need-returns-2
 returns-2 c =
-    let p = c .before .before .before .before .before .before .before in
-    let d = c .before .before in
-    writes-whole (p .args .nums .now) (p .args .n) (p .args .end) (p .pre .1) (p .args .out .now) (d .before .before .if1 .left) (d .put-sheet .last .0) (d .put-sheet .ensures)
+    let after-put = c .before .before in
+    let p = after-put .before .before .before .before .before in
+    writes-whole (p .args .nums .now) (p .args .n) (p .args .end) (p .pre .1) (p .args .out .now)
+    (after-put .before .before .if1 .left) (after-put .put-sheet .last .0) (after-put .put-sheet .ensures)
 
 pub write-spec : {M : Type 1} → statement M
 write-spec =

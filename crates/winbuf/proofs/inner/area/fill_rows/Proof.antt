@@ -25,12 +25,14 @@ row : (c : tie.In-loop Inv-loop μ-loop) → let a = c .before .before .before .
 row c = c .before .before .before .pre .0 .row (c .before .loop .r) (c .loop-test .taken)
 
 -- what is counted once it is written
-counted : (c : tie.After-slice-known2 Inv-loop μ-loop) → let l = c .before .before .before .before .before .loop in
-    let a = c .before .before .before .before .before .before .before .args in
+counted : (c : tie.After-slice-known2 Inv-loop μ-loop) → let head = c .before .before .before .before .before in
+    let l = head .loop in
+    let a = head .before .before .args in
     Along (a .px .now) (c .before .before .fill-part .last .0) (a .at + (l .r + 1) * a .pitch) (l .altered + c .before .before .fill-part .result)
 counted c =
-    let l = c .before .before .before .before .before .loop in
-    let a = c .before .before .before .before .before .before .before .args in
+    let head = c .before .before .before .before .before in
+    let l = head .loop in
+    let a = head .before .before .args in
     along-run (replicate (a .w) (a .v)) (l .inv .1) (c .before .before .fill-part .ensures) (a .at + (l .r + 1) * a .pitch)
     (omega (arith, next-row (l .r) (a .pitch), length-replicate (a .w) (a .v)))
 
@@ -54,8 +56,9 @@ loop-less c = omega arith
 
 loop-again : tie.Need-loop-again Inv-loop μ-loop
 loop-again c =
-    let a = c .before .before .before .before .before .before .before .args in
-    let l = c .before .before .before .before .before .loop in
+    let head = c .before .before .before .before .before in
+    let a = head .before .before .args in
+    let l = head .loop in
     let f = c .before .before .fill-part in (
       rows-more (λ k. a .at + k * a .pitch) (λ k. replicate (a .w) (a .v)) (a .px .now) (l .px) (f .last .0) (l .r)
           (l .inv .0) (f .ensures .pixels),

@@ -49,8 +49,9 @@ loop-less c = omega arith
 
 loop-again : tie.Need-loop-again Inv-loop μ-loop
 loop-again c =
-    let a = c .before .before .before .before .before .before .before .args in
-    let l = c .before .before .before .before .before .loop in
+    let head = c .before .before .before .before .before in
+    let a = head .before .before .args in
+    let l = head .loop in
     let m = c .before .before .move-down in (
       m .ensures
           ∙ ap (λ (s : List ℕ). sets s (l .r * a .w1) (part (l .r * a .w0) (a .w1) s)) (l .inv .0)

@@ -51,9 +51,10 @@ same-length c = search needs
 
 returns : tie.Need-returns
 returns c =
-    let a = c .before .before .before .before .before .before .before .before .before .before .args in
-    let n = c .before .before .before .before .before .before .before .before .least in
-    let p = c .before .before .before .before .before .before .set-width in
+    let after-width = c .before .before .before .before .before .before in
+    let a = after-width .before .before .before .before .args in
+    let n = after-width .before .before .least in
+    let p = after-width .set-width in
     let f = c .before .before .fill-all in
     let used : ℕ = n .result * a .w1 in
     let rest : ℕ = length (p .last .0) - used in

@@ -25,8 +25,9 @@ same-length-2 c = search needs
 
 returns-2 : tie.Need-returns-2
 returns-2 c =
-    let a = c .before .before .before .before .before .before .before .args in
-    c .before .before .widen .ensures ∙ fitted-wide (a .px .now) (a .w0) (a .w1) (a .n) (omega arith)
+    let after-widen = c .before .before in
+    let a = after-widen .before .before .before .before .before .args in
+    after-widen .widen .ensures ∙ fitted-wide (a .px .now) (a .w0) (a .w1) (a .n) (omega arith)
 
 returns-3 : tie.Need-returns-3
 returns-3 c =

@@ -25,9 +25,11 @@ loop-holds c = (refl, refl, omega arith, omega arith)
 
 loop-again : tie.Need-loop-again Inv-loop μ-loop
 loop-again c =
-    let a = c .before .before .before .before .before .before .before .before .before .before .before .before .args in
-    let l = c .before .before .before .before .before .before .before .before .before .loop in
-    let m = c .before .before .before .before .before .before .move-up in
+    let moved = c .before .before .before .before .before .before in
+    let head = moved .before .before .before in
+    let a = head .before .before .before .args in
+    let l = head .loop in
+    let m = moved .move-up in
     let f = c .before .before .fill-part in
     let e : suc (l .left - 1) ≡ l .left = omega arith in (
       widen-step (l .px) (m .last .0) (f .last .0) (a .w0) (a .w1) (a .n) (l .left - 1) (omega arith) (omega arith) (omega arith) (m .ensures) (f .ensures .pixels)
@@ -89,8 +91,9 @@ same-length c = c .before .before .fill-part2 .kept .0 ∙ c .before .before .be
 
 returns : tie.Need-returns Inv-loop μ-loop
 returns c =
-    let a = c .before .before .before .before .before .before .before .before .args in
-    let l = c .before .before .before .before .before .loop in
+    let head = c .before .before .before .before .before in
+    let a = head .before .before .before .args in
+    let l = head .loop in
     let f = c .before .before .fill-part2 in
     let z : 1 ≡ l .left = omega arith in
     widen-one (l .px) (f .last .0) (a .w0) (a .w1) (a .n) (omega arith) (omega arith) (omega arith) (f .ensures .pixels)
