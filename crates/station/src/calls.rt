@@ -1,6 +1,6 @@
 // The calls of a session, which lies behind a pointer. A call that touches one window works on that window and on what
-// the windows share, and puts both back in their place; one that touches no window, on what they share alone. A fill, a
-// blit, a route and a pop read and write single fields where they lie. The session is not copied.
+// the windows share, and puts both back; one that touches none, on what they share. A fill, a blit, a route and a pop
+// read and write single fields where they lie. Only a start and an update of dimensions copy the session.
 //
 // Before `roq_start` the memory holds zeros or a session; before any other call, a session that `roq_start` and later calls left.
 ghost use mathlib.Core.Path.{_≡_};
