@@ -38,7 +38,7 @@ use Rattle.rules.specs.Store.{whole}
 use Rattle.rules.specs.Redraw.{screenFits}
 use Rattle.rules.specs.Walk.{begun}
 use Rattle.rules.specs.Displays.{onScreen, roomFor, fits, displayOf, everyFits}
-use Rattle.rules.specs.Calls.{Call, Create, Show, Hide, Drop, Mark, Pop, Move, Resize, Fill, Blit, Route, Redraw, Begin, Portion, Dim, SetLayer, AddDisplay, Maximise, UpdateDims, Raise, does, after}
+use Rattle.rules.specs.Calls.{Call, Create, Show, Hide, Drop, Mark, Pop, Move, Resize, Fill, Blit, Route, Redraw, Begin, Portion, Dim, SetLayer, AddDisplay, Maximise, UpdateDims, Raise, Drag, does, after}
 use Rattle.rules.specs.Conditions.{lentStore, lentScreen}
 use Rattle.rules.specs.Share.{hasShare, share}
 use Rattle.rules.specs.Sheets.{region, sheet}
@@ -148,6 +148,7 @@ questions g (AddDisplay r) = (5 is smallRect r) ∷ (15 is onScreen r) ∷ (16 i
 questions g (Maximise id s) = (1 is whole g s) ∷ (3 is inUse g id) ∷ (6 is fits (g .c) (displayOf g id)) ∷ []
 questions g (UpdateDims s) = (1 is whole g s) ∷ (6 is everyFits g) ∷ []
 questions g (Raise id) = (3 is inUse g id) ∷ []
+questions g (Drag id x y) = (3 is inUse g id) ∷ (5 is (small x && small y)) ∷ []
 
 -- "On a no it answers the number and changes nothing; an id or event asked for is then absent, a part empty, any
 -- other number handed back 0."

@@ -4,11 +4,12 @@ use mathlib.Core.Bool.{Bool, true, false, cond, _&&_, _||_}
 use mathlib.Core.List.{List, [], _∷_}
 use mathlib.Core.Option.{some}
 use lib.Dec.{eqb}
+use Rattle.geom.specs.declared.Rect.{Rect}
 use Rattle.geom.specs.Questions.{_is_}
 use Rattle.window.specs.Window.{Win}
 use Rattle.rules.specs.Group.{Group, Outcome, used, win, setWin, withOrder, withMark, owing, leaves}
 use Rattle.rules.specs.Order.{without, inserted, setOrder, shown}
-use Rattle.rules.specs.Store.{withDamage, bounds}
+use Rattle.rules.specs.Store.{withDamage, dirtied, bounds}
 use Rattle.rules.specs.Walk.{begun}
 
 -- Repair --------------------------------------------------------------------------------------------------------------
@@ -20,6 +21,15 @@ pending g = g .owed || begun (g .walk)
 -- "a full redraw is owed, as after a move. Else the window is marked and …": `repaired` is what becomes of it
 abbrev pub repairBy : (Win → Win) → ℕ → Group → Group
 repairBy repaired id g = cond (pending g) (owing g) (setWin id (some (repaired (win g id))) g)
+
+-- "Else the window is marked and the area is added to its damage, by document 01's rule."
+abbrev pub repairedIn : Rect → Win → Win
+repairedIn a w = withMark (dirtied a w)
+
+-- "To repair a window in an area of it: if a full redraw is owed or a walk is on, a full redraw is owed, as after a
+-- move. Else the window is marked and the area is added to its damage, by document 01's rule."
+abbrev pub repairIn : Rect → ℕ → Group → Group
+repairIn a id g = repairBy (repairedIn a) id g
 
 -- "the window is marked", and "its damage becomes (0,0,w,h)"
 abbrev pub whollyRepaired : Win → Win

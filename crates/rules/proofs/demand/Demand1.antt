@@ -34,12 +34,13 @@ use Rattle.rules.specs.Walk as Walk
 use Rattle.rules.specs.Dim as Dimming
 use Rattle.rules.specs.Displays as Displays
 use Rattle.rules.specs.Repair as Repair
+use Rattle.rules.specs.Drag as Dragging
 use Rattle.rules.specs.Share as Shares
 use Rattle.rules.specs.Sheets as Sheets
 use Rattle.rules.specs.Hits as Points
 use Rattle.rules.specs.Look as Looks
 use Rattle.rules.specs.DisplayAt as DisplayAt
-use Rattle.rules.specs.Calls.{Call, Create, Show, Hide, Drop, Mark, Pop, Move, Resize, Fill, Blit, Route, Redraw, Begin, Portion, Dim, SetLayer, AddDisplay, Maximise, UpdateDims, Raise, does, accepted, after}
+use Rattle.rules.specs.Calls.{Call, Create, Show, Hide, Drop, Mark, Pop, Move, Resize, Fill, Blit, Route, Redraw, Begin, Portion, Dim, SetLayer, AddDisplay, Maximise, UpdateDims, Raise, Drag, does, accepted, after}
 use Rattle.rules.specs.Demand1.{questions, Unchanged, Answers, Query, Visible, Share, Sheet, Hits, Look, GetDisplayForPos, RectOf, Focus, queryQuestions, replies, reply, refusal, Replies, Bare, Contains, Within, ContainsRect, Union, Intersect, NotIntersect, ScanlineRange, Scanline, FillScanline, SetScanline, Region, Busiest, lineLies, bareQuestions, bareReplies, bareRefusal, BareReplies, Started, ReadsSheet, Demand1}
 use Rattle.rules.proofs.group.Invariant.{Ok}
 use Rattle.rules.proofs.group.Kept.{ok-after}
@@ -49,7 +50,7 @@ use Rattle.rules.proofs.demand.Asked.{in-use, any-unused, waits-pop, ro
 -- Calls of the list -------------------------------------------------------------------------------------------------
 
 answers : (g : Group) → Ok g → (k : Call) → does g k .answer ≡ asked (questions g k)
-unfolding does questions Group.create Order.show Order.setLayer Order.hide Order.dropWindow Group.mark Events.pop Group.move Store.resize Store.fill Store.blit Draw.redraw Walk.begin Walk.portion Dimming.dim Displays.addDisplay Displays.maximise Displays.updateDims Repair.raise
+unfolding does questions Group.create Order.show Order.setLayer Order.hide Order.dropWindow Group.mark Events.pop Group.move Store.resize Store.fill Store.blit Draw.redraw Walk.begin Walk.portion Dimming.dim Displays.addDisplay Displays.maximise Displays.updateDims Repair.raise Dragging.drag
 answers g ok Create = rw (any-unused (g .windows) 0)
 answers g ok (Show id) = rw (in-use g ok id)
 answers g ok (Hide id) = rw (in-use g ok id)
@@ -70,6 +71,7 @@ answers g ok (AddDisplay r) = refl
 answers g ok (Maximise id s) = rw (in-use g ok id)
 answers g ok (UpdateDims s) = refl
 answers g ok (Raise id) = rw (in-use g ok id)
+answers g ok (Drag id x y) = rw (in-use g ok id)
 
 calls-answer : (g : Group) → Ok g → (k : Call) → Answers g k
 calls-answer g ok k =

@@ -1,8 +1,9 @@
 -- The conditions of the sentence on pixels hold of concrete lists of calls, by computation.
 use Prim.Native.Nat.{ℕ, zero, suc}
 use mathlib.Core.Path.{_≡_, refl}
-use mathlib.Core.Bool.{false, _||_}
+use mathlib.Core.Bool.{true, false, _||_}
 use mathlib.Core.List.{[], _∷_, _++_}
+use mathlib.Core.Option.{none}
 use native.Mathlib.Omega.{arith}
 use lib.Dec.{T, eqb}
 use borrow.Author.Tests.{eqb-true}
@@ -25,15 +26,16 @@ use Rattle.rules.specs.Walk as Walk
 use Rattle.rules.specs.Dim as Dimming
 use Rattle.rules.specs.Displays as Displays
 use Rattle.rules.specs.Repair as Repair
+use Rattle.rules.specs.Drag as Dragging
 use Rattle.rules.specs.Calls as Calls
-use Rattle.rules.specs.Calls.{does, byRule, after}
+use Rattle.rules.specs.Calls.{does, byRule, accepted, after}
 use Rattle.rules.specs.Book as Book
-use Rattle.rules.specs.Book.{bookOf}
+use Rattle.rules.specs.Book.{bookOf, topmost}
 use Rattle.rules.specs.Conditions as Conditions
-use Rattle.rules.specs.Conditions.{beforeLast, unmarked}
+use Rattle.rules.specs.Conditions.{deed, wrote, beforeLast, unmarked}
 use Rattle.rules.specs.Demand.{pixelOf, leftAt, Ended, Two}
 use Rattle.rules.specs.Layers.{Panel}
-use Rattle.rules.specs.Station.{before, first, between, second, picture, walk, last, back, lastBack, backPicture, meanwhile, lastMeanwhile, meanwhilePicture, switched, lastSwitched, switchedPicture, raised, lastRaised, raisedPicture, spread, lastSpread, spreadPicture, inFront, lastInFront, inFrontPicture, inFrontBack, lastInFrontBack, inFrontBackPicture}
+use Rattle.rules.specs.Station.{before, first, between, second, picture, walk, last, back, lastBack, backPicture, meanwhile, lastMeanwhile, meanwhilePicture, switched, lastSwitched, switchedPicture, raised, lastRaised, raisedPicture, spread, lastSpread, spreadPicture, inFront, lastInFront, inFrontPicture, inFrontBack, lastInFrontBack, inFrontBackPicture, dragged, lastDragged, draggedPicture, draggedBack, lastDraggedBack, draggedBackPicture, fromUnder, lastFromUnder, fromUnderPicture, oneShown, oneDrawn, oneDragged}
 
 -- no third window is shown
 none-else : {A : Type 0} (n : ℕ) → T (isIn (suc (suc n)) (0 ∷ 1 ∷ [])) → A
@@ -291,3 +293,91 @@ station-in-front-back = (
   },
   refl,
 )
+
+-- A drag -------------------------------------------------------------------------------------------------------------
+
+marked-dragged : (id : ℕ) → T (isIn id (bookOf 4 (before ++ (first ∷ dragged)) .order))
+    → unmarked id (start 4 .group) false (beforeLast 4 id ((before ++ (first ∷ dragged)) ++ (lastDragged ∷ []))) ≡ false
+unfolding Geom.meets Geom.common Geom.contains Geom.containsRect Geom.union Geom.pieces Geom.around Geom.ifAny Lists.outside Lists.outsideAll Lists.meetsOf Lists.listIntersect Pixels.writeRows Pixels.resizedAt Window.addDirty Window.anyContains Window.merges Window.mergeOrAppend Window.pushed Group.create Group.mark Order.show Visible.visible Store.resize Store.fill Store.filledAt Draw.redraw Dragging.drag Calls.does Calls.run Calls.after Book.turn Book.read Book.bookOf Conditions.upToLast Conditions.unmarked
+marked-dragged zero h = refl
+marked-dragged (suc zero) h = refl
+marked-dragged (suc (suc n)) h = none-else n h
+
+-- the conditions, that no full redraw is owed, and the screen
+pub station-dragged : Two 4 3 2 before first dragged lastDragged × (after 4 (before ++ (first ∷ dragged)) .owed ≡ false)
+    × (does (after 4 (before ++ (first ∷ dragged))) lastDragged .screen ≡ draggedPicture)
+unfolding Geom.meets Geom.common Geom.contains Geom.containsRect Geom.union Geom.pieces Geom.around Geom.ifAny Lists.outside Lists.outsideAll Lists.meetsOf Lists.listIntersect Pixels.writeRows Pixels.resizedAt Window.addDirty Window.anyContains Window.merges Window.mergeOrAppend Window.pushed Group.create Group.mark Order.show Visible.visible Store.resize Store.fill Store.filledAt Draw.redraw Dragging.drag Calls.does Calls.run Calls.after Conditions.Quiet Conditions.Sized Conditions.noRedraw Conditions.written
+station-dragged = (
+  record {
+    first = tt;
+    second = record {
+      ended = tt;
+      quiet = (tt, tt, (tt, tt, (tt, tt, (refl, tt, (refl, tt, (refl, tt, (tt, tt, (tt, tt, (tt, tt, (tt, tt, (refl, tt, (tt, tt, (refl, refl, tt)))))))))))));
+      sized = (tt, (tt, (tt, (tt, (tt, (tt, (tt, (tt, (tt, (tt, ((refl, refl), (tt, ((refl, refl), tt)))))))))))));
+      marked = marked-dragged;
+    };
+    between = tt;
+    unwritten = refl;
+  },
+  refl,
+  refl,
+)
+
+marked-dragged-back : (id : ℕ) → T (isIn id (bookOf 4 (before ++ (first ∷ draggedBack)) .order))
+    → unmarked id (start 4 .group) false (beforeLast 4 id ((before ++ (first ∷ draggedBack)) ++ (lastDraggedBack ∷ []))) ≡ false
+unfolding Geom.meets Geom.common Geom.contains Geom.containsRect Geom.union Geom.pieces Geom.around Geom.ifAny Lists.outside Lists.outsideAll Lists.meetsOf Lists.listIntersect Pixels.writeRows Pixels.resizedAt Window.addDirty Window.anyContains Window.merges Window.mergeOrAppend Window.pushed Group.create Group.mark Order.show Visible.visible Store.resize Store.fill Store.filledAt Draw.redraw Walk.begin Walk.portion Dragging.drag Calls.does Calls.run Calls.after Book.turn Book.read Book.bookOf Conditions.upToLast Conditions.unmarked
+marked-dragged-back zero h = refl
+marked-dragged-back (suc zero) h = refl
+marked-dragged-back (suc (suc n)) h = none-else n h
+
+pub station-dragged-back : Two 4 3 2 before first draggedBack lastDraggedBack
+    × (does (after 4 (before ++ (first ∷ draggedBack))) lastDraggedBack .screen ≡ draggedBackPicture)
+unfolding Geom.meets Geom.common Geom.contains Geom.containsRect Geom.union Geom.pieces Geom.around Geom.ifAny Lists.outside Lists.outsideAll Lists.meetsOf Lists.listIntersect Pixels.writeRows Pixels.resizedAt Window.addDirty Window.anyContains Window.merges Window.mergeOrAppend Window.pushed Group.create Group.mark Order.show Visible.visible Store.resize Store.fill Store.filledAt Draw.redraw Walk.begin Walk.portion Dragging.drag Calls.does Calls.run Calls.after Conditions.Quiet Conditions.Sized Conditions.noRedraw Conditions.written
+station-dragged-back = (
+  record {
+    first = tt;
+    second = record {
+      ended = tt;
+      quiet = (tt, tt, (tt, tt, (tt, tt, (refl, tt, (refl, tt, (refl, tt, (tt, tt, (tt, tt, (tt, tt, (tt, tt, (refl, tt, (refl, tt, (tt, tt, (tt, tt, (refl, refl, (tt, tt, (refl, refl, (refl, refl, tt))))))))))))))))));
+      sized = (tt, (tt, (tt, (tt, (tt, (tt, (tt, (tt, (tt, (tt, ((refl, refl), (tt, (tt, (tt, ((refl, refl), (tt, ((refl, refl), ((refl, refl), tt))))))))))))))))));
+      marked = marked-dragged-back;
+    };
+    between = tt;
+    unwritten = refl;
+  },
+  refl,
+)
+
+marked-from-under : (id : ℕ) → T (isIn id (bookOf 4 (before ++ (first ∷ fromUnder)) .order))
+    → unmarked id (start 4 .group) false (beforeLast 4 id ((before ++ (first ∷ fromUnder)) ++ (lastFromUnder ∷ []))) ≡ false
+unfolding Geom.meets Geom.common Geom.contains Geom.containsRect Geom.union Geom.pieces Geom.around Geom.ifAny Lists.outside Lists.outsideAll Lists.meetsOf Lists.listIntersect Pixels.writeRows Pixels.resizedAt Window.addDirty Window.anyContains Window.merges Window.mergeOrAppend Window.pushed Group.create Group.mark Order.show Visible.visible Store.resize Store.fill Store.filledAt Draw.redraw Walk.begin Walk.portion Repair.raise Dragging.drag Calls.does Calls.run Calls.after Book.turn Book.read Book.bookOf Conditions.upToLast Conditions.unmarked
+marked-from-under zero h = refl
+marked-from-under (suc zero) h = refl
+marked-from-under (suc (suc n)) h = none-above n h
+
+pub station-from-under : Two 4 3 2 before first fromUnder lastFromUnder × (after 4 (before ++ (first ∷ fromUnder)) .owed ≡ false)
+    × (does (after 4 (before ++ (first ∷ fromUnder))) lastFromUnder .screen ≡ fromUnderPicture)
+unfolding Geom.meets Geom.common Geom.contains Geom.containsRect Geom.union Geom.pieces Geom.around Geom.ifAny Lists.outside Lists.outsideAll Lists.meetsOf Lists.listIntersect Pixels.writeRows Pixels.resizedAt Window.addDirty Window.anyContains Window.merges Window.mergeOrAppend Window.pushed Group.create Group.mark Order.show Visible.visible Store.resize Store.fill Store.filledAt Draw.redraw Walk.begin Walk.portion Repair.raise Dragging.drag Calls.does Calls.run Calls.after Conditions.Quiet Conditions.Sized Conditions.noRedraw Conditions.written
+station-from-under = (
+  record {
+    first = tt;
+    second = record {
+      ended = tt;
+      quiet = (tt, tt, (tt, tt, (tt, tt, (refl, tt, (refl, tt, (refl, tt, (tt, tt, (tt, tt, (tt, tt, (tt, tt, (refl, tt, (refl, tt, (tt, tt, (tt, tt, (tt, tt, (tt, tt, (refl, refl, (refl, refl, tt))))))))))))))))));
+      sized = (tt, (tt, (tt, (tt, (tt, (tt, (tt, (tt, (tt, (tt, ((refl, refl), (tt, (tt, (tt, (tt, (tt, ((refl, refl), ((refl, refl), tt))))))))))))))))));
+      marked = marked-from-under;
+    };
+    between = tt;
+    unwritten = refl;
+  },
+  refl,
+  refl,
+)
+
+-- the portion wrote the point, the drag is accepted and owes nothing, and the point is under no window then
+pub station-one-dragged : (wrote (after 4 oneShown) (deed oneDrawn .draws) 0 0 ≡ true)
+    × (accepted (after 4 (oneShown ++ (oneDrawn ∷ []))) oneDragged ≡ true)
+    × (deed oneDragged .owes (after 4 (oneShown ++ (oneDrawn ∷ []))) ≡ false)
+    × (topmost (bookOf 4 (oneShown ++ (oneDrawn ∷ oneDragged ∷ []))) 0 0 ≡ none)
+unfolding Geom.meets Geom.common Geom.contains Geom.pieces Geom.around Geom.ifAny Lists.outside Lists.outsideAll Lists.meetsOf Lists.listIntersect Pixels.writeRows Pixels.resizedAt Window.pushed Group.create Order.show Visible.visible Store.resize Walk.begin Walk.portion Dragging.drag Calls.does Calls.run Calls.after Book.turn Book.read Book.bookOf Book.topmost
+station-one-dragged = (refl, refl, refl, refl)

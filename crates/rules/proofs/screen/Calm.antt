@@ -2,7 +2,7 @@
 -- over the calls.
 use Prim.Native.Nat.{ℕ, suc}
 use mathlib.Core.Bool.{Bool, true, false, cond, not, _&&_, _||_}
-use mathlib.Core.Path.{_≡_, refl, sym, ap}
+use mathlib.Core.Path.{_≡_, refl, sym, ap, subst}
 use mathlib.Core.List.{List, [], _∷_}
 use mathlib.Core.Option.{Option, none, some, Option·some-ne-none}
 use mathlib.Core.Logic.{inr}
@@ -11,7 +11,8 @@ use lib.Dec.{leb, eqb}
 use lib.ListN.{length}
 use borrow.Author.Tests.{lt-leb, eq-eqb, ne-eqb}
 use Rattle.geom.specs.declared.Rect.{Rect}
-use Rattle.geom.proofs.basics.Tests.{clash, both, snd, on-cond, cond-yes}
+use Rattle.geom.specs.Questions.{small}
+use Rattle.geom.proofs.basics.Tests.{clash, both, fst, snd, on-cond, cond-yes}
 use Rattle.window.specs.declared.Event.{Event}
 use Rattle.window.specs.Window.{Win, newWin}
 use Rattle.window.proofs.laws.Damage.{addDirty-old}
@@ -19,18 +20,21 @@ use Rattle.rules.specs.Group as Group
 use Rattle.rules.specs.Store as Store
 use Rattle.rules.specs.Events as Events
 use Rattle.rules.specs.Displays as Displays
-use Rattle.rules.specs.Group.{Group, Walk, used, win, withHeld, withLayers, withDisplays, withMaximised, setWin, giveLayer, isOver, sentBack}
+use Rattle.rules.specs.Group.{Group, Walk, used, win, withHeld, withLayers, withDisplays, withMaximised, setWin, giveLayer, moved, isOver, sentBack}
 use Rattle.rules.specs.Order.{isIn, without, inserted, shown}
 use Rattle.rules.specs.Events.{afterPop}
 use Rattle.rules.specs.Walk.{doneOf}
 use Rattle.rules.specs.Repair.{pending, repairBy, whollyRepaired, repairAll, atTop, toFront, sameOrder, raisedShown, raised}
-use Rattle.rules.specs.Calls.{Call, Create, Show, Hide, Drop, Mark, Pop, Move, Resize, Fill, Blit, Route, Redraw, Begin, Portion, Dim, SetLayer, AddDisplay, Maximise, UpdateDims, Raise, does, accepted}
+use Rattle.rules.specs.Drag.{draggedShown, dragged}
+use Rattle.rules.specs.Calls.{Call, Create, Show, Hide, Drop, Mark, Pop, Move, Resize, Fill, Blit, Route, Redraw, Begin, Portion, Dim, SetLayer, AddDisplay, Maximise, UpdateDims, Raise, Drag, does, accepted}
 use Rattle.rules.specs.Conditions.{deed, lentScreen, owesMark}
-use Rattle.rules.proofs.group.Steps.{on-create, on-show, on-hide, on-drop, on-move, on-pop, on-key, on-to, on-pointed, on-route, on-dim, on-layer, on-add-display, on-resize, on-fill, on-blit, on-raise}
+use Rattle.rules.proofs.group.Steps.{on-create, on-show, on-hide, on-drop, on-move, on-pop, on-key, on-to, on-pointed, on-route, on-dim, on-layer, on-add-display, on-resize, on-fill, on-blit, on-raise, on-drag}
 use Rattle.rules.proofs.group.Order.{same-order}
 use Rattle.rules.proofs.group.Invariant.{Ok, free-place}
+use Rattle.rules.proofs.group.Drag.{drag-owing}
 use Rattle.rules.proofs.screen.Keeps.{Keen, Calm, keeps-same, calm-refl, calm-set, calm-free, as-was}
-use Rattle.rules.proofs.screen.Mends.{Mends, raise-mends}
+use Rattle.rules.proofs.screen.Mends.{Mends, Covers, raise-mends, raise-covers}
+use Rattle.rules.proofs.screen.Dragged.{drag-mends}
 
 -- Calls --------------------------------------------------------------------------------------------------------------
 
@@ -56,11 +60,12 @@ sent-back (i ∷ o) (some v) id s = rw (lt-leb (suc (length o)) 0 (omega arith))
 abbrev pub SameFlags : Group → Call → Type 0
 SameFlags g k = (id : ℕ) (u : Bool) → flag g k id u ≡ u
 
--- what an accepted call does that draws nothing: it owes a full redraw, or keeps that much, or mends what it changes
+-- what an accepted call does that draws nothing: it owes a full redraw, or keeps that much, or mends what it changes,
+-- and leaves no point bare unless it drags a shown window
 pub data Stays (g : Group) (k : Call) (g′ : Group) : Type 0 where
   is-owed : deed k .owes g ≡ true → NoneFine g′ → Stays g k g′
   is-calm : Calm g g′ (flag g k) → Stays g k g′
-  is-mended : Mends g g′ → SameFlags g k → Stays g k g′
+  is-mended : Mends g g′ → SameFlags g k → (deed k .drags g ≡ false → Covers g g′) → Stays g k g′
 
 module _ (g : Group) (ok : Ok g) where
   as-it-was : Calm g g as-was
@@ -162,7 +167,23 @@ module _ (g : Group) (ok : Ok g) where
       changed : shown g i ≡ true → sameOrder (atTop i g) (g .order) ≡ false → (t : Bool) → pending g ≡ t
           → Stays g (Raise i) (repairAll i (toFront i g))
       changed s q true p = is-owed (rw (s, p, q)) (none-fine-by whollyRepaired i (toFront i g) p)
-      changed s q false p = is-mended (raise-mends g ok i s p) (λ id u. refl)
+      changed s q false p = is-mended (raise-mends g ok i s p) (λ id u. refl) (λ e. raise-covers g ok i s p)
+
+  stays-drag : (i x y : ℕ) → used g i && (small x && small y) ≡ true → Stays g (Drag i x y) (dragged i x y g)
+  stays-drag i x y u = go (shown g i) refl (pending g) refl
+    where
+      -- one that is hidden is no part of what is drawn
+      aside : shown g i ≡ false → Calm g (moved i x y g) as-was
+      aside s =
+          calm-aside (setWin i _ g) (g .held) (g .layers) (g .displays) _ as-was (calm-set g ok i _ as-was (λ k. clash k s) (λ id ne u e. e))
+
+      go : (t : Bool) → shown g i ≡ t → (d : Bool) → pending g ≡ d → Stays g (Drag i x y) (dragged i x y g)
+      go false s d p = rw s (is-calm (aside s))
+      go true s true p =
+          subst (Stays g (Drag i x y)) (sym (drag-owing i x y g s p)) (is-owed (both s p) (sent-back (g .order) (g .walk)))
+      go true s false p =
+          cond-yes (Stays g (Drag i x y)) (shown g i) (draggedShown i x y g) (moved i x y g) s
+          (is-mended (drag-mends g ok i x y s p (search (fst, snd)) (search (fst, snd))) (λ id u. refl) (λ e. clash s e))
 
   pub stays : (k : Call) → lentScreen k ≡ none → deed k .begins ≡ false → accepted g k ≡ true → Stays g k (does g k .group)
   unfolding does
@@ -198,3 +219,4 @@ module _ (g : Group) (ok : Ok g) where
   stays (Maximise i s) r b e = is-owed refl (maximise-none-fine i s e)
   stays (UpdateDims s) r b e = is-owed refl (update-none-fine s e)
   stays (Raise i) r b e = on-raise (Stays g (Raise i)) g i (λ u. stays-raise i u) (λ u. is-calm as-it-was)
+  stays (Drag i x y) r b e = on-drag (Stays g (Drag i x y)) g i x y (λ u. stays-drag i x y u) (λ u. is-calm as-it-was)

@@ -2,9 +2,9 @@
 -- its place, its damage, and its mark where it owes none.
 use Prim.Native.Nat.{ℕ, _-_, _<_}
 use mathlib.Core.Bool.{Bool, true, false}
-use mathlib.Core.Path.{_≡_, refl, ap}
+use mathlib.Core.Path.{_≡_, refl, ap, _∙_}
 use mathlib.Core.Option.{none, some}
-use mathlib.Core.Logic.{_⊎_, inl, _≢_}
+use mathlib.Core.Logic.{_⊎_, inl, inr, ⊎-elim, _≢_}
 use lib.Seq.{getD-set-other}
 use Rattle.geom.specs.Geom.{left, top, width, height}
 use Rattle.geom.specs.Lists.{anyHas}
@@ -86,3 +86,22 @@ calm-free g i f h k = record {
 -- most changes leave it as it was who owes a mark
 abbrev pub as-was : ℕ → Bool → Bool
 as-was id u = u
+
+-- one such change after another
+pub calm-then : (g h k : Group) → Calm g h as-was → Calm h k as-was → Calm g k as-was
+calm-then g h k a b = record {
+  c = b .c ∙ a .c;
+  order = b .order ∙ a .order;
+  owed = b .owed ∙ a .owed;
+  walk = b .walk ∙ a .walk;
+  dimmed = b .dimmed ∙ a .dimmed;
+  each = λ id s.
+      let p : Keeps (win g id) (win h id) (as-was id) = a .each id s in
+      let q : Keeps (win h id) (win k id) (as-was id) = b .each id (rw (a .order) s) in
+      record {
+        at = q .at ∙ p .at;
+        damage = λ col row x y d. q .damage col row (rw (p .at) x) (rw (p .at) y) (p .damage col row x y d);
+        marks = λ u e.
+            ⊎-elim (λ n. ⊎-elim (λ m. inl (e, n .1 ∙ m .1, n .2 ∙ m .2)) (λ m. inr (n .1 ∙ m)) (p .marks u e)) inr (q .marks u e);
+      };
+}

@@ -1,5 +1,5 @@
--- What a raise leaves that owes no full redraw (`Mends`): where a window is the topmost it was so before and lies where
--- it lay, or it is damaged there. The window that was raised is damaged all over.
+-- What a raise or a drag leaves that owes no full redraw (`Mends`): where a window is the topmost it was so before and
+-- lies where it lay, or it is damaged there. The window that was raised is damaged all over.
 use Prim.Native.Nat.{ℕ, _-_, _≤_, _<_}
 use mathlib.Core.Bool.{Bool, true, false, cond, _||_}
 use mathlib.Core.Path.{_≡_, refl, sym, ap, subst, _∙_}
@@ -32,7 +32,7 @@ use Rattle.rules.proofs.screen.Keeps.{Calm, damagedAt, calm-topmost, ca
 -- What is left -------------------------------------------------------------------------------------------------------
 
 -- no full redraw is owed and no walk is on, before and after. The same windows are shown, each of the size that it had:
--- `seen` is where they are topmost, `marks` who is marked, and by `bare` a point under no window was under none before
+-- `seen` is where they are topmost, and `marks` who is marked
 pub record Mends (g g′ : Group) : Type 0 where
   pub c : g′ .c ≡ g .c
   pub dimmed : g′ .dimmed ≡ g .dimmed
@@ -47,7 +47,10 @@ pub record Mends (g g′ : Group) : Type 0 where
       ⊎ ((topmost g px py ≡ some id) × (win g′ id .at ≡ win g id .at) × (damagedAt g id px py ≡ true → damagedAt g′ id px py ≡ true))
   pub marks : (id : ℕ) → shown g′ id ≡ true
       → ((win g′ id .marked ≡ win g id .marked) × (win g′ id .damage ≡ win g id .damage)) ⊎ (win g′ id .marked ≡ true)
-  pub bare : (px py : ℕ) → topmost g′ px py ≡ none → topmost g px py ≡ none
+
+-- a point under no window was under none before
+abbrev pub Covers : Group → Group → Type 0
+Covers g g′ = (px py : ℕ) → topmost g′ px py ≡ none → topmost g px py ≡ none
 
 none-begun : (v : Option Walk) → begun v ≡ false → v ≡ none
 none-begun none e = refl
@@ -66,8 +69,7 @@ module _ (g g₁ g′ : Group) (i : ℕ) (ok₁ : Ok g₁) (k : Calm g₁ g′ a
     (others : (id : ℕ) → id ≢ i → win g₁ id ≡ win g id)
     (marked : win g′ i .marked ≡ true)
     (all : (col row : ℕ) → col < width (win g₁ i .at) → row < height (win g₁ i .at) → anyHas (win g′ i .damage) col row ≡ true)
-    (tops : (px py id : ℕ) → id ≢ i → topmost g₁ px py ≡ some id → (topmost g px py ≡ some id) ⊎ (damagedAt g′ id px py ≡ true))
-    (bare : (px py : ℕ) → topmost g₁ px py ≡ none → topmost g px py ≡ none) where
+    (tops : (px py id : ℕ) → id ≢ i → topmost g₁ px py ≡ some id → (topmost g px py ≡ some id) ⊎ (damagedAt g′ id px py ≡ true)) where
   unowed : g .owed ≡ false
   unowed = nor-fst (g .owed) (begun (g .walk)) p
 
@@ -117,7 +119,6 @@ module _ (g g₁ g′ : Group) (i : ℕ) (ok₁ : Ok g₁) (k : Calm g₁ g′ a
             (ap width a ∙ q .0, ap height a ∙ q .1);
         seen = λ px py id t. seen px py id (sym (calm-topmost g₁ g′ as-was k px py) ∙ t) (ℕ-discrete id i);
         marks = λ id h. marks id (rw (k .order) at h) (ℕ-discrete id i);
-        bare = λ px py t. bare px py (sym (calm-topmost g₁ g′ as-was k px py) ∙ t);
       }
     where
       seen : (px py id : ℕ) → topmost g₁ px py ≡ some id → Dec (id ≡ i)
@@ -135,19 +136,19 @@ module _ (g g₁ g′ : Group) (i : ℕ) (ok₁ : Ok g₁) (k : Calm g₁ g′ a
 
 -- All of a window is repaired ----------------------------------------------------------------------------------------
 
-all-damaged : (w : Win) (col row : ℕ) → col < width (w .at) → row < height (w .at) → anyHas (bounds w ∷ []) col row ≡ true
+pub all-damaged : (w : Win) (col row : ℕ) → col < width (w .at) → row < height (w .at) → anyHas (bounds w ∷ []) col row ≡ true
 all-damaged w col row x y = or-left (contains (bounds w) col row) false (says-in (bounds w) col row .test (omega arith))
 
 module _ (g : Group) (ok : Ok g) (i : ℕ) (s : shown g i ≡ true) where
   abbrev mended : Win
   mended = whollyRepaired (win g i)
 
-  mended-calm : Calm g (setWin i (some mended) g) as-was
+  pub mended-calm : Calm g (setWin i (some mended) g) as-was
   mended-calm =
       calm-set g ok i mended as-was
       (λ h. record { at = refl; damage = λ col row x y d. all-damaged (win g i) col row x y; marks = λ u e. inr refl }) (λ id ne u e. e)
 
-  mended-is : win (setWin i (some mended) g) i ≡ mended
+  pub mended-is : win (setWin i (some mended) g) i ≡ mended
   mended-is = ap theWin (getD-set-same (g .windows) i (some mended) none (used-below g i (ok .shown-used i s)))
 
 -- Raise --------------------------------------------------------------------------------------------------------------
@@ -224,5 +225,14 @@ module _ (g : Group) (ok : Ok g) (i : ℕ) (s : shown g i ≡ true) where
         here = h;
         has = q .has;
         free = covered-fewer g px py (above id (g .order)) (above id (atTop i g)) (above-raised id n h) (q .free);
-      })))
-      (λ px py t. clear-topmost g px py (covered-fewer g px py (g .order) (atTop i g) all-shown (topmost-clear g₁ px py t))))
+      }))))
+
+  -- and the same windows lie where they lay
+  pub raise-covers : pending g ≡ false → Covers g (repairAll i (toFront i g))
+  raise-covers p =
+      let g₁ : Group = toFront i g in
+      let all-shown : (id : ℕ) → shown g id ≡ true → shown g₁ id ≡ true = top-more i g ok s in
+      cond-no (λ x. Covers g x) (pending g) _ _ p
+      (λ px py t.
+      let t₁ : topmost g₁ px py ≡ none = sym (calm-topmost g₁ _ as-was (mended-calm g₁ (ok-front i g ok s) i (all-shown i s)) px py) ∙ t in
+      clear-topmost g px py (covered-fewer g px py (g .order) (atTop i g) all-shown (topmost-clear g₁ px py t₁)))
