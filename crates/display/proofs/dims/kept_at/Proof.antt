@@ -18,12 +18,19 @@ use Rattle.display.proofs.dims.kept_at.Tie as tie
 closest : (c : tie.After-known-told2) → Small (c .before .found2 .given .0 .0)
 closest c = subst (λ (f : Located). Small (answered (locatedOf f))) (c .before .found2 .given .1) (c .before .before .before .pre .0)
 
+-- where the closest display is known and the start, from where both coordinates are cut
+abbrev told : tie.After-warped2 → tie.After-known-told2
+told cut = cut .before .before .before .before .before .before
+
+abbrev entry : tie.After-warped2 → tie.Start
+entry cut = told cut .before .before .before
+
 module _ (c : tie.After-warped2) where
   abbrev d : Rect
-  d = c .before .before .before .before .before .before .before .found2 .given .0 .0
+  d = told c .before .found2 .given .0 .0
 
   abbrev at : Area
-  at = c .before .before .before .before .before .before .before .before .before .args .at
+  at = entry c .args .at
 
   x-is : c .before .before .before .warped .result ≡ warped (left d) (right d) (at .x)
   x-is = c .before .before .before .warped .ensures ∙ ap (λ (n : ℕ). warped (left d) n (at .x)) (c .before .before .before .before .before .right .ensures)
@@ -33,14 +40,14 @@ module _ (c : tie.After-warped2) where
 
   low-x : c .before .before .before .warped .result ≤ 32767
   low-x =
-      let s = closest (c .before .before .before .before .before .before) in
-      let o = c .before .before .before .before .before .before .before .before .before .pre .1 in
+      let s = closest (told c) in
+      let o = entry c .pre .1 in
       omega (arith, x-is, s .left≤, o .left≤)
 
   low-y : c .warped2 .result ≤ 32767
   low-y =
-      let s = closest (c .before .before .before .before .before .before) in
-      let o = c .before .before .before .before .before .before .before .before .before .pre .1 in
+      let s = closest (told c) in
+      let o = entry c .pre .1 in
       omega (arith, y-is, s .top≤, o .top≤)
 
 enum-known-found : tie.Need-enum-known-found
@@ -78,10 +85,10 @@ returns c = (ap (λ (f : Located). keptAt (locatedOf f) (rectOf (c .before .befo
 
 returns-2 : tie.Need-returns-2
 returns-2 c =
-    let s = c .before .before .before .before .before .before .before .before .before in
+    let s = entry c in
     let o = s .pre .1 in (
       (λ i. rect (x-is c i) (y-is c i) (s .args .at .w) (s .args .at .h))
-          ∙ ap (λ (f : Located). keptAt (locatedOf f) (rectOf (s .args .at))) (sym (c .before .before .before .before .before .before .before .found2 .given .1)),
+          ∙ ap (λ (f : Located). keptAt (locatedOf f) (rectOf (s .args .at))) (sym (told c .before .found2 .given .1)),
       record { left≤ = low-x c; top≤ = low-y c; width≤ = o .width≤; height≤ = o .height≤ },
     )
 

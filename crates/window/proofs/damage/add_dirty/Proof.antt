@@ -46,8 +46,9 @@ returns-3 c =
 
 append-requires : tie.Need-append-requires
 append-requires c κs =
-    let s = c .before .before .before .before .before .before .before .pre in
-    (c .before .before .merge .ensures .rep, s .1, s .2, s .3)
+    let after-merge = c .before .before in
+    let p = after-merge .before .before .before .before .before .pre in
+    (after-merge .merge .ensures .rep, p .1, p .2, p .3)
 
 returns-4 : tie.Need-returns-4
 returns-4 c =
