@@ -9,3 +9,7 @@ pub mod Piece
 pub mod Cuts
 pub mod Whole
 pub mod Shown
+pub mod Pixels
+pub mod Reach
+pub mod Outside
+pub mod Once

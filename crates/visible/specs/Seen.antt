@@ -1,14 +1,14 @@
 -- The visible list of some parts of a window, and what is drawn of it: the rules for the parts that the depth-first search has reached.
 use Prim.Native.Nat.{ℕ, _+_, _*_, _≤_, _<_}
 use mathlib.Core.Path.{_≡_}
-use mathlib.Core.Bool.{Bool, false, cond}
+use mathlib.Core.Bool.{Bool, true, false, cond}
 use mathlib.Core.List.{List, [], _∷_, map}
 use lib.Dec.{eqb}
 use lib.ListN.{length, drop, getD}
 use Rattle.geom.specs.declared.Rect.{Rect}
-use Rattle.geom.specs.Geom.{rect, width, height, isEmpty}
-use Rattle.geom.specs.Inner.{Fits}
-use Rattle.geom.specs.Lists.{outsideAll, relative, listIntersect, rectAt}
+use Rattle.geom.specs.Geom.{rect, left, top, width, height, isEmpty, contains}
+use Rattle.geom.specs.Inner.{Fits, Within}
+use Rattle.geom.specs.Lists.{outsideAll, relative, listIntersect, rectAt, anyHas}
 use Rattle.window.specs.Held.{Small}
 use Rattle.rules.specs.Visible.{rectsOf}
 use Rattle.rules.specs.Redraw.{drawRegions}
@@ -71,3 +71,15 @@ pub record Drawable (v : View) (store screen : List ℕ) : Type 0 where
   pub sw≤ : v .sw ≤ 32767
   pub sh≤ : v .sh ≤ 32767
   pub size : length screen ≡ v .sw * v .sh
+
+-- r holds all of the entries `ds`
+pub record Bounds (r : Rect) (ds : List Rect) : Type 0 where
+  pub fits : Fits r
+  pub has : (x y : ℕ) → x < 4294967295 → y < 4294967295 → anyHas ds x y ≡ true → contains r x y ≡ true
+
+-- r lies in the window and has what lies in the window, on the screen and in the entry e
+pub record Reach (v : View) (e r : Rect) : Type 0 where
+  pub window : Within (v .at) r
+  pub has : (x y : ℕ) → let px : ℕ = left (v .at) + x in let py : ℕ = top (v .at) + y in
+      contains (v .at) px py ≡ true → contains (rect 0 0 (v .sw) (v .sh)) px py ≡ true → contains e x y ≡ true
+      → contains r px py ≡ true

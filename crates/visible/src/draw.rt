@@ -6,41 +6,19 @@ ghost use Prim.Native.Nat.{_+_, _*_, _≤_, _<_};
 ghost use lib.ListN.{length, drop};
 ghost use Rattle.geom.specs.Geom.{rect, width, height, isEmpty};
 ghost use Rattle.geom.specs.Inner.{Fits, Within};
-ghost use Rattle.geom.specs.Lists.{outsideAll, relative, meetsOf, listIntersect};
+ghost use Rattle.geom.specs.Lists.{outsideAll, relative, listIntersect};
 ghost use Rattle.window.specs.Held.{Small};
 ghost use Rattle.rules.specs.Visible.{rectsOf};
 ghost use Rattle.rules.specs.Redraw.{drawRegions};
 ghost use Rattle.rules.specs.Lent.{Lent};
-ghost use Rattle.visible.specs.Seen.{Table, Drawable, viewOf, own, drawn, regions};
+ghost use Rattle.visible.specs.Seen.{Table, Drawable, Bounds, Reach, viewOf, drawn, regions};
+use crate::dirty::draw_dirty;
 use crate::rects;
 use crate::region::View;
-use crate::region::draw_region;
 use crate::table;
 use geom::Rect;
 use geom::inner;
 use geom::inner::numbers;
-
-// Draws what a region has in common with a dirty entry.
-fn draw_common(view: View, r: Rect, entry: Rect, store: &[u32], screen: &mut [u32])
-    requires { ⌜ Drawable view (now store) (now screen) × Within (own view) r × Fits entry ⌝ }
-    ensures { λ _. ⌜ now (screen .exit) ≡ drawn view (now (store .entry)) (meetsOf r (entry ∷ [])) (now (screen .entry)) ⌝ }
-{
-    if inner::meets(r, entry) {
-        draw_region(view, inner::common(r, entry), store, screen);
-    }
-}
-
-// Draws what a region has in common with each of the m dirty entries.
-fn draw_dirty(view: View, r: Rect, dirty: &[u32], m: usize, store: &[u32], screen: &mut [u32])
-    requires { ⌜ Drawable view (now store) (now screen) × Within (own view) r × Lent m (now dirty) ⌝ }
-    ensures { λ _. ⌜ now (screen .exit) ≡ drawn view (now (store .entry)) (meetsOf r (rectsOf m (now (dirty .entry)))) (now (screen .entry)) ⌝ }
-{
-    let mut i: usize = 0;
-    while i < m {
-        draw_common(view, r, numbers::rect_at(dirty, i), store, screen);
-        i += 1;
-    }
-}
 
 // Draws a part of the window that no higher window covers, where it is dirty.
 fn draw_part(
@@ -104,6 +82,35 @@ fn draw_seen(
     }
 }
 
+// What holds all entries: the one that there is, or everything where there are several.
+fn bound(dirty: &[u32], m: usize) -> Rect
+    requires { ⌜ Lent m (now dirty) ⌝ }
+    ensures { λ r. ⌜ Bounds r (rectsOf m (now (dirty .entry))) ⌝ }
+{
+    if m == 1 {
+        return numbers::rect_at(dirty, 0);
+    }
+    Rect::FULL
+}
+
+// What of the window lies in an entry and on the screen; a rectangle without pixels where nothing does.
+fn reach(view: View, entry: Rect) -> Rect
+    requires { ⌜ Small (view .at) × (view .sw ≤ 32767) × (view .sh ≤ 32767) × Fits entry ⌝ }
+    ensures { λ r. ⌜ Reach view entry r ⌝ }
+{
+    let at = view.at;
+    let own = Rect::new(0, 0, at.dims.w, at.dims.h);
+    if inner::meets(own, entry) {
+        let r = inner::common(own, entry);
+        let on = Rect::new(at.pos.x + r.pos.x, at.pos.y + r.pos.y, r.dims.w, r.dims.h);
+        let all = Rect::new(0, 0, view.sw, view.sh);
+        if inner::meets(on, all) {
+            return inner::common(on, all);
+        }
+    }
+    Rect::new(at.pos.x, at.pos.y, 0, 0)
+}
+
 // Draws what is seen of a window at `at`, under n rectangles, where it is dirty, as dimming is on or off. Its pixels begin at `base` of the store.
 pub fn draw(
     at: Rect,
@@ -130,19 +137,24 @@ pub fn draw(
         sh,
         dim,
     };
+    // Higher windows that do not meet what can be drawn are not looked at.
+    let part = reach(view, bound(dirty, m));
+    if inner::is_empty(part) {
+        return;
+    }
     let numbers = view.numbers();
     let mut table = [0u32; 68];
-    let met = table::gather(at, above, n, &mut table);
+    let met = table::gather(part, above, n, &mut table);
     // Called from two places, what draws a part is not compiled into the search, of which each turn would hold the table of dimming.
     if met == 0 {
-        draw_part(&numbers, at, dirty, m, store, screen);
+        draw_part(&numbers, part, dirty, m, store, screen);
         return;
     }
     draw_seen(
-        at.pos.x,
-        at.pos.y,
-        at.dims.w,
-        at.dims.h,
+        part.pos.x,
+        part.pos.y,
+        part.dims.w,
+        part.dims.h,
         &table,
         0,
         met,

@@ -2,14 +2,14 @@
 use Prim.Native.Nat.{ℕ, _+_, _-_, _*_, _≤_, _<_}
 use mathlib.Core.Path.{_≡_, refl, sym, ap, _∙_, subst}
 use mathlib.Core.Bool.{Bool, true, false}
-use mathlib.Core.List.{List, [], _∷_, _++_, map}
+use mathlib.Core.List.{List, [], _∷_, map}
 use native.Mathlib.Omega.{arith}
 use native.Mathlib.Nat.{mul-le-mul-right, mul-comm}
-use lib.ListN.{length, drop, drop-of-length-le}
+use lib.ListN.{length}
 use Rattle.geom.specs.declared.Rect.{Rect}
 use Rattle.geom.specs.Geom.{rect, left, top, width, height, bottom, meets, common}
 use Rattle.geom.specs.Inner.{Fits, Within}
-use Rattle.geom.specs.Lists.{relative, meetsOf, rectAt}
+use Rattle.geom.specs.Lists.{relative, meetsOf}
 use Rattle.geom.proofs.basics.Tests.{cond-yes, cond-no}
 use Rattle.geom.proofs.geometry.Facts.{says-meet, common-within}
 use Rattle.scanline.specs.Pixels.{writeRows, part}
@@ -17,12 +17,10 @@ use Rattle.scanline.specs.Rows.{Inside}
 use Rattle.shade.specs.Shade.{tone}
 use Rattle.scanline.proofs.rows.Written.{rows-same}
 use Rattle.rules.specs.Redraw.{drawRegion}
-use Rattle.rules.specs.Visible.{rectsOf}
-use Rattle.rules.proofs.Lent.{length-rects, rects-next}
 use Rattle.visible.specs.declared.region.View.{View}
 use Rattle.visible.specs.Seen.{Drawable, own, drawn, regions}
 use Rattle.visible.proofs.laws.Parts.{within-trans}
-use Rattle.visible.proofs.laws.Regions.{drawn-append, drawn-none, regions-end}
+use Rattle.visible.proofs.laws.Regions.{regions-end}
 
 -- The place on the screen ----------------------------------------------------------------------------------------------
 
@@ -133,46 +131,7 @@ own-relative v p r w e = subst (Within (own v)) (sym e) (omega arith)
 pub drawable-kept : (v : View) (store screen screen′ : List ℕ) → Drawable v store screen → length screen′ ≡ length screen → Drawable v store screen′
 drawable-kept v store screen screen′ d e = record { at = d .at; pixels = d .pixels; sw≤ = d .sw≤; sh≤ = d .sh≤; size = e ∙ d .size }
 
-meetsOf-next : (r d : Rect) (ds : List Rect) → meetsOf r (d ∷ ds) ≡ meetsOf r (d ∷ []) ++ meetsOf r ds
-unfolding meetsOf
-meetsOf-next r d ds = go (meets r d) refl
-  where
-    go : (t : Bool) → meets r d ≡ t → meetsOf r (d ∷ ds) ≡ meetsOf r (d ∷ []) ++ meetsOf r ds
-    go true e = rw e refl
-    go false e = rw e refl
-
 module _ (v : View) (store : List ℕ) where
-  pub common-drawn : (r e k : Rect) (screen screen′ : List ℕ) → meets r e ≡ true → k ≡ common r e
-      → screen′ ≡ drawRegion (v .dim) (v .at) (v .base) store (v .sw) (v .sh) k screen → screen′ ≡ drawn v store (meetsOf r (e ∷ [])) screen
-  unfolding drawn meetsOf
-  common-drawn r e k screen screen′ m ek es =
-      rw m (es ∙ ap (λ (q : Rect). drawRegion (v .dim) (v .at) (v .base) store (v .sw) (v .sh) q screen) ek)
-
-  pub common-none : (r e : Rect) (screen : List ℕ) → meets r e ≡ false → screen ≡ drawn v store (meetsOf r (e ∷ [])) screen
-  unfolding drawn meetsOf
-  common-none r e screen m = rw m refl
-
-  module _ (r : Rect) (m : ℕ) (l : List ℕ) (i : ℕ) where
-    -- one entry more
-    pub dirty-turn : (screen screen′ all : List ℕ) → i < m → drawn v store (meetsOf r (drop i (rectsOf m l))) screen ≡ all
-        → screen′ ≡ drawn v store (meetsOf r (rectAt l i ∷ [])) screen → drawn v store (meetsOf r (drop (i + 1) (rectsOf m l))) screen′ ≡ all
-    dirty-turn screen screen′ all h e es =
-        let a = meetsOf r (rectAt l i ∷ []) in
-        let b = meetsOf r (drop (i + 1) (rectsOf m l)) in
-        ap (drawn v store b) es
-        ∙ sym (drawn-append v store a b screen)
-        ∙ ap (λ (rs : List Rect). drawn v store rs screen)
-        (sym (ap (meetsOf r) (rects-next m l i h) ∙ meetsOf-next r (rectAt l i) (drop (i + 1) (rectsOf m l))))
-        ∙ e
-
-    -- no entry is left
-    pub dirty-all : (screen all : List ℕ) → m ≤ i → drawn v store (meetsOf r (drop i (rectsOf m l))) screen ≡ all → screen ≡ all
-    unfolding meetsOf
-    dirty-all screen all h e =
-        sym (drawn-none v store screen)
-        ∙ ap (λ (rs : List Rect). drawn v store (meetsOf r rs) screen) (sym (drop-of-length-le (rectsOf m l) {i = i} (rw (length-rects m l) h)))
-        ∙ e
-
   -- a part that no rectangle covers
   pub part-drawn : (p r : Rect) (ds : List Rect) (screen screen′ : List ℕ) → r ≡ relative (v .at) p → screen′ ≡ drawn v store (meetsOf r ds) screen
       → screen′ ≡ drawn v store (regions (v .at) (p ∷ []) [] ds) screen

@@ -1,4 +1,4 @@
--- The whole window is its one part, which under no rectangle is seen as it is. The table's rectangles leave of it what
+-- What can be drawn of the window is its one part: it draws what the window draws. The table's rectangles leave of it what
 -- all of them leave.
 use Prim.Native.Nat.{ℕ, zero-le}
 use mathlib.Core.Path.{_≡_, sym, ap, subst, _∙_}
@@ -9,54 +9,92 @@ use Rattle.geom.specs.Lists.{relative, listIntersect}
 use Rattle.rules.specs.Visible.{rectsOf}
 use Rattle.visible.specs.declared.region.View.{View}
 use Rattle.visible.specs.Seen.{Drawable, viewOf, seen, regions, drawn}
-use Rattle.visible.proofs.laws.Parts.{within-refl}
+use Rattle.visible.proofs.laws.Reach.{reach-drawn, reach-none}
 use borrow.Author.Needs.{needs}
 use Rattle.visible.proofs.draw.draw.Statement.{statement}
 use Rattle.visible.proofs.draw.draw.Tie as tie
 
-abbrev start : tie.After-gather → tie.Start
+-- The part --------------------------------------------------------------------------------------------------------------
+
+abbrev start : tie.After-reach → tie.Start
 start c =
+    let k = c .before .before in
+    k .before .before .before .before
+
+-- the view that is asked for
+abbrev asked : tie.After-reach → View
+asked c =
+    let a = start c .args in
+    record { at = a .at; base = a .base; sw = a .sw; sh = a .sh; dim = a .dim }
+
+shown : (c : tie.After-reach) → let a = start c .args in Drawable (asked c) (a .store .now) (a .screen .now)
+shown c =
+    let p = start c .pre in
+    record { at = p .0 .0; pixels = p .0 .1; sw≤ = p .1 .1 .0; sh≤ = p .1 .1 .1; size = p .1 .1 .2 }
+
+-- the rectangles that are lent, and the entries
+abbrev above : tie.After-reach → List Rect
+above c = rectsOf (start c .args .n) (start c .args .above .now)
+
+abbrev entries : tie.After-reach → List Rect
+entries c = rectsOf (start c .args .m) (start c .args .dirty .now)
+
+bound-requires : tie.Need-bound-requires
+bound-requires c κs = search needs
+
+reach-requires : tie.Need-reach-requires
+reach-requires c κs = search needs
+
+is-empty-requires : tie.Need-is-empty-requires
+is-empty-requires c κs = search needs
+
+returns : tie.Need-returns
+unfolding seen regions drawn
+returns c =
+    let r = c .before .before in
+    reach-none (shown r) (above r) (entries r) (r .before .bound .ensures) (r .reach .ensures) (sym (c .before .is-empty .ensures) ∙ c .if1 .taken)
+
+-- The table -------------------------------------------------------------------------------------------------------------
+
+abbrev reached : tie.After-gather → tie.After-reach
+reached c =
     let n = c .before .before in
-    n .before .before .before .before .before
+    n .before .before .before
 
 abbrev numbers : tie.After-gather → List ℕ
 numbers c = c .before .before .numbers .result
 
 -- what the numbers say can be drawn
-shown : (c : tie.After-gather) → let a = start c .args in
-    Drawable (viewOf (numbers c)) (a .store .now) (a .screen .now) × Within (viewOf (numbers c) .at) (a .at)
-shown c =
-    let s = start c in
+drawable : (c : tie.After-gather) → let r = reached c in let a = start r .args in
+    Drawable (viewOf (numbers c)) (a .store .now) (a .screen .now) × Within (viewOf (numbers c) .at) (r .reach .result)
+drawable c =
+    let r = reached c in
+    let a = start r .args in
     let e = sym (c .before .before .numbers .ensures) in (
-      subst (λ (v : View). Drawable v (s .args .store .now) (s .args .screen .now)) e
-          (record { at = s .pre .0 .0; pixels = s .pre .0 .1; sw≤ = s .pre .1 .1 .0; sh≤ = s .pre .1 .1 .1; size = s .pre .1 .1 .2 }),
-      subst (λ (v : View). Within (v .at) (s .args .at)) e (within-refl (s .args .at)),
+      subst (λ (v : View). Drawable v (a .store .now) (a .screen .now)) e (shown r),
+      subst (λ (v : View). Within (v .at) (r .reach .result)) e (r .reach .ensures .window),
     )
 
--- the view that is asked for
-abbrev asked : tie.After-gather → View
-asked c =
-    let a = start c .args in
-    record { at = a .at; base = a .base; sw = a .sw; sh = a .sh; dim = a .dim }
-
--- what is drawn under the rectangles `bs`
+-- what is drawn of the part under the rectangles `bs`
 abbrev under : tie.After-gather → View → List Rect → List ℕ
 under c v bs =
-    let a = start c .args in
-    drawn v (a .store .now) (regions (v .at) (a .at ∷ []) bs (rectsOf (a .m) (a .dirty .now))) (a .screen .now)
+    let r = reached c in
+    let a = start r .args in
+    drawn v (a .store .now) (regions (v .at) (r .reach .result ∷ []) bs (entries r)) (a .screen .now)
 
 -- those of the table, as the numbers have the view
-all : (c : tie.After-gather) → let a = start c .args in
+all : (c : tie.After-gather) → let r = reached c in let a = start r .args in
     under c (viewOf (numbers c)) (rectsOf (c .gather .result) (c .gather .last .1 .1 .1 .0))
-    ≡ under c (asked c) (rectsOf (a .n) (a .above .now))
+    ≡ drawn (asked r) (a .store .now) (regions (a .at) (a .at ∷ []) (above r) (entries r)) (a .screen .now)
 unfolding seen regions
 all c =
-    let a = start c .args in
-    let ds = rectsOf (a .m) (a .dirty .now) in
-    let on : List Rect → List ℕ = λ rs. drawn (asked c) (a .store .now) (listIntersect rs ds) (a .screen .now) in
+    let r = reached c in
+    let a = start r .args in
+    let on : List Rect → List ℕ = λ rs. drawn (asked r) (a .store .now) (listIntersect rs (entries r)) (a .screen .now) in
     let bs = rectsOf (c .gather .result) (c .gather .last .1 .1 .1 .0) in
     ap (λ (u : View). under c u bs) (c .before .before .numbers .ensures)
     ∙ ap (λ (rs : List Rect). on (map (relative (a .at)) rs)) (c .gather .ensures .same)
+    ∙ reach-drawn (shown r) (above r) (entries r) (r .before .bound .ensures) (r .reach .ensures)
 
 numbers-requires : tie.Need-numbers-requires
 numbers-requires c κs = search needs
@@ -67,32 +105,32 @@ gather-requires c κs = search needs
 draw-part-requires : tie.Need-draw-part-requires
 draw-part-requires c κs =
     let g = c .before .before .before in
-    (shown g .0, shown g .1, start g .pre .1 .0 .2)
+    (drawable g .0, drawable g .1, start (reached g) .pre .1 .0 .2)
 
 same-length : tie.Need-same-length
 same-length c = search needs
 
-returns : tie.Need-returns
+returns-2 : tie.Need-returns-2
 unfolding seen regions drawn
-returns c =
+returns-2 c =
     let d = c .before .before in
     let t = d .before .before .before in
     let g = t .before in
     d .draw-part .ensures
-    ∙ ap (λ (k : ℕ). under g (viewOf (numbers g)) (rectsOf k (g .gather .last .1 .1 .1 .0))) (sym (t .if1 .taken))
+    ∙ ap (λ (k : ℕ). under g (viewOf (numbers g)) (rectsOf k (g .gather .last .1 .1 .1 .0))) (sym (t .if2 .taken))
     ∙ all g
 
 draw-seen-requires : tie.Need-draw-seen-requires
 draw-seen-requires c κs =
     let g = c .before .before .before .before in
-    ((shown g .0, shown g .1, start g .pre .1 .0 .2), (g .gather .ensures .some, g .gather .ensures .rects, zero-le))
+    ((drawable g .0, drawable g .1, start (reached g) .pre .1 .0 .2), (g .gather .ensures .some, g .gather .ensures .rects, zero-le))
 
 same-length-2 : tie.Need-same-length-2
 same-length-2 c = search needs
 
-returns-2 : tie.Need-returns-2
+returns-3 : tie.Need-returns-3
 unfolding seen regions drawn
-returns-2 c =
+returns-3 c =
     let d = c .before .before in
     let e = d .before .before .before .before in
     d .draw-seen .ensures ∙ all (e .before)
@@ -101,11 +139,15 @@ pub draw-spec : {M : Type 1} → statement M
 draw-spec =
     tie.close
     (tie.spec
+    bound-requires
+    reach-requires
+    is-empty-requires
+    returns
     numbers-requires
     gather-requires
     draw-part-requires
     same-length
-    returns
+    returns-2
     draw-seen-requires
     same-length-2
-    returns-2)
+    returns-3)
