@@ -14,7 +14,11 @@ pub mod Hidden
 pub mod Store
 pub mod Pixels
 pub mod Dims
+pub mod Planned
 pub mod Updated
+pub mod Turns
+pub mod DragPlan
+pub mod Dragged
 pub mod Listed
 pub mod InView
 pub mod Printed

@@ -1,15 +1,20 @@
--- The halves of maximise_window and of update_dims: the first asks the questions and leaves the store, the second puts windows in their places.
-use Prim.Native.Nat.{ℕ, _<_}
+-- The halves of maximise_window, and the plan and the turns of update_dims: the first asks the questions and leaves the
+-- store, the second puts windows in their places.
+use Prim.Native.Nat.{ℕ, _≤_, _<_}
 use mathlib.Core.Path.{_≡_}
-use mathlib.Core.Bool.{Bool, true, cond, _&&_}
+use mathlib.Core.Bool.{Bool, true, false, cond, _&&_}
 use mathlib.Core.List.{List}
+use lib.ListN.{length, getD}
 use Rattle.geom.specs.declared.Rect.{Rect}
 use Rattle.window.specs.declared.Window.{Window}
+use Rattle.window.specs.declared.damage.Area.{Area}
 use Rattle.window.specs.Window.{Win}
-use Rattle.window.specs.Held.{Small, rectOf, winOf}
-use Rattle.rules.specs.Group.{isMaximised, owing}
-use Rattle.rules.specs.Displays.{updatedAt, withAt, taken, displayOf, allUpdated}
+use Rattle.window.specs.Held.{Small, rectOf, winOf, RepWindow}
+use Rattle.rules.specs.Group.{isMaximised}
+use Rattle.rules.specs.Displays.{updatedAt, withAt, taken, displayOf}
 use Rattle.rules.specs.Calls.{Maximise, UpdateDims, does}
+use Rattle.order.specs.declared.WinId.{WinId}
+use Rattle.order.specs.Order.{noId}
 use Rattle.display.specs.declared.dims.Moves.{Moves}
 use Rattle.display.specs.Dims.{place, takes}
 use Rattle.windows.specs.declared.Shared.{Shared}
@@ -18,8 +23,8 @@ use Rattle.windows.specs.declared.Changed.{Changed}
 use Rattle.windows.specs.declared.Done.{Done}
 use Rattle.windows.specs.declared.inner.dims.Takes.{Takes}
 use Rattle.windows.specs.declared.inner.dims.Taking.{Taking}
-use Rattle.windows.specs.declared.inner.dims.Planned.{Planned}
-use Rattle.windows.specs.View.{group, windowAt, Rep}
+use Rattle.windows.specs.declared.inner.update.DimsPlan.{DimsPlan}
+use Rattle.windows.specs.View.{group, windowAt, MeetsStore}
 use Rattle.windows.specs.Walk.{flagged, indebted}
 use Rattle.windows.specs.Pixels.{Becomes}
 
@@ -62,14 +67,49 @@ pub record Goes (s : Session) (m : Moves) (i : ℕ) : Type 0 where
 abbrev pub MovesOf : Session → Moves → Type 0
 MovesOf s m = (i : ℕ) → i < 16 → Goes s m i
 
--- the first half: answer and store are the rule's
-pub record Plans (s : Session) (before : List ℕ) (p : Planned) (after : List ℕ) : Type 0 where
-  pub answer : p .answer ≡ does (group s) (UpdateDims before) .answer
-  pub stored : after ≡ does (group s) (UpdateDims before) .store
-  pub moves : MovesOf s (p .moves)
+-- a window that takes no display and goes where it lay
+abbrev pub Unmoved : Rect → Rect → Bool → Type 0
+Unmoved old at takes = (takes ≡ false) × (at ≡ old)
 
--- the second: every window went there, or all is as it was
-pub record Moved (s : Session) (p : Planned) (r : Done) : Type 0 where
-  pub answer : r .answer ≡ p .answer
-  pub after : p .answer ≡ 0 → (group (r .session) ≡ owing (allUpdated (group s))) × Rep (r .session)
-  pub same : (p .answer ≡ 0 → ⊥) → r .session ≡ s
+-- window i of those that lay there, and of a session
+abbrev pub StaysAt : List Area → Moves → ℕ → Type 0
+StaysAt old m i = Unmoved (place old i) (place (m .areas) i) (takes m i)
+
+abbrev pub Stays : Session → Moves → ℕ → Type 0
+Stays s m i = Unmoved (rectOf (windowAt s i .at)) (place (m .areas) i) (takes m i)
+
+-- the first n places of the order have the numbers below k of the windows that do not stay, smaller ones first
+pub record Collects (Stay : ℕ → Type 0) (k n : ℕ) (order : List WinId) : Type 0 where
+  pub size : length order ≡ 16
+  pub few : n ≤ k
+  pub low : (p : ℕ) → p < n → getD order p noId .0 < k
+  pub rises : (p q : ℕ) → p < q → q < n → getD order p noId .0 < getD order q noId .0
+  pub only : (p : ℕ) → p < n → Stay (getD order p noId .0) → ⊥
+  pub rest : (i : ℕ) → i < k → ((p : ℕ) → p < n → getD order p noId .0 ≡ i → ⊥) → Stay i
+
+-- the plan: answer and store are the rule's, and as many turns as windows go, or none where the call is refused
+pub record Plans (s : Session) (before : List ℕ) (t : DimsPlan) (after : List ℕ) : Type 0 where
+  pub answer : t .answer ≡ does (group s) (UpdateDims before) .answer
+  pub stored : after ≡ does (group s) (UpdateDims before) .store
+  pub moves : MovesOf s (t .what .moves)
+  pub accepted : t .answer ≡ 0 → Collects (Stays s (t .what .moves)) 16 (t .n) (t .what .order)
+  pub refused : (t .answer ≡ 0 → ⊥) → t .n ≡ 0
+
+-- for some store
+pub record Planned (s : Session) (t : DimsPlan) : Type 0 where
+  pub before : List ℕ
+  pub after : List ℕ
+  pub plans : Plans s before t after
+
+-- a turn: the window can go where the number says, and it went there
+pub record Movable (w : Window) (m : Moves) (at : ℕ) : Type 0 where
+  pub rep : RepWindow w
+  pub inside : at < 16
+  pub small : Small (place (m .areas) at)
+
+abbrev pub Moved : Window → Moves → ℕ → Window → Type 0
+Moved w m at r = Becomes w (goes (takes m at) (place (m .areas) at) (winOf w)) r
+
+-- all turns: whatever the store was, the call is met
+abbrev pub MovesAll : Session → DimsPlan → Done → Type 0
+MovesAll s t r = (before after : List ℕ) → Plans s before t after → MeetsStore (UpdateDims before) s r after

@@ -11,5 +11,6 @@ pub mod Drawing
 pub mod Walk
 pub mod Pixels
 pub mod Dims
+pub mod Drag
 pub mod Events
 pub mod Aimed

@@ -1,5 +1,5 @@
-// The calls that touch one window, or only what the windows share, by value: the function of one window, and its results put in their place. With
-// them the calls that go in two halves, and the adding of a display.
+// The calls that touch one window, or only what the windows share, by value: the function of one window, and its results
+// put in their place. With them the calls that go in two halves, a drag, which goes by turns, and the adding of a display.
 ghost use mathlib.Core.Path.{_≡_};
 ghost use Prim.Native.Nat.{_<_};
 ghost use Rattle.rules.specs.Calls.{Call};
@@ -14,6 +14,7 @@ use crate::Session;
 use crate::Written;
 use crate::inner::dim;
 use crate::inner::dims;
+use crate::inner::drag;
 use crate::inner::events;
 use crate::inner::one;
 use crate::inner::one::slot;
@@ -21,6 +22,7 @@ use crate::inner::portion;
 use crate::inner::redraw;
 use crate::inner::store;
 use crate::inner::store::Painted;
+use crate::inner::update;
 use geom::Dims;
 use geom::Pos;
 use geom::Rect;
@@ -117,6 +119,27 @@ impl Session {
         self.put(at, d)
     }
 
+    // The window goes elsewhere; it is drawn again, and what it uncovered of those below, not everything.
+    pub fn drag(mut self, id: WinId, pos: Pos) -> Done
+        requires { ⌜ Given self ⌝ }
+        ensures { λ r. ⌜ Meets (Call.Drag (id .0) (pos .x) (pos .y)) self r ⌝ }
+    {
+        let plan = drag::plan(self, id, pos.x, pos.y);
+        let mut p: usize = 0;
+        while p < plan.n {
+            let at = drag::place(plan.what, p);
+            let w = drag::turn(self.windows[at], plan.what, at);
+            self.windows[at] = w;
+            p += 1;
+        }
+        let shared = drag::settle(self.shared, plan.what, plan.answer);
+        self.shared = shared;
+        Done {
+            session: self,
+            answer: plan.answer,
+        }
+    }
+
     pub fn set_layer(self, id: WinId, layer: u32) -> Done
         requires { ⌜ Given self ⌝ }
         ensures { λ r. ⌜ Meets (Call.SetLayer (id .0) layer) self r ⌝ }
@@ -184,8 +207,8 @@ impl Session {
         requires { ⌜ Given self ⌝ }
         ensures { λ r. ⌜ MeetsStore (Call.UpdateDims (now (store .entry))) self r (now (store .exit)) ⌝ }
     {
-        let p = dims::plan_moves(self, store);
-        dims::moved(self, p)
+        let plan = update::plan_moves(self, store);
+        update::moved(self, plan)
     }
 
     pub fn add_display(mut self, region: Rect) -> Done

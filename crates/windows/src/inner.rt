@@ -2,6 +2,7 @@
 // they need of their arguments is for the caller to know.
 pub mod dim;
 pub mod dims;
+pub mod drag;
 pub mod events;
 pub mod frames;
 pub mod one;
@@ -9,3 +10,4 @@ pub mod portion;
 pub mod redraw;
 pub mod small;
 pub mod store;
+pub mod update;

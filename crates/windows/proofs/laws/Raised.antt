@@ -54,7 +54,7 @@ isLast id p k = leb (k .shown) (p + 1) || lower (k .layers) id (getD (ids (k .sh
 abbrev pub isPending : Shared → Bool
 isPending k = k .due .owed || k .due .walk .on
 
-pending-is : (s : Session) → pending (group s) ≡ isPending (s .shared)
+pub pending-is : (s : Session) → pending (group s) ≡ isPending (s .shared)
 unfolding group walkOf
 pending-is s = ap (λ (b : Bool). s .shared .due .owed || b) (go (s .shared .due .walk .on))
   where

@@ -178,7 +178,7 @@ pub fn show(win: Window, mut shared: Shared, id: WinId) -> Changed
 }
 
 // The window marked, and all of it damaged.
-fn repaired(mut win: Window) -> Window
+pub fn repaired(mut win: Window) -> Window
     requires { ⌜ RepWindow win ⌝ }
     ensures { λ r. ⌜ Becomes win (whollyRepaired (winOf win)) r ⌝ }
 {

@@ -57,7 +57,7 @@ fn bounds(at: Area) -> Rect
 }
 
 // The area is added to the damage of a window of that size.
-fn damaged(old: Damage, size: Area, area: Rect) -> Damage
+pub fn damaged(old: Damage, size: Area, area: Rect) -> Damage
     requires { ⌜ RepDamage old × Small area × (size .w ≤ 32767) × (size .h ≤ 32767) ⌝ }
     ensures { λ r. ⌜ Dirtied (size .w) (size .h) old area r ⌝ }
 {

@@ -18,8 +18,10 @@ frames-requires c κs = search needs
 hits-requires : tie.Need-hits-requires
 hits-requires c κs =
     let f = c .before .before .before in
-    let s = f .before .before .before .before .before .before .before in
-    let k = fits-room _ _ (sym (f .before .before .fit .ensures) ∙ f .before .if2 .taken) in
+    let t = f .before .before in
+    let q = t .before .before in
+    let s = q .before .before .before in
+    let k = fits-room _ _ (sym (t .fit .ensures) ∙ f .before .if2 .taken) in
     (order-lies _ (s .pre) _ (f .frames .ensures), k .even, k .room)
 
 same-length : tie.Need-same-length

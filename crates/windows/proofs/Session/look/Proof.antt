@@ -35,7 +35,8 @@ array-copy-out-area : tie.Need-array-copy-out-area
 array-copy-out-area c = search needs
 
 -- where its window is in use
-is-used : (c : tie.Then3) → let a = c .before .before .before .before .before .before .before .before .args in windowAt (a .self) (a .id .0) .used ≡ true
+is-used : (c : tie.Then3) → let f = c .before .before in let a = f .before .before .before .before .before .before .args in
+    windowAt (a .self) (a .id .0) .used ≡ true
 is-used c = let f = c .before .before in sym (f .frames .ensures .used _ (f .before .if2 .taken)) ∙ c .if3 .taken
 
 stored : (c : tie.Then3) → let f = c .before .before in let a = f .before .before .before .before .before .before .args in

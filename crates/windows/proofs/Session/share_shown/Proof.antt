@@ -16,22 +16,29 @@ use borrow.Author.Needs.{needs}
 use Rattle.windows.proofs.Session.share_shown.Statement.{statement}
 use Rattle.windows.proofs.Session.share_shown.Tie as tie
 
+-- behind the call of `frames`, and the start, from where the window's rectangle is known
+abbrev after-frames : tie.After-rect → tie.After-frames
+after-frames after-rect = after-rect .before .before .before .before .before
+
+abbrev entry : tie.After-rect → tie.Start
+entry after-rect = after-frames after-rect .before
+
 -- the rectangle is the window's
 frame : (c : tie.After-rect)
-    → let a = c .before .before .before .before .before .before .args in
+    → let a = entry c .args in
     c .rect .result ≡ rectOf (windowAt (a .self) (a .id .0) .at)
 frame c =
-    let f = c .before .before .before .before .before in
-    let s = f .before in
-    c .rect .ensures ∙ ap rectOf (f .frames .ensures .at _ (id-low _ (s .pre .0) _ _ (s .pre .1)))
+    let s = entry c in
+    c .rect .ensures ∙ ap rectOf (after-frames c .frames .ensures .at _ (id-low _ (s .pre .0) _ _ (s .pre .1)))
 
 -- the rectangles that are lent are those of the windows above p
 lent : (c : tie.After-from)
-    → let a = c .before .before .before .before .before .before .before .before .before .before .args in
+    → let a = entry (c .before .before .before .before) .args in
     rectsOf (c .from .result .len) (c .from .result .numbers) ≡ higher (a .self) (suc (a .p .0))
 lent c =
-    let f = c .before .before .before .before .before .before .before .before .before in
-    let s = f .before in
+    let after-rect = c .before .before .before .before in
+    let f = after-frames after-rect in
+    let s = entry after-rect in
     let a = s .args in
     c .from .ensures .list
     ∙ frames-higher (a .self) (s .pre .0) (f .frames .result) (f .frames .ensures) (c .before .next .result .0)
@@ -63,18 +70,19 @@ is-empty-requires c κs = search needs
 returns : tie.Need-returns
 returns c =
     let r = c .before .before in
-    let s = r .before .before .before .before .before .before in
+    let s = entry r in
     no-pixels _ (s .pre .0) _ _ (s .pre .1) _ (frame r) (sym (c .before .is-empty .ensures) ∙ c .if1 .taken)
 
 next-requires : tie.Need-next-requires
 next-requires c κs =
-    let s = c .before .before .before .before .before .before .before .before in
+    let s = entry (c .before .before) in
     omega (arith, in-order _ (s .pre .0) _ _ (s .pre .1), s .pre .0 .rep .shown)
 
 from-requires : tie.Need-from-requires
 from-requires c κs =
-    let f = c .before .before .before .before .before .before .before .before in
-    let s = f .before in
+    let after-rect = c .before .before .before in
+    let f = after-frames after-rect in
+    let s = entry after-rect in
     (order-lies _ (s .pre .0) _ (f .frames .ensures), omega (arith, c .next .ensures, in-order _ (s .pre .0) _ _ (s .pre .1)))
 
 slice-aggregate-pixels : tie.Need-slice-aggregate-pixels
@@ -84,7 +92,7 @@ pixels-requires : tie.Need-pixels-requires
 pixels-requires c κs =
     let f = c .before .before in
     let r = f .before .before .before .before in
-    let s = r .before .before .before .before .before .before in
+    let s = entry r in
     let l = f .from .ensures in
     (frame-fits _ (s .pre .0) _ _ (s .pre .1) _ (frame r), lends _ _ l, omega (arith, l .few, l .count))
 
@@ -93,7 +101,7 @@ low : (c : tie.After-pixels) → c .pixels .result ≤ 1048576
 low c =
     let f = c .before .before .before in
     let r = f .before .before .before .before in
-    let s = r .before .before .before .before .before .before in
+    let s = entry r in
     seen-low _ (s .pre .0) _ _ (s .pre .1) _ (frame r) _ (lent f) _ (c .pixels .ensures)
 
 cast-seen : tie.Need-cast-seen
@@ -104,8 +112,9 @@ mul-seen c = omega (arith, low c)
 
 mul-size : tie.Need-mul-size
 mul-size c =
-    let r = c .before .before .before .before .before .before .before .before in
-    let s = r .before .before .before .before .before .before in
+    let after-from = c .before .before .before .before in
+    let r = after-from .before .before .before .before in
+    let s = entry r in
     omega (arith, size-low _ (s .pre .0) _ _ (s .pre .1) _ (frame r))
 
 div-t24 : tie.Need-div-t24
@@ -117,9 +126,9 @@ rem-t25 c = omega (arith, some (c .before .before .before .before .before .befor
 returns-2 : tie.Need-returns-2
 returns-2 c =
     let f = c .before .before .before .before in
-    let e = c .before .before .before .before .before .before in
-    let r = c .before .before .before .before .before .before .before .before in
-    let s = r .before .before .before .before .before .before in
+    let e = f .before .before in
+    let r = e .before .before in
+    let s = entry r in
     shares _ (s .pre .0) _ _ (s .pre .1) _ (frame r) _ (lent f) _ (c .before .pixels .ensures) (sym (e .before .is-empty .ensures) ∙ e .if1 .left)
 
 pub share-shown-spec : {M : Type 1} → statement M

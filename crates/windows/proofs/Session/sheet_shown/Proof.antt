@@ -15,22 +15,29 @@ use borrow.Author.Needs.{needs}
 use Rattle.windows.proofs.Session.sheet_shown.Statement.{statement}
 use Rattle.windows.proofs.Session.sheet_shown.Tie as tie
 
+-- behind the call of `frames`, and the start, from where the window's rectangle is known
+abbrev after-frames : tie.After-rect → tie.After-frames
+after-frames after-rect = after-rect .before .before .before .before .before
+
+abbrev entry : tie.After-rect → tie.Start
+entry after-rect = after-frames after-rect .before .before
+
 -- the rectangle is the window's
 frame : (c : tie.After-rect)
-    → let a = c .before .before .before .before .before .before .before .args in
+    → let a = entry c .args in
     c .rect .result ≡ rectOf (windowAt (a .self) (a .id .0) .at)
 frame c =
-    let f = c .before .before .before .before .before in
-    let s = f .before .before in
-    c .rect .ensures ∙ ap rectOf (f .frames .ensures .at _ (id-low _ (s .pre .0) _ _ (s .pre .1)))
+    let s = entry c in
+    c .rect .ensures ∙ ap rectOf (after-frames c .frames .ensures .at _ (id-low _ (s .pre .0) _ _ (s .pre .1)))
 
 -- the rectangles that are lent are those of the windows above p
 lent : (c : tie.After-from)
-    → let a = c .before .before .before .before .before .before .before .before .before .args in
+    → let a = entry (c .before .before) .args in
     rectsOf (c .from .result .len) (c .from .result .numbers) ≡ higher (a .self) (suc (a .p .0))
 lent c =
-    let f = c .before .before .before .before .before .before .before in
-    let s = f .before .before in
+    let after-rect = c .before .before in
+    let f = after-frames after-rect in
+    let s = entry after-rect in
     let a = s .args in
     c .from .ensures .list
     ∙ frames-higher (a .self) (s .pre .0) (f .frames .result) (f .frames .ensures) (c .before .next .result .0)
@@ -54,13 +61,13 @@ rect-requires c κs = search needs
 
 next-requires : tie.Need-next-requires
 next-requires c κs =
-    let s = c .before .before .before .before .before .before .before in
+    let s = entry c in
     omega (arith, in-order _ (s .pre .0) _ _ (s .pre .1), s .pre .0 .rep .shown)
 
 from-requires : tie.Need-from-requires
 from-requires c κs =
-    let f = c .before .before .before .before .before .before in
-    let s = f .before .before in
+    let f = after-frames (c .before) in
+    let s = entry (c .before) in
     (order-lies _ (s .pre .0) _ (f .frames .ensures), omega (arith, c .next .ensures, in-order _ (s .pre .0) _ _ (s .pre .1)))
 
 slice-aggregate-write : tie.Need-slice-aggregate-write
@@ -70,7 +77,7 @@ write-requires : tie.Need-write-requires
 write-requires c κs =
     let f = c .before .before .before in
     let r = f .before .before in
-    let s = r .before .before .before .before .before .before .before in
+    let s = entry r in
     let a = f .from .result in
     (lends _ _ (f .from .ensures), few-above _ (s .pre .0) (s .args .p .0) (a .len) (a .numbers) (lent f), frame-small _ (s .pre .0) _ _ (s .pre .1) _ (frame r))
 
@@ -82,7 +89,7 @@ returns c =
     let w = c .before .before in
     let f = w .before .before .before .before in
     let r = f .before .before in
-    let s = r .before .before .before .before .before .before .before in
+    let s = entry r in
     shown-prints _ (s .pre .0) _ _ (s .pre .1) _ (frame r) _ (lent f) _ _ _ (w .write .ensures)
 
 pub sheet-shown-spec : {M : Type 1} → statement M

@@ -25,7 +25,8 @@ enum-known-idx c = search needs
 list-shown-requires : tie.Need-list-shown-requires
 list-shown-requires c κs =
     let i = c .before .before .before .before in
-    (i .before .before .before .before .before .before .before .pre, sym (ap idxOf (c .before .before .idx .given .1)) ∙ i .get-render-idx .ensures)
+    let f = i .before .before .before .before in
+    (f .before .before .before .pre, sym (ap idxOf (c .before .before .idx .given .1)) ∙ i .get-render-idx .ensures)
 
 same-length : tie.Need-same-length
 same-length c = search needs

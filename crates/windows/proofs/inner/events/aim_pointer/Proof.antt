@@ -16,18 +16,25 @@ use Rattle.windows.proofs.inner.events.aim_pointer.Tie as tie
 is-small : (c : tie.Then1) → let a = c .before .before .args in small (a .x) && small (a .y) ≡ true
 is-small c = sym (c .before .small-point .ensures) ∙ c .if1 .taken
 
+-- behind the calls of `taker` and of `frames`, from where the found window's id is known
+abbrev after-taker : tie.After-struct-known → tie.After-taker
+after-taker known = known .before .before .before .before
+
+abbrev after-frames : tie.After-struct-known → tie.After-frames
+after-frames known = after-taker known .before .before .before
+
 -- the window that the search found
 at : (c : tie.After-struct-known)
-    → let f = c .before .before .before .before .before .before .before in
+    → let f = after-frames c in
     let a = f .before .before .before .args in
     Found (a .s) (f .frames .result .areas) (a .x) (a .y) (heldOf (a .held)) (c .before .before .hit .given .0 .0 .0)
 at c =
-    let f = c .before .before .before .before .before .before .before in
+    let f = after-frames c in
     let s = f .before .before .before in
     let a = s .args in
     found (a .s) (s .pre .0) (f .frames .result) (f .frames .ensures) (a .x) (a .y) (heldOf (a .held))
     (held-known (a .e) (a .s) (a .held) (a .x) (a .y) (s .pre .0) (s .pre .1)) (c .before .before .hit .given .0 .0 .0)
-    (sym (ap hitOf (c .before .before .hit .given .1)) ∙ c .before .before .before .before .taker .ensures)
+    (sym (ap hitOf (c .before .before .hit .given .1)) ∙ after-taker c .taker .ensures)
 
 small-point-requires : tie.Need-small-point-requires
 small-point-requires c κs = search needs
@@ -75,7 +82,9 @@ at-point-requires : tie.Need-at-point-requires
 at-point-requires c κs = search needs
 
 held-after-requires : tie.Need-held-after-requires
-held-after-requires c κs = at (c .before .before .before .before .before .before .before .before) .low
+held-after-requires c κs =
+    let after-nearest = c .before .before .before .before in
+    at (after-nearest .before .before .before .before) .low
 
 to-window-requires : tie.Need-to-window-requires
 to-window-requires c κs = search needs
@@ -96,7 +105,7 @@ returns c =
     let v = p .before in
     let u = v .before .before .before in
     let k = u .before .before .before .before in
-    let f = k .before .before .before .before .before .before .before in
+    let f = after-frames k in
     let s = f .before .before .before in
     let a = s .args in
     rw (c .to-window .ensures)

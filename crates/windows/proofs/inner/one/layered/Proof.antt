@@ -40,8 +40,14 @@ is-layer id l same = subst (λ (j : Shared). getD (j .layers) id 0 ≡ l) (sym s
 isnt-layer : (id l : ℕ) {k m : Shared} → m ≡ k → (getD (k .layers) id 0 ≡ l → ⊥) → getD (m .layers) id 0 ≡ l → ⊥
 isnt-layer id l same = subst (λ (j : Shared). getD (j .layers) id 0 ≡ l → ⊥) (sym same)
 
+-- the start, from where the window's place is known
+abbrev entry : tie.After-idx → tie.Start
+entry found =
+    let after-layer = found .before .before .before .before in
+    after-layer .before .before .before .before
+
 -- the window has a place in the order
-placed : (c : tie.After-idx) → let a = c .before .before .before .before .before .before .before .before .args in some (c .idx .given .0 .0 .0) ≡ renderIdx (a .id .0) (ids (a .shared .shown) (a .shared .order))
+placed : (c : tie.After-idx) → let a = entry c .args in some (c .idx .given .0 .0 .0) ≡ renderIdx (a .id .0) (ids (a .shared .shown) (a .shared .order))
 placed c = sym (ap idxOf (c .idx .given .1)) ∙ c .before .before .get-render-idx .ensures
 
 cast-at : tie.Need-cast-at
@@ -68,7 +74,7 @@ enum-known-idx c = search needs
 
 to-top-requires : tie.Need-to-top-requires
 to-top-requires c κs =
-    let s = c .before .before .before .before .before .before .before .before .before in
+    let s = entry (c .before) in
     let q = s .pre .0 in
     (few s, subst (λ (k : Shared). Low (ids (k .shown) (k .order))) (q .shared) (order-low (q .session) (q .given)), placed (c .before))
 

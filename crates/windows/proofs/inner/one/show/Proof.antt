@@ -26,16 +26,23 @@ use Rattle.windows.proofs.inner.one.show.Tie as tie
 abbrev joined : List WinId → WinId → Shared → Shared
 joined order id k = ordered order (k .shown + 1) id k
 
--- the window of the share that was handed over is in use, and has no place in its order
-used : (c : tie.After-enum-told) → let a = c .before .before .before .before .before .before .before .args in ltb (a .id .0) 16 && a .win .used ≡ true
-used c = sym (c .before .before .before .before .before .before .is-used .ensures) ∙ c .before .before .before .before .before .if1 .taken
+-- where the window is known to be in use, and the start, from where it is known to have no place
+abbrev in-use : tie.After-enum-told → tie.Then1
+in-use told = told .before .before .before .before .before
 
-hidden : (c : tie.After-enum-told) → let a = c .before .before .before .before .before .before .before .args in none ≡ renderIdx (a .id .0) (ids (a .shared .shown) (a .shared .order))
+abbrev entry : tie.After-enum-told → tie.Start
+entry told = in-use told .before .before
+
+-- the window of the share that was handed over is in use, and has no place in its order
+used : (c : tie.After-enum-told) → let a = entry c .args in ltb (a .id .0) 16 && a .win .used ≡ true
+used c = sym (in-use c .before .is-used .ensures) ∙ in-use c .if1 .taken
+
+hidden : (c : tie.After-enum-told) → let a = entry c .args in none ≡ renderIdx (a .id .0) (ids (a .shared .shown) (a .shared .order))
 hidden c = sym (ap idxOf (c .enum-told .given .1)) ∙ c .before .before .get-render-idx .ensures
 
-roomy : (c : tie.After-enum-told) → c .before .before .before .before .before .before .before .args .shared .shown < 16
+roomy : (c : tie.After-enum-told) → entry c .args .shared .shown < 16
 roomy c =
-    let s = c .before .before .before .before .before .before .before in
+    let s = entry c in
     let q = here (used c) (s .pre .holds) in
     subst (λ (k : Shared). k .shown < 16) (q .shared) (has-room (s .pre .session) (s .args .id .0) (q .given) (q .used) (same-place _ _ (q .shared) (hidden c)))
 
@@ -50,7 +57,7 @@ enum-told c = search needs
 
 insert-requires : tie.Need-insert-requires
 insert-requires c κs =
-    let s = c .before .before .before .before .before .before .before in
+    let s = entry c in
     let q = here (used c) (s .pre .holds) in
     (roomy c, subst (λ (k : Shared). Low (ids (k .shown) (k .order))) (q .shared) (order-low (s .pre .session) (q .given)), q .low)
 
@@ -66,7 +73,7 @@ enum-told-2 c = search needs
 returns : tie.Need-returns
 returns c =
     let l = c .before in
-    let a = l .before .before .before .before .before .before .before .before .args in
+    let a = entry (l .before) .args in
     let id = a .id .0 in
     let order = l .insert .result in
     rw (c .owing .ensures)
@@ -78,9 +85,10 @@ returns c =
 
 returns-2 : tie.Need-returns-2
 returns-2 c =
-    let a = c .before .before .before .before .before .before .before .args in
+    let t = c .before .before .before .before .before in
+    let a = t .before .before .args in
     let id = a .id .0 in
-    accepts (λ s at w k. Meets (Show id) s (done (put at w k s) 0)) (sym (c .before .before .before .before .before .before .is-used .ensures) ∙ c .before .before .before .before .before .if1 .taken)
+    accepts (λ s at w k. Meets (Show id) s (done (put at w k s) 0)) (sym (t .before .is-used .ensures) ∙ t .if1 .taken)
     (λ s q.
     shares (λ t. Meets (Show id) s (done t 0)) s id (s .shared)
     (is-shown s id (q .given) (q .used) _ (same-place _ _ (q .shared) (sym (ap idxOf (c .enum-told2 .given .1)) ∙ c .before .before .get-render-idx .ensures))))

@@ -8,6 +8,12 @@ use borrow.Author.Needs.{needs}
 use Rattle.windows.proofs.inner.portion.treat.Statement.{statement}
 use Rattle.windows.proofs.inner.portion.treat.Tie as tie
 
+-- the start, from where question 20 passed
+abbrev entry : tie.Then3 → tie.Start
+entry w =
+    let f = w .before .before in
+    f .before .before .before .before .before .before
+
 -- question 8 passed
 fits : (c : tie.Then2) → let a = c .before .before .before .before .before .before .args in screenFits (a .width) (a .height) (a .screen .now) ≡ true
 fits c = sym (c .before .screen-fits .ensures) ∙ c .if2 .taken
@@ -24,7 +30,7 @@ screen-fits-requires c κs = search needs
 slice-aggregate-draw-window : tie.Need-slice-aggregate-draw-window
 slice-aggregate-draw-window c =
     let w = c .before .before .before in
-    sym (numbers-room _ _ _ (w .before .before .before .before .before .before .before .before .pre) (w .if3 .taken))
+    sym (numbers-room _ _ _ (entry w .pre) (w .if3 .taken))
 
 draw-window-requires : tie.Need-draw-window-requires
 draw-window-requires c κs =
@@ -39,8 +45,9 @@ cleaned-requires c κs = search needs
 
 further-requires : tie.Need-further-requires
 further-requires c κs =
-    let w = c .before .before .before .before .before .before .before .before in
-    low _ _ _ (w .before .before .before .before .before .before .before .before .pre) (w .if3 .taken)
+    let d = c .before .before .before in
+    let w = d .before .before .before .before .before in
+    low _ _ _ (entry w .pre) (w .if3 .taken)
 
 same-length : tie.Need-same-length
 same-length c = search needs

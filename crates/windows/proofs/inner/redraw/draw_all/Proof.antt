@@ -17,20 +17,35 @@ Inv-loop full store screen₀ sw sh s n order numbers p₀ screen p = Drawing s 
 abbrev μ-loop : tie.MeasureT-loop
 μ-loop full store screen₀ sw sh s n order numbers p₀ screen p = n - p .0
 
+-- the start, from where the rectangles are lent, and that place from a turn
+abbrev entry : tie.After-from Inv-loop μ-loop → tie.Start Inv-loop μ-loop
+entry lent =
+    let after-frames = lent .before .before .before in
+    after-frames .before .before .before .before
+
+abbrev after-from : tie.Then1 Inv-loop μ-loop → tie.After-from Inv-loop μ-loop
+after-from turn = turn .before .before .before .before .before
+
+-- where the window's id is known, from where the window is drawn
+abbrev after-window-at : tie.After-draw-window Inv-loop μ-loop → tie.After-window-at Inv-loop μ-loop
+after-window-at drawn =
+    let copied = drawn .before .before .before .before .before .before in
+    copied .before .before
+
 -- the rectangles of all shown windows
-held : (c : tie.After-from Inv-loop μ-loop) → Holds (c .from .result) (higher (c .before .before .before .before .before .before .before .args .t1) 0)
+held : (c : tie.After-from Inv-loop μ-loop) → Holds (c .from .result) (higher (entry c .args .t1) 0)
 held c =
     let f = c .before .before .before in
-    let s = f .before .before .before .before in
+    let s = entry c in
     subst (Holds (c .from .result)) (frames-higher (s .args .t1) (s .pre .0) (f .frames .result) (f .frames .ensures) 0) (rw (c .before .lowest .ensures) at (c .from .ensures))
 
 -- the place is one of sixteen
 place-low : (c : tie.Then1 Inv-loop μ-loop) → c .before .before .loop .p .0 < 16
-place-low c = omega (arith, c .if1 .taken, c .before .before .before .before .before .before .before .before .before .before .before .before .pre .0 .rep .shown)
+place-low c = omega (arith, c .if1 .taken, entry (after-from c) .pre .0 .rep .shown)
 
 -- and so is the window's
 at-low : (c : tie.After-window-at Inv-loop μ-loop) → c .window-at .result .0 < 16
-at-low c = let t = c .before in id-low _ (t .before .before .before .before .before .before .before .before .before .before .before .before .pre .0) _ (t .if1 .taken) _ (c .window-at .ensures)
+at-low c = let t = c .before in id-low _ (entry (after-from t) .pre .0) _ (t .if1 .taken) _ (c .window-at .ensures)
 
 frames-requires : tie.Need-frames-requires Inv-loop μ-loop
 frames-requires c κs = search needs
@@ -67,7 +82,8 @@ cast-base c = search needs
 mul-base : tie.Need-mul-base Inv-loop μ-loop
 mul-base c =
     let w = c .before .before in
-    omega (arith, base-fits _ (w .before .before .before .before .before .before .before .before .before .before .before .before .before .pre .0) _ (w .before .if1 .taken) _ (w .window-at .ensures))
+    let t = w .before in
+    omega (arith, base-fits _ (entry (after-from t) .pre .0) _ (t .if1 .taken) _ (w .window-at .ensures))
 
 add-next : tie.Need-add-next Inv-loop μ-loop
 add-next c = omega (arith, place-low (c .before .before .before .before))
@@ -84,22 +100,27 @@ sub-draw-window c = omega (arith, place-low (c .before .before .before .before))
 part-draw-window-start : tie.Need-part-draw-window-start Inv-loop μ-loop
 part-draw-window-start c =
     let t = c .before .before .before .before .before in
-    omega (arith, place-low t, t .before .before .before .before .before .from .ensures .room)
+    omega (arith, place-low t, after-from t .from .ensures .room)
 
 part-draw-window-end : tie.Need-part-draw-window-end Inv-loop μ-loop
 part-draw-window-end c = search needs
 
 sub-draw-window-2 : tie.Need-sub-draw-window-2 Inv-loop μ-loop
-sub-draw-window-2 c = omega (arith, c .before .before .before .before .before .before .before .if1 .taken)
+sub-draw-window-2 c =
+    let copied = c .before .before .before .before in
+    omega (arith, copied .before .before .before .if1 .taken)
 
 sub-draw-window-3 : tie.Need-sub-draw-window-3 Inv-loop μ-loop
-sub-draw-window-3 c = omega (arith, c .before .before .before .before .before .before .before .if1 .taken)
+sub-draw-window-3 c =
+    let copied = c .before .before .before .before in
+    omega (arith, copied .before .before .before .if1 .taken)
 
 draw-window-requires : tie.Need-draw-window-requires Inv-loop μ-loop
 draw-window-requires c κs =
-    let w = c .before .before .before .before .before .before .before in
+    let copied = c .before .before .before .before .before in
+    let w = copied .before .before in
     let t = w .before in
-    let s = t .before .before .before .before .before .before .before .before .before .before .before .before in
+    let s = entry (after-from t) in
     let g = s .pre .0 in
     let d = s .pre .1 in
     let l = t .if1 .taken in
@@ -107,35 +128,38 @@ draw-window-requires c κs =
       (
         g .rep .each _ (at-low w),
         omega (arith, in-store _ g _ l _ r, d .whole),
-        all-lent _ g _ l _ r _ (held (t .before .before .before .before .before)),
+        all-lent _ g _ l _ r _ (held (after-from t)),
         omega (arith, g .rep .shown),
       ),
       (d .sw≤, d .sh≤, t .before .before .loop .inv .size ∙ d .size),
     )
 
 next-requires : tie.Need-next-requires Inv-loop μ-loop
-next-requires c κs = omega (arith, place-low (c .before .before .before .before .before .before .before .before .before .before .before))
+next-requires c κs = omega (arith, place-low (after-window-at (c .before .before) .before))
 
 loop-less : tie.Need-loop-less Inv-loop μ-loop
-loop-less c = omega (arith, c .next .ensures, c .before .before .before .before .before .before .before .before .before .before .before .before .if1 .taken)
+loop-less c = omega (arith, c .next .ensures, after-window-at (c .before .before .before) .before .if1 .taken)
 
 loop-again : tie.Need-loop-again Inv-loop μ-loop
 loop-again c =
-    let w = c .before .before .before .before .before .before .before .before .before .before .before in
+    let drawn = c .before .before .before in
+    let w = after-window-at drawn in
     let t = w .before in
-    let s = t .before .before .before .before .before .before .before .before .before .before .before .before in
+    let s = entry (after-from t) in
     let a = s .args in
     let l = t .if1 .taken in
     rw (c .next .ensures)
     (draw-next (s .pre .0) (t .before .before .loop .inv) _ l (search needs)
-    (window-drawn _ (s .pre .0) _ l _ (w .window-at .ensures) _ (held (t .before .before .before .before .before)) (a .full) (a .store .now) _ (a .sw) (a .sh) _
-    (c .before .before .before .draw-window .ensures)))
+    (window-drawn _ (s .pre .0) _ l _ (w .window-at .ensures) _ (held (after-from t)) (a .full) (a .store .now) _ (a .sw) (a .sh) _
+    (drawn .draw-window .ensures)))
 
 same-length : tie.Need-same-length Inv-loop μ-loop
 same-length c = c .before .before .loop .inv .size
 
 returns : tie.Need-returns Inv-loop μ-loop
-returns c = draw-end (c .before .before .before .before .before .before .before .before .before .before .before .before .pre .0) (c .before .before .loop .inv) (c .if1 .left)
+returns c =
+    let head = c .before .before in
+    draw-end (entry (head .before .before .before) .pre .0) (head .loop .inv) (c .if1 .left)
 
 pub draw-all-spec : {M : Type 1} → statement M
 draw-all-spec =

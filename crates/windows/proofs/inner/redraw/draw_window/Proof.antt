@@ -7,11 +7,15 @@ use borrow.Author.Needs.{needs}
 use Rattle.windows.proofs.inner.redraw.draw_window.Statement.{statement}
 use Rattle.windows.proofs.inner.redraw.draw_window.Tie as tie
 
+-- the start, from where the window is to be drawn
+abbrev entry : tie.Then1 → tie.Start
+entry due = due .before .before .before .before .before
+
 either-requires : tie.Need-either-requires
 either-requires c κs = search needs
 
 dirty-of-requires : tie.Need-dirty-of-requires
-dirty-of-requires c κs = c .before .before .before .before .before .before .before .pre .0 .0 .damage
+dirty-of-requires c κs = entry (c .before .before) .pre .0 .0 .damage
 
 rect-requires : tie.Need-rect-requires
 rect-requires c κs = search needs
@@ -21,9 +25,10 @@ slice-aggregate-draw c = search needs
 
 draw-requires : tie.Need-draw-requires
 draw-requires c κs =
-    let s = c .before .before .before .before .before .before .before .before .before .before .before .before .pre in
+    let after-dirty = c .before .before .before .before in
+    let s = entry (after-dirty .before .before .before) .pre in
     let e = c .before .before .rect .ensures in
-    let d = lends _ _ (c .before .before .before .before .dirty-of .ensures) in
+    let d = lends _ _ (after-dirty .dirty-of .ensures) in
     ((subst Small (sym e) (s .0 .0 .at), rw e (s .0 .1)), ((s .0 .2, s .0 .3, d), s .1))
 
 same-length : tie.Need-same-length
@@ -31,8 +36,14 @@ same-length c = search needs
 
 returns : tie.Need-returns
 returns c =
-    let s = c .before .before .before .before .before .before .before .before .before .before .before .before .before .before .before in
-    lent-drawn (s .args .dim) (s .args .w) (s .args .full) (s .args .base) _ (s .args .store .now) (s .args .sw) (s .args .sh) (s .args .screen .now) _ _ _ (s .pre .0 .0 .at) (sym (c .before .before .before .before .before .before .before .before .before .before .before .either .ensures) ∙ c .before .before .before .before .before .before .before .before .before .before .if1 .taken) (c .before .before .before .before .before .rect .ensures) (c .before .before .before .before .before .before .before .dirty-of .ensures .list) (c .before .before .draw .ensures)
+    let after-rect = c .before .before .before .before .before in
+    let after-dirty = after-rect .before .before in
+    let t = after-dirty .before .before .before in
+    let s = entry t in
+    let a = s .args in
+    lent-drawn (a .dim) (a .w) (a .full) (a .base) _ (a .store .now) (a .sw) (a .sh) (a .screen .now) _ _ _
+    (s .pre .0 .0 .at) (sym (t .before .either .ensures) ∙ t .if1 .taken) (after-rect .rect .ensures)
+    (after-dirty .dirty-of .ensures .list) (c .before .before .draw .ensures)
 
 returns-2 : tie.Need-returns-2
 returns-2 c = rw (sym (c .before .either .ensures) ∙ c .if1 .left)

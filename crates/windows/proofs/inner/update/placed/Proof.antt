@@ -1,8 +1,8 @@
 -- By the rule of resize, or the place alone.
 use mathlib.Core.Path.{refl}
 use borrow.Author.Needs.{needs}
-use Rattle.windows.proofs.inner.dims.placed.Statement.{statement}
-use Rattle.windows.proofs.inner.dims.placed.Tie as tie
+use Rattle.windows.proofs.inner.update.placed.Statement.{statement}
+use Rattle.windows.proofs.inner.update.placed.Tie as tie
 
 taken-requires : tie.Need-taken-requires
 taken-requires c κs = search needs
