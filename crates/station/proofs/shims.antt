@@ -1,8 +1,8 @@
 -- A call that takes the session behind a pointer: one walk of MIR for each shape, over any plain types. A call's own
 -- proof names the shape, the types and the promise. `Place`, `Seek` and `Turn` change one window and what the windows
--- share in place; `Fields`, `Front` and `Back` touch single fields of them; `Field` changes one other field alone; `Each`
--- goes through windows in a loop and touches two places of each (`Spot`), with the slices lent again in each turn
--- (`Relend`); `Settle` looks at the session and then settles it; `One` puts another session there; `Read` reads it.
+-- share in place; `Fields`, `Front` and `Back` touch single fields of them; `Field` changes one other field alone.
+-- `Turns` goes through windows in a loop and puts each back whole; `Each` does so and touches two places of each
+-- (`Spot`), with the slices lent again in each turn (`Relend`). `One` puts another session there; `Read` reads it.
 pub mod Types
 pub mod Item
 pub mod Slots
@@ -32,9 +32,9 @@ pub mod Place
 pub mod Fields
 pub mod Front
 pub mod Back
+pub mod Turns
 pub mod Seek
 pub mod Turn
 pub mod Field
-pub mod Settle
 pub mod One
 pub mod Read

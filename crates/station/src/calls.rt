@@ -1,6 +1,7 @@
 // The calls of a session, which lies behind a pointer. A call that touches one window works on that window and on what
-// the windows share, and puts both back; one that touches none, on what they share. A fill, a blit, a route and a pop
-// read and write single fields where they lie. Only a start and an update of dimensions copy the session.
+// the windows share, and puts both back; one that touches none, on what they share; a drag and an update of dimensions
+// go through the windows that change, in a loop, and put each back. A fill, a blit, a redraw, a route and a pop read and
+// write single fields where they lie. Only a start copies the session.
 //
 // Before `roq_start` the memory holds zeros or a session; before any other call, a session that `roq_start` and later calls left.
 ghost use mathlib.Core.Path.{_≡_};
@@ -30,15 +31,15 @@ use windows::Listing;
 use windows::Placed;
 use windows::Session;
 use windows::inner::dim;
-use windows::inner::dims::moved;
-use windows::inner::dims::plan_moves;
 use windows::inner::dims::plan_take;
 use windows::inner::dims::take;
+use windows::inner::drag;
 use windows::inner::events::tell;
 use windows::inner::one;
 use windows::inner::one::slot;
 use windows::inner::portion;
 use windows::inner::store;
+use windows::inner::update;
 
 #[no_mangle]
 pub extern "C" fn roq_start(s: &mut Session, c: u32) -> u32
@@ -147,6 +148,24 @@ pub extern "C" fn roq_move(s: &mut Session, id: WinId, x: u32, y: u32) -> u32
     let k = d.shared;
     (*s).shared = k;
     d.answer
+}
+
+#[no_mangle]
+pub extern "C" fn roq_drag(s: &mut Session, id: WinId, x: u32, y: u32) -> u32
+    requires { ⌜ Given (now s) ⌝ }
+    ensures { λ r. ⌜ Meets (Call.Drag (id .0) x y) (now (s .entry)) (done (now (s .exit)) r) ⌝ }
+{
+    let plan = drag::plan(*s, id, x, y);
+    let mut p: usize = 0;
+    while p < plan.n {
+        let at = drag::place(plan.what, p);
+        let w = drag::turn((*s).windows[at], plan.what, at);
+        (*s).windows[at] = w;
+        p += 1;
+    }
+    let k = drag::settle((*s).shared, plan.what, plan.answer);
+    (*s).shared = k;
+    plan.answer
 }
 
 #[no_mangle]
@@ -264,11 +283,17 @@ pub extern "C" fn roq_update_dims(s: &mut Session, store: &mut [u32]) -> u32
     requires { ⌜ Given (now s) ⌝ }
     ensures { λ r. ⌜ MeetsStore (Call.UpdateDims (now (store .entry))) (now (s .entry)) (done (now (s .exit)) r) (now (store .exit)) ⌝ }
 {
-    let p = plan_moves(*s, store);
-    let e = moved(*s, p);
-    let t = e.session;
-    *s = t;
-    e.answer
+    let plan = update::plan_moves(*s, store);
+    let mut p: usize = 0;
+    while p < plan.n {
+        let at = update::place(plan.what, p);
+        let w = update::turn((*s).windows[at], plan.what, at);
+        (*s).windows[at] = w;
+        p += 1;
+    }
+    let k = update::settle((*s).shared, plan.what, plan.answer);
+    (*s).shared = k;
+    plan.answer
 }
 
 #[no_mangle]

@@ -1,5 +1,5 @@
 -- A function of plain data, by value: its contract, the step that calls it, and the struct that it hands back.
-use mathlib.Core.Path.{refl, ap}
+use mathlib.Core.Path.{refl, ap, subst}
 use Prim.Native.Nat.{ℕ}
 use mathlib.Core.List.{[], _∷_, List}
 use mathlib.Core.Option.{Option}
@@ -53,6 +53,10 @@ ofPlain P = record {
   typed =
       λ 𝓤 H A W x v is. typed-at P 𝓤 H A W x v is;
 }
+
+-- what was handed back has a machine value
+pub valued : (P : Plain) (x : Of P) (v : Val) → Is (row P) x (v ∷ []) → Ok P x
+valued P x v is = subst (λ (u : Val). Is (row P) x (u ∷ [])) (ap only (P .tells x (v ∷ []) is)) is
 
 -- a struct of plain data
 abbrev pub All : List Plain → Type 0

@@ -53,8 +53,14 @@ use Rattle.windows.proofs.inner.dims.Takes as Takes
 use Rattle.windows.proofs.inner.dims.Takes.Laws as Takes′
 use Rattle.windows.proofs.inner.dims.Taking as Taking
 use Rattle.windows.proofs.inner.dims.Taking.Laws as Taking′
-use Rattle.windows.proofs.inner.dims.Planned as Planned
-use Rattle.windows.proofs.inner.dims.Planned.Laws as Planned′
+use Rattle.windows.proofs.inner.drag.Dragging as Dragging
+use Rattle.windows.proofs.inner.drag.Dragging.Laws as Dragging′
+use Rattle.windows.proofs.inner.drag.DragPlan as DragPlan
+use Rattle.windows.proofs.inner.drag.DragPlan.Laws as DragPlan′
+use Rattle.windows.proofs.inner.update.Moving as Moving
+use Rattle.windows.proofs.inner.update.Moving.Laws as Moving′
+use Rattle.windows.proofs.inner.update.DimsPlan as DimsPlan
+use Rattle.windows.proofs.inner.update.DimsPlan.Laws as DimsPlan′
 use Rattle.windows.proofs.inner.events.Message as Message
 use Rattle.windows.proofs.inner.events.Message.Laws as Message′
 use Rattle.station.proofs.events.RoqEvent as RoqEvent
@@ -125,8 +131,11 @@ next = ofStruct Next.the-type Next′.the-laws Next′.the-plain Next′.mir ref
 abbrev pub takes : Plain
 takes = ofStruct Takes.the-type Takes′.the-laws Takes′.the-plain Takes′.mir refl
 
-abbrev pub planned : Plain
-planned = ofStruct Planned.the-type Planned′.the-laws Planned′.the-plain Planned′.mir refl
+abbrev pub moving : Plain
+moving = ofStruct Moving.the-type Moving′.the-laws Moving′.the-plain Moving′.mir refl
+
+abbrev pub dragging : Plain
+dragging = ofStruct Dragging.the-type Dragging′.the-laws Dragging′.the-plain Dragging′.mir refl
 
 abbrev pub display : Plain
 display = ofStruct RoqDisplay.the-type RoqDisplay′.the-laws RoqDisplay′.the-plain RoqDisplay′.mir refl
@@ -289,4 +298,30 @@ made = record {
   tells = Laws.tells Made.the-type Made′.the-laws;
   typed = λ 𝓤 H A W d v is. Laws.lawful Made.the-type Made′.the-laws 𝓤 H A W .typed d (v ∷ []) is .0;
   owed = λ d v is. let parts = Laws.owed Made.the-type Made′.the-laws d (v ∷ []) is in (parts .0, parts .1 .0, parts .1 .1 .0);
+}
+
+-- how many windows go, the answer, and where they go
+abbrev pub dimsPlan : Trio index number moving
+dimsPlan = record {
+  type = DimsPlan.the-row;
+  name = DimsPlan.struct .name;
+  fst = λ d. d .n;
+  snd = λ d. d .answer;
+  trd = λ d. d .what;
+  tells = Laws.tells DimsPlan.the-type DimsPlan′.the-laws;
+  typed = λ 𝓤 H A W d v is. Laws.lawful DimsPlan.the-type DimsPlan′.the-laws 𝓤 H A W .typed d (v ∷ []) is .0;
+  owed = λ d v is. let parts = Laws.owed DimsPlan.the-type DimsPlan′.the-laws d (v ∷ []) is in (parts .0, parts .1 .0, parts .1 .1 .0);
+}
+
+-- how many windows a drag changes, the answer, and how it changes them
+abbrev pub dragPlan : Trio index number dragging
+dragPlan = record {
+  type = DragPlan.the-row;
+  name = DragPlan.struct .name;
+  fst = λ d. d .n;
+  snd = λ d. d .answer;
+  trd = λ d. d .what;
+  tells = Laws.tells DragPlan.the-type DragPlan′.the-laws;
+  typed = λ 𝓤 H A W d v is. Laws.lawful DragPlan.the-type DragPlan′.the-laws 𝓤 H A W .typed d (v ∷ []) is .0;
+  owed = λ d v is. let parts = Laws.owed DragPlan.the-type DragPlan′.the-laws d (v ∷ []) is in (parts .0, parts .1 .0, parts .1 .1 .0);
 }

@@ -109,7 +109,7 @@ pub record Pair (S R : Plain) : Type 2 where
 abbrev pub pairTy : {S R : Plain} → Pair S R → Ty
 pairTy {S} {R} D = tyStruct (D .name) (tcons (S .ty) (tcons (R .ty) tnil))
 
--- a struct of three: what a call that changes an element and the other field hands back
+-- a struct of three: what a call that changes an element and the other field hands back, or a plan of turns
 pub record Trio (E K R : Plain) : Type 2 where
   pub type : RattleType
   pub name : Sym
