@@ -25,8 +25,9 @@ pub record Picked (o : Option Call) (P : Call → Type 0) : Type 0 where
   pub is : o ≡ some call
   pub so : P call
 
--- "`show ID` · `hide ID` · `drop ID` · `mark ID`: these"; "`move ID X Y`: move"; "`begin FULL`: begin; FULL is 0 or 1"; "`dim B`:
--- dim; B is 0 or 1"; "`layer ID L`: set_layer"; "`display X Y W H`: add_display"; "`raise ID`: raise"
+-- "`show ID` · `hide ID` · `drop ID` · `mark ID`: these"; "`move ID X Y`: move"; "`begin FULL`: begin; FULL is 0 or 1";
+-- "`dim B`: dim; B is 0 or 1"; "`layer ID L`: set_layer"; "`display X Y W H`: add_display"; "`raise ID`: raise";
+-- "`drag ID X Y`: drag"
 abbrev pub windowCalls : List ℕ → List (ℕ × Call)
 windowCalls ns =
     (Kind.show, Call.Show (idOf ns))
@@ -39,6 +40,7 @@ windowCalls ns =
     ∷ (Kind.layer, Call.SetLayer (idOf ns) (num ns 1))
     ∷ (Kind.display, Call.AddDisplay (rectAt ns 0))
     ∷ (Kind.raise, Call.Raise (idOf ns))
+    ∷ (Kind.drag, Call.Drag (idOf ns) (num ns 1) (num ns 2))
     ∷ []
 
 -- "`keydown V` · `keyup V` · `keyfire V` · `text V`: route"; "`mousemove X Y`: route a MouseMove, its differences 0"; "`mousedown X Y B` ·

@@ -43,6 +43,7 @@ fn plain(s: Session, line: Line, ns: &[u32; 4200]) -> Done
         kind::LAYER => s.set_layer(id, ns[1]),
         kind::DISPLAY => s.add_display(numbers::rect(ns, 0)),
         kind::RAISE => s.raise(id),
+        kind::DRAG => s.drag(id, numbers::pos(ns, 1)),
         _ => s.route(events::event(line, ns)),
     }
 }

@@ -178,6 +178,9 @@ lend-sheet = 57
 abbrev pub raise : ℕ
 raise = 58
 
+abbrev pub drag : ℕ
+drag = 59
+
 -- the last of them
 abbrev pub last : ℕ
-last = raise
+last = drag

@@ -155,6 +155,7 @@ table =
     ∷ rowMore "read-sheet" Kind.read-sheet 0
     ∷ row "lend-sheet" Kind.lend-sheet 1
     ∷ row "raise" Kind.raise 1
+    ∷ row "drag" Kind.drag 3
     ∷ []
 
 abbrev pub sameWord : List ℕ → List ℕ → Bool

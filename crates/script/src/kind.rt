@@ -124,8 +124,10 @@ pub const LEND_SHEET: u8 = 57;
 
 pub const RAISE: u8 = 58;
 
+pub const DRAG: u8 = 59;
+
 // The last of them.
-pub const LAST: u8 = RAISE;
+pub const LAST: u8 = DRAG;
 
 const WORDS: usize = LAST as usize - 1;
 
@@ -192,6 +194,7 @@ pub const ROWS: [u8; WORDS * ROW] = *b"\
     \x0a\x00+read-sheet      \
     \x0a\x01 lend-sheet      \
     \x05\x01 raise           \
+    \x04\x03 drag            \
     ";
 
 pub fn wide(b: u8) -> usize

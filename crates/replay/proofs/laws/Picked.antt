@@ -9,7 +9,7 @@ use Rattle.rules.specs.Calls.{Call}
 use Rattle.windows.specs.declared.Session.{Session}
 use Rattle.windows.specs.declared.Done.{Done}
 use Rattle.windows.specs.View.{Meets}
-use Rattle.bare.specs.Numbers.{idOf}
+use Rattle.bare.specs.Numbers.{num, idOf}
 use Rattle.replay.specs.Called.{pick, Picked, windowCalls, routeCalls, storeCalls, plainCall, storeCall}
 
 -- what follows of the call that was picked
@@ -30,6 +30,12 @@ module _ {k j : ℕ} (h : k ≡ j) where
     pub by-id : (call : ℕ → Call) {id : ℕ} {s : Session} {r : Done} → pick j (windowCalls ns ++ routeCalls ns) ≡ some (call (idOf ns)) → id ≡ idOf ns
         → Meets (call id) s r → Picked (plainCall k ns) (λ c. Meets c s r)
     by-id call {s = s} {r = r} p e m = plain-at p (subst (λ (n : ℕ). Meets (call n) s r) e m)
+
+    -- a call that takes the window and a position
+    pub by-pos : (call : ℕ → ℕ → ℕ → Call) {id x y : ℕ} {s : Session} {r : Done}
+        → pick j (windowCalls ns ++ routeCalls ns) ≡ some (call (idOf ns) (num ns 1) (num ns 2)) → id ≡ idOf ns
+        → (x ≡ num ns 1) × (y ≡ num ns 2) → Meets (call id x y) s r → Picked (plainCall k ns) (λ c. Meets c s r)
+    by-pos call {s = s} {r = r} p e at m = plain-at p (subst (λ (c : Call). Meets c s r) (λ i. call (e i) (at .0 i) (at .1 i)) m)
 
   pub store-at : (n : ℕ) (ns store : List ℕ) {c : Call} {P : Call → Type 0} → pick j (storeCalls n ns store) ≡ some c → P c
       → Picked (storeCall k n ns store) P

@@ -4,9 +4,9 @@ use Rattle.geom.specs.declared.Rect.{Rect}
 use Rattle.rules.specs.Calls as Call
 use Rattle.rules.specs.Calls.{Call}
 use Rattle.windows.specs.View.{Meets}
-use Rattle.bare.specs.Numbers.{num, idOf}
+use Rattle.bare.specs.Numbers.{num}
 use Rattle.replay.proofs.laws.Arms.{routes-left}
-use Rattle.replay.proofs.laws.Picked.{plain-at, by-id}
+use Rattle.replay.proofs.laws.Picked.{plain-at, by-id, by-pos}
 use borrow.Author.Needs.{needs}
 use Rattle.replay.proofs.calls.plain.Statement.{statement}
 use Rattle.replay.proofs.calls.plain.Tie as tie
@@ -59,6 +59,12 @@ add-display-requires c κs = search needs
 raise-requires : tie.Need-raise-requires
 raise-requires c κs = search needs
 
+pos-requires-2 : tie.Need-pos-requires-2
+pos-requires-2 c κs = search needs
+
+drag-requires : tie.Need-drag-requires
+drag-requires c κs = search needs
+
 event-requires : tie.Need-event-requires
 event-requires c κs = (c .before .before .pre .1, routes-left _ _ (c .match .rest) (c .before .before .pre .2))
 
@@ -79,14 +85,7 @@ returns-4 c = by-id (c .before .match .keys4) _ Call.Mark refl (c .before .befor
 
 returns-5 : tie.Need-returns-5
 returns-5 c =
-    let args = c .before .before .before .before .args in
-    let ns = args .ns .now in
-    let made = c .before .pos .ensures in
-    let to : Call.Move (c .before .before .before .id .result .0) (c .before .pos .result .x) (c .before .pos .result .y)
-    ≡ Call.Move (idOf ns) (num ns 1) (num ns 2) =
-    λ i. Call.Move (c .before .before .before .id .ensures i) (made .0 i) (made .1 i) in
-    plain-at (c .before .before .match .keys5) ns refl
-    (subst (λ (k : Call). Meets k (args .s) (c .move-window .result)) to (c .move-window .ensures))
+    by-pos (c .before .before .match .keys5) _ Call.Move refl (c .before .before .before .id .ensures) (c .before .pos .ensures) (c .move-window .ensures)
 
 returns-6 : tie.Need-returns-6
 returns-6 c = plain-at (c .before .before .match .keys6) _ refl (c .begin .ensures)
@@ -107,7 +106,11 @@ returns-10 : tie.Need-returns-10
 returns-10 c = by-id (c .before .match .keys10) _ Call.Raise refl (c .before .before .id .ensures) (c .raise .ensures)
 
 returns-11 : tie.Need-returns-11
-returns-11 c = record { call = Call.Route (c .before .event .result); is = c .before .event .ensures; so = c .route .ensures }
+returns-11 c =
+    by-pos (c .before .before .match .keys11) _ Call.Drag refl (c .before .before .before .id .ensures) (c .before .pos2 .ensures) (c .drag .ensures)
+
+returns-12 : tie.Need-returns-12
+returns-12 c = record { call = Call.Route (c .before .event .result); is = c .before .event .ensures; so = c .route .ensures }
 
 pub plain-spec : {M : Type 1} → statement M
 plain-spec =
@@ -129,6 +132,8 @@ plain-spec =
     rect-requires
     add-display-requires
     raise-requires
+    pos-requires-2
+    drag-requires
     event-requires
     route-requires
     returns
@@ -141,4 +146,5 @@ plain-spec =
     returns-8
     returns-9
     returns-10
-    returns-11)
+    returns-11
+    returns-12)
