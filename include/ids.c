@@ -37,6 +37,7 @@ static void every_call(uint32_t id) {
     refused("blit", id, roq_blit(&s, id, area, 1, data, 1, lent.store, STORE).answer);
     refused("mark", id, roq_mark(&s, id));
     refused("move", id, roq_move(&s, id, 1, 1));
+    refused("drag", id, roq_drag(&s, id, 1, 1));
     refused("resize", id, roq_resize(&s, id, 4, 4, lent.store, STORE));
     refused("maximise", id, roq_maximise(&s, id, lent.store, STORE));
     refused("set_layer", id, roq_set_layer(&s, id, 1));

@@ -118,6 +118,21 @@ static void displays(void) {
     EXPECT(roq_move(s, LAST, 3000, 4000) == 0 && roq_redraw(s, false, 8, 8, store, 16 * C, screen, 64) == 0);
 }
 
+/* A drag clears the flag and owes no full redraw: what the window uncovers is drawn, and the rest of the screen stays.
+ * It owes one where a walk is on, which goes back to the lowest window. */
+static void drags(void) {
+    EXPECT(roq_drag(s, 16, 0, 32768) == 3 && roq_drag(s, LAST, 32768, 0) == 5 && roq_drag(s, LAST, 0, 32768) == 5);
+    EXPECT(roq_drag(s, LAST, 0, 0) == 0 && roq_move(s, 7, 110, 210) == 0 && roq_maximise(s, 7, store, 16 * C) == 0 && s->words[712] >> 56 == 1);
+    EXPECT(roq_drag(s, 7, 1, 0) == 0 && s->words[712] == 0 && roq_resize(s, 7, 2, 1, store, 16 * C) == 0);
+    EXPECT(roq_fill(s, 7, rect(0, 0, 2, 1), 5, store, 16 * C).answer == 0 && roq_redraw(s, false, 8, 8, store, 16 * C, screen, 64) == 0);
+    EXPECT(screen[1] == 0 && roq_drag(s, LAST, 2, 0) == 0 && (s->words[709] & 0xff) == 0 && is_rect(roq_rect_of(s, LAST).rect, 2, 0, 200, 150));
+    EXPECT(roq_redraw(s, false, 8, 8, store, 16 * C, screen, 64) == 0 && screen[1] == 5 && screen[2] == 0);
+    EXPECT(roq_begin(s, false) == 0 && roq_portion(s, 8, 8, store, 16 * C, screen, 64) == 0 && s->words[707] == 1);
+    EXPECT(roq_drag(s, LAST, 3000, 4000) == 0 && s->words[707] == 0 && (s->words[708] & 0xffff) == 0x0101 && (s->words[709] & 0xff) == 1);
+    EXPECT(roq_redraw(s, false, 8, 8, store, 16 * C, screen, 64) == 0 && screen[2] == 5 && roq_resize(s, 7, 0, 0, store, 16 * C) == 0);
+    EXPECT(roq_move(s, 7, 0, 0) == 0 && roq_redraw(s, false, 8, 8, store, 16 * C, screen, 64) == 0);
+}
+
 static RoqEvent mouse(uint8_t kind, uint32_t x, uint32_t y, uint8_t button, uint8_t count) {
     RoqEvent e = {x, y, 0, 0, 0, kind, button, count};
     return e;
@@ -209,6 +224,7 @@ static void session(void) {
     dims();
     layers();
     displays();
+    drags();
     RoqAltered filled = roq_fill(s, LAST, rect(9, 5, 7, 3), 6, store, 16 * C);
     EXPECT(filled.answer == 0 && filled.altered == 21);
     filled = roq_fill(s, LAST, rect(9, 5, 7, 3), 6, store, 16 * C - 1);

@@ -40,8 +40,9 @@
  * copy of the session that makes calls of its own is somebody else. A pixel under no shown window keeps its old value, also in a full redraw, so
  * keep a window of the screen's size lowest, such as the plan. A full redraw is owed, which draws everything, in a new session; after each
  * move, resize, maximise and update_dims that is accepted; and after each show, hide, change of a shown window's layer and switch of dimming that
- * changes something. A raise of a shown window has the next redraw draw that window too, and not everything; it owes
- * a full redraw only where one is owed already or a walk is on. It does not stand for the mark after a write.
+ * changes something. A raise of a shown window has the next redraw draw that window too, a drag also what it uncovered,
+ * and not everything; each owes a full redraw only where one is owed already or a walk is on. Neither stands for the
+ * mark after a write.
  *
  * Displays. Yard and station screens are rectangles of the one screen, up to eight of them in one session; they may overlap, and a position on
  * several is on the first that was added. A display is only where windows go when they are maximised or updated: a redraw draws on the whole
@@ -52,10 +53,20 @@
  * gives what is queued, oldest first, and only then the move, whichever came first: where that order matters, pop after each route. Each new
  * size queues a Resize, which is therefore the first event of a new window. Hide and show keep a queue; drop does not.
  *
- * Moves. The point of a MouseMove is relative to its window, and dx and dy are the difference of two such points: this one and the one popped
- * before it, or (0,0) the first time. They are no measure for a drag once the window moves. To drag a window, remember the point at which it
- * was grabbed, and move it to its position plus the new point minus the grabbed point. A move goes to the topmost window at its point, so a
- * window that is dragged does not hear of a finger that has left it; hand it the move's point, relative to it, whoever popped it.
+ * Moves. The point of a MouseMove is relative to its window, and dx and dy are the difference of two such points:
+ * this one and the one popped before it, or (0,0) the first time. They are no measure for a drag once the window
+ * moves. To drag a window, remember the point at which it was grabbed, and roq_drag it to its position plus the new
+ * point minus the grabbed point. A move goes to the topmost window at its point, so a window that is dragged does not
+ * hear of a finger that has left it; hand it the move's point, relative to it, whoever popped it.
+ *
+ * Drag or move. roq_drag and roq_move put a window at the same place; they differ in what the next redraw draws. Drag
+ * where a finger moves a panel: beside what is marked, its old and its new place are drawn, and nothing else. Move
+ * where much changes anyway: everything is drawn. Where a full redraw is owed or a walk is on, a drag owes a full
+ * redraw, as a move does, and costs as much: drags after a move, a resize or a show gain nothing until the next
+ * redraw. A drag of a hidden window owes nothing; a move of one owes a full redraw. A drag marks the lower windows
+ * that it repairs, which are those that meet the old place: of each the redraw also draws what was written and not
+ * marked yet, wherever in it that is. If one was marked and had no damage, so that all of it was to be drawn, only
+ * what the drag uncovered of it is; to have all of it drawn, tell the redraw.
  *
  * Releases. A MouseUp goes to the window that took the last MouseDown, wherever the finger is by then, at that window's pixel nearest to it
  * (request N1), unless the window was hidden or dropped meanwhile. A second MouseDown, of another finger or button, takes the first one's
@@ -158,6 +169,11 @@ uint32_t roq_mark(RoqSession *s, uint32_t id);
 /* Places a window's top left corner; it is not maximised then. Asks 3, 5. */
 uint32_t roq_move(RoqSession *s, uint32_t id, uint32_t x, uint32_t y);
 
+/* Places a window as roq_move does; it is not maximised then. The next redraw draws all that is seen of it, and of each
+ * lower shown window what it has in common with the rectangle that the window had; but where a full redraw is owed or a
+ * walk is on, one is owed then. For a hidden window nothing is owed, and no walk goes back. Asks 3, 5. */
+uint32_t roq_drag(RoqSession *s, uint32_t id, uint32_t x, uint32_t y);
+
 /* Puts a window on layer 0 or 1. The shown windows of layer 1 stand above all of layer 0, so that none of layer 0 covers them or takes a press
  * on them. A shown window goes to the top of its new layer; the focus stays where it is. To give the layer that it has changes nothing. Asks
  * 3, 17. */
@@ -182,8 +198,9 @@ typedef struct RoqDisplay {
  * Asks 5. */
 RoqDisplay roq_display_at(const RoqSession *s, uint32_t x, uint32_t y);
 
-/* A window takes the display that its position is on, corner and size, as by roq_resize, or (0,0,0,0) if it is on none. It is maximised until a
- * roq_move or roq_resize of it is accepted. Question 6 is of the size that it takes. Writes the store. Asks 1, 3, 6. */
+/* A window takes the display that its position is on, corner and size, as by roq_resize, or (0,0,0,0) if it is on
+ * none. It is maximised until a roq_move, roq_drag or roq_resize of it is accepted. Question 6 is of the size that
+ * it takes. Writes the store. Asks 1, 3, 6. */
 uint32_t roq_maximise(RoqSession *s, uint32_t id, uint32_t *store, size_t store_len);
 
 /* Puts all windows where displays are, hidden ones too. A maximised one takes the display that its position is on, or else the closest, as by

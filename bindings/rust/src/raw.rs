@@ -131,6 +131,7 @@ extern "C" {
     pub fn roq_drop(s: *mut Session, id: u32) -> u32;
     pub fn roq_mark(s: *mut Session, id: u32) -> u32;
     pub fn roq_move(s: *mut Session, id: u32, x: u32, y: u32) -> u32;
+    pub fn roq_drag(s: *mut Session, id: u32, x: u32, y: u32) -> u32;
     pub fn roq_set_layer(s: *mut Session, id: u32, layer: u32) -> u32;
     pub fn roq_resize(s: *mut Session, id: u32, w: u32, h: u32, store: *mut u32, store_len: usize) -> u32;
     pub fn roq_add_display(s: *mut Session, region: Rect) -> u32;

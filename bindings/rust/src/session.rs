@@ -139,6 +139,13 @@ impl Session {
         Error::checked(unsafe { raw::roq_move(&mut self.0, id.0, x, y) })
     }
 
+    /// Places a window's top left corner, and has its old and its new place drawn and not everything; for a finger that
+    /// moves a panel.
+    #[inline]
+    pub fn drag(&mut self, id: Id, x: u32, y: u32) -> Result<(), Error> {
+        Error::checked(unsafe { raw::roq_drag(&mut self.0, id.0, x, y) })
+    }
+
     /// Puts a window on layer 0 or 1, at its top if it is shown: none of layer 0 covers those of layer 1, or takes a press on them.
     #[inline]
     pub fn set_layer(&mut self, id: Id, layer: u32) -> Result<(), Error> {

@@ -65,6 +65,7 @@ fn ids_that_no_window_has() {
             session.drop(id).err(),
             session.mark(id).err(),
             session.move_window(id, 1, 1).err(),
+            session.drag(id, 1, 1).err(),
             session.set_layer(id, 1).err(),
             session.resize(id, 1, 1, &mut store).err(),
             session.maximise(id, &mut store).err(),
@@ -77,7 +78,7 @@ fn ids_that_no_window_has() {
             session.sheet(id, &mut []).err(),
             session.rect_of(id).err(),
         ];
-        assert_eq!(answers, [Some(Error::UnknownId); 16], "{number}");
+        assert_eq!(answers, [Some(Error::UnknownId); 17], "{number}");
         assert!(bytes(&session) == before && store == pixels, "{number}");
     }
 }
@@ -138,6 +139,26 @@ fn a_raise_keeps_the_press() {
     assert_eq!((session.hide(panel), session.raise(panel), session.focus()), (Ok(()), Ok(()), panel));
     assert_eq!((session.redraw(false, 8, 8, &store, &mut screen), screen[3 * 8 + 2]), (Ok(()), 7));
     assert_eq!(session.raise(Id::from(2)), Err(Error::UnknownId));
+}
+
+#[test]
+fn a_drag_draws_two_places() {
+    let Station { mut session, mut store, mut screen, plan, panel } = station();
+    assert_eq!(session.fill(plan, Rect::new(0, 0, 8, 8), 7, &mut store), Ok(64));
+    assert_eq!((session.redraw(false, 8, 8, &store, &mut screen), screen[3 * 8 + 2]), (Ok(()), 0));
+    // Pixels that somebody else wrote show what a redraw does not write.
+    screen.fill(9);
+    assert_eq!((session.drag(panel, 3, 3), session.rect_of(panel)), (Ok(()), Ok(Rect::new(3, 3, 4, 3))));
+    assert_eq!(session.redraw(false, 8, 8, &store, &mut screen), Ok(()));
+    assert_eq!(screen[3 * 8..4 * 8], [9, 9, 7, 0, 0, 0, 0, 9]);
+    assert!(screen[..3 * 8].iter().chain(&screen[6 * 8..]).all(|&pixel| pixel == 9));
+    // With a debt it is a move. A hidden one owes nothing.
+    assert_eq!((session.hide(panel), session.drag(plan, 0, 0), session.drag(panel, 0, 0)), (Ok(()), Ok(()), Ok(())));
+    assert_eq!((session.redraw(false, 8, 8, &store, &mut screen), screen == [7; 64]), (Ok(()), true));
+    screen.fill(9);
+    assert_eq!((session.drag(panel, 1, 1), session.redraw(false, 8, 8, &store, &mut screen)), (Ok(()), Ok(())));
+    assert!(screen == [9; 64]);
+    assert_eq!(session.drag(panel, 0, 32_768), Err(Error::TooLarge));
 }
 
 #[test]
