@@ -1,8 +1,10 @@
-/* One session on eight displays side by side, 6,400 by 480: a plan is maximised on each of them, and over it lies a turnout panel; panel 5 is
- * maximised too, and panel 8 was dragged off to the right, where nobody sees it. The first display is switched on last. Until then its plan has
- * no pixels. When it is added and update_dims is called, the plan takes it, and panel 8 comes back.
+/* One session on eight displays side by side, 6,400 by 480: a plan is maximised on each of them, and over it lies a
+ * turnout panel; panel 5 is maximised too, and panel 8 is dragged off to the right, where nobody sees it. The first
+ * display is switched on last. Until then its plan has no pixels. When it is added and update_dims is called, the plan
+ * takes it, and panel 8 comes back.
  *
- * displays [PICTURE.ppm] writes where windows are before and after that, and a picture of both screens, every fourth pixel. */
+ * displays [PICTURE.ppm] writes how many pixels the drag had drawn, where windows are before and after the last display
+ * is there, and a picture of both screens, every fourth pixel. */
 #include "roqshyn.h"
 
 #include <stdio.h>
@@ -10,7 +12,8 @@
 #include <string.h>
 
 enum { W = 800, H = 480, DISPLAYS = 8, WIDTH = DISPLAYS * W, SCREEN = WIDTH * H, C = W * H, STORE = 16 * C };
-enum { PW = 300, PH = 200, STEP = 4, GAP = 12 }; /* a panel; of the picture: one pixel of so many, and rows between both screens */
+enum { PW = 300, PH = 200, STEPS = 16 };         /* a panel, and the steps in which one is dragged */
+enum { STEP = 4, GAP = 12 };                     /* of the picture: one pixel of so many, and rows between both screens */
 enum { DARK = 0x141418, PAPER = 0xcdd4dc, BLUE = 0x285a96, GREEN = 0x3cbe5a, AMBER = 0xf0b428, RED = 0xdc3c32, WHITE = 0xffffff };
 enum { GROUND = 0x181e26, RAIL = 0x96a0aa };
 
@@ -101,6 +104,33 @@ static void draw(void) {
     must("redraw", roq_redraw(&s, false, WIDTH, H, store, STORE, screen, SCREEN));
 }
 
+/* How many pixels a redraw writes. Nothing here is painted in 0, so on a dark screen they are those that are not 0; the
+ * others then get back what they had. */
+static unsigned drawn(void) {
+    unsigned count = 0;
+    memcpy(before, screen, sizeof before);
+    memset(screen, 0, sizeof screen);
+    draw();
+    for (size_t i = 0; i < SCREEN; i++) {
+        if (screen[i] != 0) count++;
+        else screen[i] = before[i];
+    }
+    return count;
+}
+
+/* By finger, in steps, each with its redraw: the panel's old and new place are drawn. */
+static void drag_off(uint32_t id) {
+    unsigned count = 0;
+    RoqPos from = roq_rect_of(&s, id).rect.pos;
+    for (uint32_t k = 1; k <= STEPS; k++) {
+        must("drag", roq_drag(&s, id, from.x + W * k / STEPS, from.y + PH * k / STEPS));
+        count += drawn();
+    }
+    printf("%d drags off the last display: %u pixels are drawn", STEPS, count);
+    must("move", roq_move(&s, id, from.x + W, from.y + PH));
+    printf(", and %u after one move\n", drawn());
+}
+
 /* ---- What is told ---- */
 
 static void tell_window(const char *what, uint32_t id) {
@@ -151,8 +181,8 @@ int main(int count, char **words) {
     for (uint32_t k = 0; k < DISPLAYS; k++)
         panel(k);
     must("maximise", roq_maximise(&s, DISPLAYS + 4, store, STORE));
-    must("move", roq_move(&s, DISPLAYS + 7, WIDTH + 100, 300));
     draw();
+    drag_off(DISPLAYS + 7);
     tell("seven displays");
     memcpy(before, screen, sizeof before);
 

@@ -146,6 +146,16 @@ static void raise_both(void) {
         pop(1);
 }
 
+/* A finger drags the panel to the left and back: the plan is drawn where the panel was. There is no such place as the
+ * second. */
+static void drag_panel(void) {
+    say(roq_drag(&s, 1, 2, 1));
+    redraw();
+    say(roq_drag(&s, 1, 32768, 1));
+    say(roq_drag(&s, 1, 4, 2));
+    redraw();
+}
+
 /* The panel stays above the plan, which is hidden and shown again. */
 static void keep_on_top(void) {
     say(roq_set_layer(&s, 1, 2));
@@ -181,6 +191,7 @@ int main(void) {
     say(roq_mark(&s, 1));
     redraw();
     raise_both();
+    drag_panel();
     keep_on_top();
     maximise();
     say(roq_drop(&s, 1));

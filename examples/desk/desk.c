@@ -175,7 +175,7 @@ static void give_up(void) {
 /* The dragged panel follows a point of the screen: the differences of moves would not do, since they are relative to a window that moves. */
 static void drag(RoqEvent move, RoqPos of) {
     int x = (int)(of.x + move.x) - (int)grab_x, y = (int)(of.y + move.y) - (int)grab_y;
-    if (dragged != NOBODY) must("move", roq_move(&s, dragged, between(0, x, W - PW), between(0, y, H - PH)));
+    if (dragged != NOBODY) must("drag", roq_drag(&s, dragged, between(0, x, W - PW), between(0, y, H - PH)));
 }
 
 static void throw_turnout(uint32_t id) {

@@ -133,6 +133,16 @@ impl Panels {
         (0..3).for_each(|_| self.pop(PANEL));
     }
 
+    /// A finger drags the panel to the left and back: the plan is drawn where the panel was. There is no such place as
+    /// the second.
+    fn drag_panel(&mut self) {
+        done(self.session.drag(PANEL.into(), 2, 1));
+        self.redraw();
+        done(self.session.drag(PANEL.into(), 32_768, 1));
+        done(self.session.drag(PANEL.into(), 4, 2));
+        self.redraw();
+    }
+
     /// The panel stays above the plan, which is hidden and shown again.
     fn keep_on_top(&mut self) {
         done(self.session.set_layer(PANEL.into(), 2));
@@ -169,6 +179,7 @@ fn main() -> Result<(), Error> {
     done(panels.session.mark(PANEL.into()));
     panels.redraw();
     panels.raise_both();
+    panels.drag_panel();
     panels.keep_on_top();
     panels.maximise();
     done(panels.session.drop(PANEL.into()));
