@@ -39,6 +39,10 @@ impl Area {
     pub fn meets(&self, other: &Area) -> bool {
         self.common(other).is_some()
     }
+    /// The same pixels, counted from the corner of an area that they are in.
+    pub fn relative(&self, to: &Area) -> Area {
+        Area::new(self.left - to.left, self.top - to.top, self.w(), self.h())
+    }
     /// Of two areas that are not empty.
     pub fn holds(&self, other: &Area) -> bool {
         self.common(other) == Some(*other)

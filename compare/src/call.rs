@@ -28,6 +28,7 @@ pub enum Call {
     Drop(u32),
     Mark(u32),
     Move(u32, u32, u32),
+    Drag(u32, u32, u32),
     Resize(u32, u32, u32),
     Fill(u32, Rect, u32),
     Blit(u32, Rect, u32, Vec<u32>),
@@ -124,6 +125,7 @@ fn session(word: &str, numbers: &[u32]) -> Option<Call> {
         ("drop", &[id]) => Call::Drop(id),
         ("mark", &[id]) => Call::Mark(id),
         ("move", &[id, x, y]) => Call::Move(id, x, y),
+        ("drag", &[id, x, y]) => Call::Drag(id, x, y),
         ("resize", &[id, w, h]) => Call::Resize(id, w, h),
         ("fill", &[id, x, y, w, h, colour]) => Call::Fill(id, Rect::new(x, y, w, h), colour),
         ("blit", &[id, x, y, w, h, stride, ref data @ ..]) if data.len() <= MOST => {

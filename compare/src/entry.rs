@@ -22,10 +22,11 @@ pub enum Entry {
     MaximisedOff,
     FlagKept,
     Raised,
+    Dragged,
 }
 
 impl Entry {
-    pub const ALL: [Entry; 20] = [
+    pub const ALL: [Entry; 21] = [
         Entry::SomeEntriesMet,
         Entry::PiecesApart,
         Entry::BarePixels,
@@ -46,6 +47,7 @@ impl Entry {
         Entry::MaximisedOff,
         Entry::FlagKept,
         Entry::Raised,
+        Entry::Dragged,
     ];
 
     pub fn text(self) -> &'static str {
@@ -70,6 +72,7 @@ impl Entry {
             Entry::MaximisedOff => "an update, a maximised window on no display",
             Entry::FlagKept => "an update after a flag was cleared",
             Entry::Raised => "a raise",
+            Entry::Dragged => "a drag",
         }
     }
 }

@@ -7,6 +7,7 @@ mod compare;
 mod damage;
 mod dims;
 mod displays;
+mod drags;
 mod entry;
 mod events;
 mod hits;
@@ -50,6 +51,7 @@ const USAGE: &str = "compare random REPLAY CALLS SEED
 compare portions REPLAY LISTS SEED
 compare busiest REPLAY RUNS SEED
 compare panels REPLAY PAIRS SEED
+compare drags REPLAY LISTS SEED
 compare look REPLAY LOOKS SEED
 compare sheets REPLAY SHEETS SEED
 compare sides REPLAY all|unasked FILE
@@ -76,6 +78,7 @@ fn command(words: &[&str]) -> io::Result<bool> {
         ["portions", replay, lists, seed] => portions::run(&Replay(replay.into()), number(lists)?, number(seed)?),
         ["busiest", replay, runs, seed] => runs::run(&Replay(replay.into()), number(runs)?, number(seed)?),
         ["panels", replay, pairs, seed] => panels::run(&Replay(replay.into()), number(pairs)?, number(seed)?),
+        ["drags", replay, lists, seed] => drags::run(&Replay(replay.into()), number(lists)?, number(seed)?),
         ["look", replay, looks, seed] => looks::run(&Replay(replay.into()), number(looks)?, number(seed)?),
         ["sheets", replay, sheets, seed] => sheets::run(&Replay(replay.into()), number(sheets)?, number(seed)?),
         ["sides", replay, word, file] => {

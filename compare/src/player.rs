@@ -216,7 +216,7 @@ impl Player {
                 }
             }
             Call::DisplayAt(x, y) => surfaces::display_at(&self.displays, x, y, out),
-            Call::Portion(..) | Call::Raise(_) => out.instead("no such call"),
+            Call::Portion(..) | Call::Raise(_) | Call::Drag(..) => out.instead("no such call"),
             // To switch off what is off is nothing, and so common ground.
             Call::Dim(on) if on || self.shadow.is_dimmed() => out.instead("no such call"),
             Call::Dim(_) => {}

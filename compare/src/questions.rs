@@ -73,7 +73,7 @@ pub fn answer(call: &Call, group: &Group, lent: &Lent, shadow: &Shadow) -> u8 {
             let sizes = shadow.places.sizes_taken(call);
             first_no(&[store(), (6, sizes.iter().all(|(_, size)| fit(size)))])
         }
-        Call::Move(id, x, y) => first_no(&[used(*id), small(&[*x, *y])]),
+        Call::Move(id, x, y) | Call::Drag(id, x, y) => first_no(&[used(*id), small(&[*x, *y])]),
         Call::Resize(id, w, h) => {
             let fits = u64::from(*w) * u64::from(*h) <= u64::from(lent.c);
             first_no(&[store(), used(*id), small(&[*w, *h]), (6, fits)])

@@ -82,6 +82,7 @@ impl Shadow {
             Call::Dim(on) => (*on && !self.dimmed).then_some(Entry::DimmingOn),
             Call::Layer(id, 1) if self.places.changes_layer(*id, 1) => Some(Entry::LayerOne),
             Call::Raise(_) => Some(Entry::Raised),
+            Call::Drag(..) => Some(Entry::Dragged),
             Call::DisplayAt(..) | Call::Maximise(_) | Call::UpdateDims => self.dims_entry(call),
             _ => self.list_entry(call),
         }
@@ -129,6 +130,11 @@ impl Shadow {
         self.walk.is_some()
     }
 
+    /// How many windows of the order are done, while a walk is on.
+    pub fn windows_done(&self) -> Option<usize> {
+        self.walk.map(|walk| walk.done)
+    }
+
     /// How many dirty entries the window has.
     pub fn entries(&self, id: u32) -> usize {
         self.damage[id as usize].count()
@@ -142,16 +148,18 @@ impl Shadow {
         }
         if let Some(places) = self.places.after(call) {
             let owes = places.owes(&self.places, call);
-            let raised = places.raised(&self.places, call);
+            let repaired = places.repaired(&self.places, call);
+            let uncovered = self.places.uncovered(call);
             self.places = places;
             // "or that window is hidden"
             self.held = self.held.filter(|id| self.places.order.contains(id));
             if owes {
                 self.owe();
             }
-            if let Some(id) = raised {
+            if let Some(id) = repaired {
                 self.repair(id);
             }
+            uncovered.into_iter().for_each(|(id, area)| self.repair_in(id, area));
             self.seen.changed += 1;
             self.seen.meeting += u64::from(self.places.any_meet());
         }
@@ -246,6 +254,15 @@ impl Shadow {
         let window = self.places.at[id];
         self.marked[id] = true;
         self.damage[id].set(Area::new(0, 0, window.w(), window.h()));
+    }
+
+    /// The same, but "the area is added to its damage, by document 01's rule".
+    fn repair_in(&mut self, id: usize, area: Area) {
+        if self.owed || self.is_walking() {
+            return self.owe();
+        }
+        self.marked[id] = true;
+        self.hurt(id, area);
     }
 
     /// "A walk with no window left to draw is over, and only then is the debt cleared."

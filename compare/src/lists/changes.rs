@@ -1,4 +1,4 @@
-//! Windows created, shown, raised, hidden, moved, resized, dropped and put on a layer.
+//! Windows created, shown, raised, hidden, moved, dragged, resized, dropped and put on a layer.
 use super::{Maker, Step};
 
 impl Maker<'_> {
@@ -103,6 +103,14 @@ impl Maker<'_> {
     pub fn move_window(&mut self) -> Step {
         let (id, x, y) = (self.id(), self.coordinate(), self.coordinate());
         self.say(&format!("move {id} {x} {y}"))
+    }
+
+    /// Accepted, it leaves the common ground.
+    pub fn drag_window(&mut self) -> Step {
+        let (id, x, y) = (self.id(), self.coordinate(), self.coordinate());
+        self.say(&format!("drag {id} {x} {y}"))?;
+        self.redraw()?;
+        self.screen()
     }
 
     /// A press, moves in steps with redraws between, and a release.

@@ -70,6 +70,7 @@ impl<'a> Maker<'a> {
             (4, Maker::hide),
             (1, Maker::drop),
             (14, Maker::move_window),
+            (2, Maker::drag_window),
             (5, Maker::drag),
             (8, Maker::resize),
             (16, Maker::fill),

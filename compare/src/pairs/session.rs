@@ -49,6 +49,7 @@ impl<'a> Maker<'a> {
             (10, Maker::input),
             (10, Maker::redraw),
             (2, Maker::move_window),
+            (4, Maker::drag),
             (4, Maker::raise),
             (1, Maker::drop),
         ])
@@ -70,6 +71,12 @@ impl<'a> Maker<'a> {
         let (w, h) = self.screen;
         let (x, y) = (self.random.from_to(0, w - 2), self.random.from_to(0, h - 2));
         self.say(&format!("move {id} {x} {y}"));
+    }
+
+    fn drag(&mut self, id: u32) {
+        let (w, h) = self.screen;
+        let (x, y) = (self.random.from_to(0, w - 2), self.random.from_to(0, h - 2));
+        self.say(&format!("drag {id} {x} {y}"));
     }
 
     /// By one call, or by hide and show.
