@@ -178,6 +178,8 @@ static void none(void) {}
     ROW(roq_drop, , cascade, roq_drop(s, 3))                                                               \
     ROW(roq_mark, , cascade, roq_mark(s, 3))                                                               \
     ROW(roq_move, , cascade, roq_move(s, 3, 5, 5))                                                         \
+    ROW(roq_drag, _over_3, cascade, roq_drag(s, 3, 5, 5))                                                  \
+    ROW(roq_drag, _over_15, cascade, roq_drag(s, 15, 5, 5))                                                \
     ROW(roq_set_layer, , cascade, roq_set_layer(s, 3, 1))                                                  \
     ROW(roq_resize, , displays, roq_resize(s, 3, SIDE, 5, store, 16 * SMALL))                              \
     ROW(roq_add_display, , displays, roq_add_display(s, rect(SIDE * 7, 0, SIDE, SIDE)))                    \

@@ -32,6 +32,7 @@ static const RoqEvent press = {25, 25, 0, 0, 0, ROQ_MOUSE_DOWN, 1, 0};
     CALL(roq_drop, (s, 3))                                                             \
     CALL(roq_mark, (s, 3))                                                             \
     CALL(roq_move, (s, 3, 5, 5))                                                       \
+    CALL(roq_drag, (s, 15, 5, 5))                                                      \
     CALL(roq_set_layer, (s, 3, 1))                                                     \
     CALL(roq_resize, (s, 0, 300, 300, store, 16 * C))                                  \
     CALL(roq_add_display, (s, area))                                                   \
@@ -113,6 +114,9 @@ static size_t depth(void (*run)(void)) {
 
 static void tell(const char *name, void (*run)(void)) {
     scene(strcmp(name, "roq_create") ? 16 : 15);
+    /* A drag repairs windows where no full redraw is owed and no walk is on. */
+    if (!strcmp(name, "roq_drag"))
+        roq_redraw(s, false, WIDTH, HEIGHT, store, 16 * C, screen, C);
     /* What stands on the stack without a call. */
     size_t idle = depth(nothing);
     printf("%s %zu\n", name, depth(run) - idle);

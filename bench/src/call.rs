@@ -17,6 +17,7 @@ pub enum Call {
     /// over.
     Marks(u32),
     Move(u32, u32, u32),
+    Drag(u32, u32, u32),
     Layer(u32, u32),
     Resize(u32, u32, u32),
     Display(Area),
@@ -64,6 +65,7 @@ impl Call {
             Call::Drop(_) => "roq_drop",
             Call::Mark(_) | Call::Marks(_) => "roq_mark",
             Call::Move(..) => "roq_move",
+            Call::Drag(..) => "roq_drag",
             Call::Layer(..) => "roq_set_layer",
             Call::Resize(..) => "roq_resize",
             Call::Display(_) => "roq_add_display",

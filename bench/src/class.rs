@@ -17,6 +17,8 @@ pub enum Beside {
     Loops,
     /// Our own library, with an undivided redraw in place of a walk's first portion and nothing in place of the others.
     Undivided,
+    /// Our own library, with a move in place of a drag.
+    Moved,
     /// A loop over the same rows and the same table in Rust, in place of a dimmed redraw.
     Table,
     /// Our own library, with dimming off.
@@ -38,6 +40,7 @@ impl Beside {
             Beside::Pixman | Beside::PixmanAtOnce => "pixman",
             Beside::Loops | Beside::Table | Beside::Floats | Beside::OnePass | Beside::Square => "Rust",
             Beside::Undivided => "undivided",
+            Beside::Moved => "moves",
             Beside::Bright => "dimming off",
             Beside::Listed => "visible list",
         }

@@ -3,6 +3,7 @@ use crate::call::{Area, Call};
 use crate::class::{Beside, Class, Limit};
 use crate::dims;
 use crate::displays;
+use crate::drags;
 use crate::looks;
 use crate::mix::Drag;
 use crate::pixman;
@@ -45,6 +46,7 @@ pub fn table() -> Vec<Class> {
     all.extend(pixels());
     all.extend(redraws());
     all.extend(mixes());
+    all.extend(drags::classes());
     if pixman::INSTALLED {
         all.extend(beside_pixman());
     }
@@ -221,7 +223,7 @@ fn longest(name: &str, mut scene: Scene) -> Class {
 }
 
 fn mixes() -> Vec<Class> {
-    let mix = |name, scene, drag: Drag| Class::new(name, scene, drag.second()).parts(1).limit(Limit::Redraws);
+    let mix = |name, scene, drag: Drag| Class::new(name, scene, drag.second(Call::Move)).parts(1).limit(Limit::Redraws);
     vec![
         mix(MIX, station(), DRAGGED),
         mix("the same, panels anywhere", free_station(), DRAGGED).note(OTHER),

@@ -1,6 +1,6 @@
-//! Archives of earlier commits, which have no walks, no dimming, no layers, no raise, no displays, no busiest second,
-//! no share, no answer for many points, no look or no sheets: there these functions answer 20, 20, 17, 17, 16, 26, 24,
-//! 25, 22 and 19. Where an archive has its own, those are linked.
+//! Archives of earlier commits, which have no walks, no dimming, no layers, no raise, no drag, no displays, no busiest
+//! second, no share, no answer for many points, no look or no sheets: there these functions answer 20, 20, 17, 17, 17,
+//! 16, 26, 24, 25, 22 and 19. Where an archive has its own, those are linked.
 use crate::call::Call;
 use crate::class::{Beside, Class};
 use roqshyn::{busiest, Error, Id, Look, Rect, Session};
@@ -9,6 +9,7 @@ std::arch::global_asm!(".weak roq_begin", "roq_begin:", ".weak roq_portion", "ro
 std::arch::global_asm!(".weak roq_hits", "roq_hits:", "mov eax, 25", "ret");
 std::arch::global_asm!(".weak roq_dim", "roq_dim:", "mov eax, 20", "ret");
 std::arch::global_asm!(".weak roq_set_layer", "roq_set_layer:", ".weak roq_raise", "roq_raise:", "mov eax, 17", "ret");
+std::arch::global_asm!(".weak roq_drag", "roq_drag:", "mov eax, 17", "ret");
 std::arch::global_asm!(".weak roq_look", "roq_look:", "mov eax, 22", "ret");
 std::arch::global_asm!(".weak roq_add_display", "roq_add_display:", ".weak roq_maximise", "roq_maximise:");
 std::arch::global_asm!(".weak roq_update_dims", "roq_update_dims:", "mov eax, 16", "ret");
@@ -54,6 +55,9 @@ pub fn has(class: &Class) -> bool {
     }
     if let [Call::Raise(_), ..] = class.timed[..] {
         return session.raise(Id::from(0)) == Err(Error::UnknownId);
+    }
+    if class.timed.iter().any(|call| matches!(call, Call::Drag(..))) {
+        return session.drag(Id::from(0), 0, 0) == Err(Error::UnknownId);
     }
     if let [Call::Maximise(_) | Call::UpdateDims | Call::DisplayAt(..), ..] = class.timed[..] {
         return has_displays();

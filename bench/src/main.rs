@@ -10,6 +10,7 @@ mod class;
 mod classes;
 mod dims;
 mod displays;
+mod drags;
 mod earlier;
 mod locked;
 mod looks;
@@ -98,12 +99,14 @@ fn tell(classes: &[Class], results: &[Measured], runs: &[Vec<Measured>]) -> Stri
     let table = |beside| report::table(beside, classes, results, runs);
     let (original, loops, undivided) = (table(Beside::Original), table(Beside::Loops), table(Beside::Undivided));
     let (one_pass, square, listed) = (table(Beside::OnePass), table(Beside::Square), table(Beside::Listed));
+    let moved = table(Beside::Moved);
     let (through, bright, floats) = (table(Beside::Table), table(Beside::Bright), table(Beside::Floats));
     let pixman = if pixman::INSTALLED { table(Beside::Pixman) } else { report::NO_PIXMAN.to_string() };
     format!(
         "# Speed table\n\nWritten by `bash bench/run`. [SPEED.md](SPEED.md) says what is measured.\n\n\
          ## Beside the original\n\n{original}\n{}\n## Beside pixman\n\n{pixman}\n\
          ## Beside a loop over rows in Rust\n\n{loops}\n## Portions beside our undivided redraw\n\n{undivided}\n\
+         ## Drags beside our moves\n\n{moved}\n\
          ## Busiest second of 4,096 events beside the same loop in Rust\n\n{one_pass}\n\
          ## Busiest second of 4,096 events beside the square form in Rust\n\n{square}\n\
          ## Share in view beside our visible list and the sum of its areas\n\n{listed}\n\

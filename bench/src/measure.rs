@@ -3,6 +3,7 @@ use crate::call::{Call, Side};
 use crate::check;
 use crate::class::{Beside, Class, Limit};
 use crate::dims::{Bright, Through};
+use crate::drags::Moved;
 use crate::earlier;
 use crate::locked;
 use crate::looks::Floats;
@@ -73,6 +74,7 @@ pub fn measure(class: &Class) -> Measured {
         Beside::PixmanAtOnce => beside(class, Some(Pixman::new(scene.width, scene.height, true))),
         Beside::Loops => beside(class, Some(Loops::new(scene.width, scene.height))),
         Beside::Undivided => beside(class, Some(Undivided::new(Ours::new(scene.c, scene.width, scene.height)))),
+        Beside::Moved => beside(class, Some(Moved(Ours::new(scene.c, scene.width, scene.height)))),
         Beside::Table => beside(class, Some(Through::new(Ours::new(scene.c, scene.width, scene.height)))),
         Beside::Bright => beside(class, Some(Bright::new(Ours::new(scene.c, scene.width, scene.height)))),
         Beside::Listed => beside(class, Some(Listed(Ours::new(scene.c, scene.width, scene.height)))),

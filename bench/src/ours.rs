@@ -179,6 +179,7 @@ impl Side for Ours {
             Call::Mark(id) => answer(s.mark(Id::from(id))),
             Call::Marks(times) => (0..times).fold(0, |said, k| said | answer(s.mark(Id::from(black_box(k % 16))))),
             Call::Move(id, x, y) => answer(s.move_window(Id::from(id), x, y)),
+            Call::Drag(id, x, y) => answer(s.drag(Id::from(id), x, y)),
             Call::Layer(id, layer) => answer(s.set_layer(Id::from(id), layer)),
             Call::Resize(id, w, h) => answer(s.resize(Id::from(id), w, h, &mut self.store)),
             Call::Display(area) => answer(s.add_display(rect(area))),

@@ -1,5 +1,6 @@
-//! Pixman's side: a region for what is visible of a window, and clipped compositing of its pixels. It knows the calls of a scene's setup, full
-//! redraws, visible lists, shares and sheets, whose rectangles its regions have too.
+//! Pixman's side: a region for what is visible of a window or damaged on the screen, and clipped compositing of a
+//! window's pixels. It knows the calls of a scene's setup, drags and writes, redraws, visible lists, shares and sheets,
+//! whose rectangles its regions have too.
 use crate::call::{Area, Call, Popped, Reply, Side, State};
 use crate::shares;
 use roqshyn::{Error, Share};
@@ -34,6 +35,8 @@ extern "C" {
     fn pixman_region32_init_rects(region: *mut Region, boxes: *const Box32, count: i32) -> i32;
     fn pixman_region32_fini(region: *mut Region);
     fn pixman_region32_subtract(to: *mut Region, from: *const Region, what: *const Region) -> i32;
+    fn pixman_region32_intersect(to: *mut Region, a: *const Region, b: *const Region) -> i32;
+    fn pixman_region32_not_empty(region: *const Region) -> i32;
     fn pixman_region32_union(to: *mut Region, a: *const Region, b: *const Region) -> i32;
     fn pixman_region32_rectangles(region: *const Region, count: *mut i32) -> *const Box32;
     fn pixman_image_create_bits(format: u32, w: i32, h: i32, bits: *mut u32, stride: i32) -> *mut Image;
@@ -77,6 +80,13 @@ impl Region {
     fn subtract(&mut self, what: &Region) {
         let this: *mut Region = self;
         unsafe { pixman_region32_subtract(this, this, what) };
+    }
+    fn intersect(&mut self, with: &Region) {
+        let this: *mut Region = self;
+        unsafe { pixman_region32_intersect(this, this, with) };
+    }
+    fn is_empty(&self) -> bool {
+        unsafe { pixman_region32_not_empty(self) == 0 }
     }
     fn unite(&mut self, with: &Region) {
         let this: *mut Region = self;
@@ -130,11 +140,26 @@ struct Window {
     picture: Picture,
 }
 
+impl Window {
+    /// Its pixels, where a region of the screen has them.
+    fn draw(&self, screen: &Picture, clip: &Region) {
+        let Area(x, y, w, h) = self.at;
+        let (x, y, w, h) = (x as i32, y as i32, w as i32, h as i32);
+        let (from, to) = (self.picture.image, screen.image);
+        unsafe {
+            pixman_image_set_clip_region32(to, clip);
+            pixman_image_composite32(OP_SRC, from, null_mut(), to, 0, 0, 0, 0, x, y, w, h);
+        }
+    }
+}
+
 pub struct Pixman {
     /// In the order of their ids, in which they are shown.
     windows: Vec<Window>,
     displays: Vec<Area>,
     screen: Picture,
+    /// Of the screen: what was written or uncovered since the last redraw.
+    damage: Region,
     /// Whether a visible list makes one region of the windows above, and subtracts that.
     at_once: bool,
     /// The window whose sheet was the last, and its region.
@@ -148,7 +173,7 @@ fn corners(a: Area) -> Box32 {
 impl Pixman {
     pub fn new(width: u32, height: u32, at_once: bool) -> Pixman {
         let screen = Picture::new(width, height);
-        Pixman { windows: Vec::new(), displays: Vec::new(), screen, at_once, sheet: None }
+        Pixman { windows: Vec::new(), displays: Vec::new(), screen, damage: Region::empty(), at_once, sheet: None }
     }
 
     /// A window without those above it.
@@ -170,18 +195,47 @@ impl Pixman {
     fn redraw(&mut self) {
         let mut above = Region::empty();
         for window in self.windows.iter().rev() {
-            let Area(x, y, w, h) = window.at;
-            let (x, y, w, h) = (x as i32, y as i32, w as i32, h as i32);
             let whole = Region::of(window.at);
             let mut seen = Region::of(window.at);
             seen.subtract(&above);
-            let (from, to) = (window.picture.image, self.screen.image);
-            unsafe {
-                pixman_image_set_clip_region32(to, &seen);
-                pixman_image_composite32(OP_SRC, from, null_mut(), to, 0, 0, 0, 0, x, y, w, h);
-            }
+            window.draw(&self.screen, &seen);
             above.unite(&whole);
         }
+        self.damage = Region::empty();
+    }
+
+    /// From the highest window down, each in what is left of the damage, until none is.
+    fn redraw_damage(&mut self) {
+        let mut left = std::mem::replace(&mut self.damage, Region::empty());
+        for window in self.windows.iter().rev() {
+            let whole = Region::of(window.at);
+            let mut seen = Region::of(window.at);
+            seen.intersect(&left);
+            if seen.is_empty() {
+                continue;
+            }
+            window.draw(&self.screen, &seen);
+            left.subtract(&whole);
+            if left.is_empty() {
+                return;
+            }
+        }
+    }
+
+    /// The old and the new place are damaged.
+    fn drag(&mut self, id: usize, x: u32, y: u32) {
+        let old = self.windows[id].at;
+        let new = Area(x, y, old.2, old.3);
+        self.windows[id].at = new;
+        self.damage.unite(&Region::of(old));
+        self.damage.unite(&Region::of(new));
+    }
+
+    /// The area is damaged where the window lies now.
+    fn fill(&mut self, id: usize, area: Area, colour: u32) {
+        let window = &mut self.windows[id];
+        window.picture.fill(area, colour);
+        self.damage.unite(&Region::of(Area(window.at.0 + area.0, window.at.1 + area.1, area.2, area.3)));
     }
 
     fn share(&self, id: usize) -> Result<Share, Error> {
@@ -217,13 +271,15 @@ impl Side for Pixman {
                 self.windows[id as usize] = Window { at: display, picture };
             }
             Call::Pop(_) => return Reply::Event(Some(Popped::Resize)),
-            Call::Fill(id, area, colour) => self.windows[id as usize].picture.fill(area, colour),
+            Call::Fill(id, area, colour) => self.fill(id as usize, area, colour),
+            Call::Drag(id, x, y) => self.drag(id as usize, x, y),
             Call::Move(id, x, y) => {
                 let at = &mut self.windows[id as usize].at;
                 *at = Area(x, y, at.2, at.3);
             }
-            Call::Show(_) => {}
+            Call::Show(_) | Call::Mark(_) => {}
             Call::Redraw(true) => self.redraw(),
+            Call::Redraw(false) => self.redraw_damage(),
             Call::Visible(id) => return Reply::Count(self.seen(id as usize).rectangles().len()),
             Call::Share(id) => return Reply::Share(self.share(id as usize)),
             Call::Sheet(id) => self.sheet = Some((id as usize, self.seen(id as usize))),

@@ -126,22 +126,30 @@ pub fn plans(width: u32) -> Scene {
 /// The panel of the last of eight displays; it stays on that display.
 pub const DRAGGED_OF_EIGHT: Drag = Drag { id: 15, start: (7 * WIDTH + 3, 45), step: (4, 2) };
 
+/// The panels of eight displays.
+const LARGE: (u32, u32) = (300, 200);
+
 /// Eight displays side by side as one screen, on each a plan that is maximised there, and a panel, as in examples/c/displays.c.
 pub fn eight() -> Scene {
-    spread(true)
+    spread(true, LARGE)
 }
 
 /// The same, and no plan is maximised.
 pub fn eight_not_maximised() -> Scene {
-    spread(false)
+    spread(false, LARGE)
+}
+
+/// The same as the first, and the panel that is dragged is as large as a station's.
+pub fn eight_small_panel() -> Scene {
+    spread(true, PANEL)
 }
 
 /// With an archive that has no displays the plans come there as the panels do.
-fn spread(are_maximised: bool) -> Scene {
+fn spread(are_maximised: bool, dragged: (u32, u32)) -> Scene {
     let (x, y) = DRAGGED_OF_EIGHT.start;
     let displays = || (0..8).map(|k| Area(k * WIDTH, 0, WIDTH, HEIGHT));
-    let panels = (0..7).map(|k| Area(k * WIDTH + 100, 100, 300, 200));
-    let places: Vec<Area> = displays().chain(panels).chain([Area(x, y, 300, 200)]).collect();
+    let panels = (0..7).map(|k| Area(k * WIDTH + 100, 100, LARGE.0, LARGE.1));
+    let places: Vec<Area> = displays().chain(panels).chain([Area(x, y, dragged.0, dragged.1)]).collect();
     if !earlier::has_displays() {
         return scene(8 * WIDTH, HEIGHT, &places);
     }

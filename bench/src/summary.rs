@@ -3,6 +3,7 @@ use crate::class::{Beside, Class, COLD};
 use crate::classes::{ALL, EIGHT, LONGEST, MIX, MIX_OF_EIGHT, THREE};
 use crate::dims;
 use crate::dims::DIMMED;
+use crate::drags::{DRAGS, DRAGS_OF_EIGHT};
 use crate::looks;
 use crate::measure::Measured;
 use crate::pixman;
@@ -55,6 +56,7 @@ pub fn station(classes: &[Class], results: &[Measured], stack: &Numbers) -> Stri
         format!("{:.2} %", second / 1e9 * 100.0)
     };
     let shares = |end: &str| (share(format!("{MIX}{end}")), share(format!("{MIX_OF_EIGHT}{end}")));
+    let drags = |end: &str| (share(format!("{DRAGS}{end}")), share(format!("{DRAGS_OF_EIGHT}{end}")));
     let call = |width: u32| {
         let longest = longest(classes, results, width).into_iter().max_by(|a, b| a.time.total_cmp(&b.time));
         let Longest { function, time, .. } = longest.expect("a class");
@@ -68,6 +70,8 @@ pub fn station(classes: &[Class], results: &[Measured], stack: &Numbers) -> Stri
     let rows = [
         ("share of a core at 200 events and 30 full redraws a second", shares("")),
         ("the same, no pixel in a cache at a redraw", shares(COLD)),
+        ("share of a core at 200 events and 30 redraws a second, with drags", drags("")),
+        ("the same, no pixel in a cache at a redraw", drags(COLD)),
         ("longest call", (call(WIDTH), call(8 * WIDTH))),
         ("session", both(format!("{} bytes", whole(size_of::<roqshyn::Session>() as f64)))),
         ("store of 16 windows, C = 384,000 (800 by 480)", both(format!("{} bytes", whole(f64::from(16 * c * 4))))),

@@ -4,6 +4,7 @@ use crate::class::{Beside, Class};
 use crate::classes::{LAYER, MIX, MIX_OF_EIGHT, RAISE, RAISED};
 use crate::dims::DIMMED;
 use crate::displays::{DISPLAY_AT, MAXIMISE, UPDATE};
+use crate::drags::{DRAG, DRAGS, DRAGS_OF_EIGHT};
 use crate::looks::LOOK;
 use crate::measure::Measured;
 use crate::pixman;
@@ -40,9 +41,10 @@ const fn target(what: &'static str, beside: Beside, classes: &'static [&'static 
 const FULL: &[&str] = &["full redraw 800", "full redraw 6,400"];
 const MIXES: &[&str] = &[MIX, "the same, panels anywhere", MIX_OF_EIGHT];
 
-const TARGETS: [Target; 39] = [
+const TARGETS: [Target; 43] = [
     target("mark", Beside::Original, &["mark"], Time(1.0)),
     target("move", Beside::Original, &["move, "], Time(1.0)),
+    target("drag", Beside::Original, &[DRAG], Time(1.0)),
     target("show, hide", Beside::Original, &["hide or show"], Time(1.0)),
     target("change of layer", Beside::Original, &[LAYER], Time(1.0)),
     target("raise", Beside::Original, &[RAISE], Time(1.0)),
@@ -62,6 +64,9 @@ const TARGETS: [Target; 39] = [
     target("all portions of a full redraw", Beside::Undivided, &["all portions"], Time(1.1)),
     target("the station's mix", Beside::Original, MIXES, Time(1.02)),
     target("the station's mix", Beside::Original, MIXES, Rows(0.97)),
+    target("a second of drags, one display", Beside::Moved, &[DRAGS], Time(0.3)),
+    target("a second of drags, eight displays", Beside::Moved, &[DRAGS_OF_EIGHT], Time(0.1)),
+    target("a second of drags without events", Beside::Pixman, &[DRAGS, DRAGS_OF_EIGHT], Time(1.1)),
     target("resize", Beside::Original, &["resize"], Cleared(0.95)),
     target("maximise", Beside::Original, &[MAXIMISE], Cleared(0.95)),
     target("update of windows on eight displays", Beside::Original, &[UPDATE], Time(1.0)),
@@ -96,6 +101,7 @@ impl Target {
             (_, Beside::PixmanAtOnce) => "pixman, those above as one region, time",
             (_, Beside::Loops) => "a loop in Rust, time",
             (_, Beside::Undivided) => "our undivided redraw, time",
+            (_, Beside::Moved) => "the same with our moves, time",
             (_, Beside::Table) => "a loop over the same table in Rust, time",
             (_, Beside::Bright) => "our redraw with dimming off, time",
             (_, Beside::Listed) => "our visible list, time",

@@ -106,7 +106,8 @@ impl Side for Theirs {
             Call::Drop(id) => g.drop(id),
             Call::Mark(id) => g.mark(id),
             Call::Marks(times) => (0..times).for_each(|k| g.mark(black_box(k % 16))),
-            Call::Move(id, x, y) => g.move_window(id, x, y),
+            // It has no drag.
+            Call::Move(id, x, y) | Call::Drag(id, x, y) => g.move_window(id, x, y),
             // It has no layers and no raise: hidden and shown, the window is on top too.
             Call::Layer(id, _) | Call::Raise(id) => {
                 g.hide(id);
@@ -132,7 +133,8 @@ impl Side for Theirs {
             Call::Redraw(_) => self.owed = false,
             // A drop is none of these: the lists drop hidden windows only.
             Call::Show(_) | Call::Hide(_) | Call::Raise(_) | Call::Layer(..) => self.owed = true,
-            Call::Move(..) | Call::Resize(..) | Call::Maximise(_) | Call::UpdateDims => self.owed = true,
+            Call::Move(..) | Call::Drag(..) | Call::Resize(..) => self.owed = true,
+            Call::Maximise(_) | Call::UpdateDims => self.owed = true,
             _ => {}
         }
         Reply::Answer(0)
