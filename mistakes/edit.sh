@@ -17,8 +17,8 @@ swapped() {
   printf '%s' "${rest%x}" >"$1"
 }
 
-# edited CRATE EDIT: makes the edit in a folder of a crate as `rt must-fail` makes it, or prints what is wrong with it. A line `file:` holds
-# for the pairs of `old:` and `new:` behind it; other lines are passed over.
+# edited CRATE EDIT: makes the edit in a folder of a crate as `rt must-fail` makes it, or prints what is wrong with it.
+# A line `file:` holds for the pairs of `old:` and `new:` behind it; other lines are passed over.
 edited() {
   local line file='' old='' new pairs=0
   while IFS= read -r line || [ -n "$line" ]; do
