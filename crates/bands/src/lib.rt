@@ -1,7 +1,7 @@
 // The sheet of what is seen of a window under others: document 02, N6.
 ghost use Prim.Native.Nat.{_≤_};
+ghost use Rattle.geom.specs.Rect16.{Small};
 ghost use Rattle.sheet.specs.Writer.{Writes};
-ghost use Rattle.window.specs.Held.{Small};
 ghost use Rattle.rules.specs.Visible.{rectsOf};
 ghost use Rattle.rules.specs.Lent.{Lent};
 ghost use Rattle.bands.specs.Scan.{seenUnder};

@@ -2,7 +2,7 @@
 ghost use mathlib.Core.Path.{_≡_};
 ghost use Prim.Native.Nat.{_+_, _*_, _≤_};
 ghost use lib.ListN.{length, set};
-ghost use Rattle.window.specs.Held.{Small};
+ghost use Rattle.geom.specs.Rect16.{Small};
 ghost use Rattle.rules.specs.Visible.{rectsOf};
 ghost use Rattle.rules.specs.Lent.{Lent};
 ghost use Rattle.bands.specs.Sort.{Sorted};

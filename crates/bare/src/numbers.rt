@@ -5,7 +5,7 @@ ghost use Rattle.bare.specs.Numbers.{num, idOf, rectAt, floatOf};
 use geom::Dims;
 use geom::Pos;
 use geom::Rect;
-use order::WinId;
+use window::ids::WinId;
 
 // The window that a line names. Any number is handed on, and one that no window has is answered by 3.
 pub fn id(ns: &[u32; 4200]) -> WinId

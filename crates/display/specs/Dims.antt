@@ -5,22 +5,22 @@ use mathlib.Core.Bool.{Bool, true, false, cond, not, _&&_, _||_}
 use mathlib.Core.List.{List, [], _∷_}
 use lib.ListN.{length, getD}
 use Rattle.geom.specs.declared.Rect.{Rect}
+use Rattle.geom.specs.declared.rect16.Rect16.{Rect16}
 use Rattle.geom.specs.Geom.{width, height}
-use Rattle.window.specs.declared.damage.Area.{Area}
-use Rattle.window.specs.Held.{Small, rectOf, noArea}
+use Rattle.geom.specs.Rect16.{Small, rectOf, noRect16}
 use Rattle.rules.specs.Displays.{updatedAt, takenStore, fits, everyById}
 use Rattle.display.specs.declared.dims.Moves.{Moves}
 
 -- the rectangle of window i
-abbrev pub place : List Area → ℕ → Rect
-place areas i = rectOf (getD areas i noArea)
+abbrev pub place : List Rect16 → ℕ → Rect
+place areas i = rectOf (getD areas i noRect16)
 
 -- window i takes a display
 abbrev pub takes : Moves → ℕ → Bool
 takes m i = getD (m .takes) i false
 
 -- where the first n windows go
-pub record MovesTo (ds : List Rect) (areas : List Area) (used maximised : List Bool) (n : ℕ) (m : Moves) : Type 0 where
+pub record MovesTo (ds : List Rect) (areas : List Rect16) (used maximised : List Bool) (n : ℕ) (m : Moves) : Type 0 where
   pub all : length (m .areas) ≡ 16
   pub flags : length (m .takes) ≡ 16
   pub taken : (i : ℕ) → i < n → takes m i ≡ getD used i false && getD maximised i false
@@ -32,7 +32,7 @@ unfoldable pub allFit : ℕ → Moves → Bool
 allFit c m = everyById (λ i a. not (takes m i) || fits c (rectOf a)) 0 (m .areas)
 
 -- each that takes a display has its old and its new rows in its c pixels of the store
-pub record Roomy (len c : ℕ) (old : List Area) (m : Moves) : Type 0 where
+pub record Roomy (len c : ℕ) (old : List Rect16) (m : Moves) : Type 0 where
   pub all : length (m .areas) ≡ 16
   pub whole : len ≡ 16 * c
   pub c≤ : c ≤ 1048576
@@ -40,9 +40,9 @@ pub record Roomy (len c : ℕ) (old : List Area) (m : Moves) : Type 0 where
   pub gets : (i : ℕ) → i < 16 → takes m i ≡ true → width (place (m .areas) i) * height (place (m .areas) i) ≤ c
 
 -- the pixels of window i, if it takes a display; and those of all from i on
-abbrev pub resizedOne : ℕ → List Area → List Bool → ℕ → Area → List ℕ → List ℕ
+abbrev pub resizedOne : ℕ → List Rect16 → List Bool → ℕ → Rect16 → List ℕ → List ℕ
 resizedOne c old flags i a s = cond (getD flags i false) (takenStore (i * c) c (place old i) (rectOf a) s) s
 
-unfoldable pub allResized : ℕ → List Area → List Bool → ℕ → List Area → List ℕ → List ℕ
+unfoldable pub allResized : ℕ → List Rect16 → List Bool → ℕ → List Rect16 → List ℕ → List ℕ
 allResized c old flags i [] s = s
 allResized c old flags i (a ∷ rest) s = allResized c old flags (suc i) rest (resizedOne c old flags i a s)

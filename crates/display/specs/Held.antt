@@ -8,7 +8,7 @@ use Rattle.geom.specs.declared.Rect.{Rect}
 use Rattle.geom.specs.Questions.{_is_, asked}
 use Rattle.geom.specs.Geom.{width, height, right, bottom, smallRect}
 use Rattle.geom.specs.Displays as rule
-use Rattle.window.specs.Held.{rectOf, noArea}
+use Rattle.geom.specs.Rect16.{rectOf, noRect16}
 use Rattle.rules.specs.Displays.{onScreen, roomFor}
 use Rattle.display.specs.declared.Displays.{Displays}
 use Rattle.display.specs.declared.Added.{Added}
@@ -31,7 +31,7 @@ pub record OnScreen (r : Rect) : Type 0 where
 pub record RepDisplays (d : Displays) : Type 0 where
   pub areas : length (d .areas) ≡ 8
   pub len : d .len ≤ 8
-  pub each : (i : ℕ) → i < d .len → OnScreen (rectOf (getD (d .areas) i noArea))
+  pub each : (i : ℕ) → i < d .len → OnScreen (rectOf (getD (d .areas) i noRect16))
 
 -- the rule's case for each of the enum's
 abbrev pub locatedOf : Located → rule.Located

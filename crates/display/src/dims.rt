@@ -4,7 +4,7 @@ ghost use mathlib.Core.Bool.{_&&_};
 ghost use Prim.Native.Nat.{ℕ, _<_};
 ghost use lib.ListN.{length};
 ghost use Rattle.geom.specs.Displays.{answered};
-ghost use Rattle.window.specs.Held.{Small, rectOf};
+ghost use Rattle.geom.specs.Rect16.{Small, rectOf};
 ghost use Rattle.rules.specs.Displays as rule;
 ghost use Rattle.display.specs.Held.{regions, RepDisplays, locatedOf};
 ghost use Rattle.display.specs.Dims.{place, MovesTo, allFit, Roomy, allResized};
@@ -16,8 +16,8 @@ use geom::inner::bottom;
 use geom::inner::greatest;
 use geom::inner::least;
 use geom::inner::right;
+use geom::rect16::Rect16;
 use winbuf::inner::resize::resize_store;
-use window::damage::Area;
 
 // What stays visible at least of a window that comes to the closest display.
 const MIN_VISIBLE: u32 = 20;
@@ -25,15 +25,15 @@ const MIN_VISIBLE: u32 = 20;
 // Where sixteen windows go, by their numbers, and which of them take a display there.
 #[repr(C)]
 pub struct Moves {
-    pub areas: [Area; 16],
+    pub areas: [Rect16; 16],
     pub takes: [bool; 16],
 }
 
-fn area_of(d: Rect) -> Area
+fn area_of(d: Rect) -> Rect16
     requires { ⌜ Small d ⌝ }
     ensures { λ a. ⌜ rectOf a ≡ d ⌝ }
 {
-    Area::new(d.pos.x, d.pos.y, d.dims.w, d.dims.h)
+    Rect16::new(d.pos.x, d.pos.y, d.dims.w, d.dims.h)
 }
 
 // The number n, cut to 20 before `to` and then to `from`. A difference below 0 counts as 0.
@@ -47,7 +47,7 @@ fn warped(from: u32, to: u32, n: u32) -> u32
 }
 
 // The place of a window that is not maximised: one on a display stays, one on none comes to the closest, with its size.
-fn kept_at(found: Located, at: Area) -> Area
+fn kept_at(found: Located, at: Rect16) -> Rect16
     requires { ⌜ Small (answered (locatedOf found)) × Small (rectOf at) ⌝ }
     ensures { λ r. ⌜ (rectOf r ≡ rule.keptAt (locatedOf found) (rectOf at)) × Small (rectOf r) ⌝ }
 {
@@ -56,7 +56,7 @@ fn kept_at(found: Located, at: Area) -> Area
         Located::Closest(d) => {
             let x = warped(d.pos.x, right(d), at.x as u32);
             let y = warped(d.pos.y, bottom(d), at.y as u32);
-            Area {
+            Rect16 {
                 x: x as u16,
                 y: y as u16,
                 w: at.w,
@@ -67,7 +67,7 @@ fn kept_at(found: Located, at: Area) -> Area
 }
 
 // The display answered, on or closest.
-fn answered(found: Located) -> Area
+fn answered(found: Located) -> Rect16
     requires { ⌜ Small (answered (locatedOf found)) ⌝ }
     ensures { λ r. ⌜ rectOf r ≡ answered (locatedOf found) ⌝ }
 {
@@ -87,7 +87,7 @@ fn both(a: bool, b: bool) -> bool
 }
 
 // Question 6 of a window that takes a display.
-pub fn fits(display: Area, c: u32) -> bool
+pub fn fits(display: Rect16, c: u32) -> bool
     ensures { λ b. ⌜ b ≡ rule.fits c (rectOf display) ⌝ }
 {
     display.w as u32 * display.h as u32 <= c
@@ -95,19 +95,19 @@ pub fn fits(display: Area, c: u32) -> bool
 
 impl Displays {
     // The display that a window takes which is maximised there: (0,0,0,0) where it is on none.
-    pub fn display_of(self, at: Area) -> Area
+    pub fn display_of(self, at: Rect16) -> Rect16
         requires { ⌜ RepDisplays self × Small (rectOf at) ⌝ }
         ensures { λ r. ⌜ (rectOf r ≡ rule.onOnly (rule.locate (regions self) (rectOf at))) × Small (rectOf r) ⌝ }
     {
         let found = self.get_display_for_pos(Pos::new(at.x as u32, at.y as u32));
         match found {
             Located::On(d) => area_of(d),
-            Located::Closest(d) => Area::new(0, 0, 0, 0),
+            Located::Closest(d) => Rect16::new(0, 0, 0, 0),
         }
     }
 
     // Where `update_dims` puts a window.
-    fn updated_at(self, maximised: bool, at: Area) -> Area
+    fn updated_at(self, maximised: bool, at: Rect16) -> Rect16
         requires { ⌜ RepDisplays self × Small (rectOf at) ⌝ }
         ensures { λ r. ⌜ (rectOf r ≡ rule.updatedAt (regions self) maximised (rectOf at)) × Small (rectOf r) ⌝ }
     {
@@ -119,7 +119,7 @@ impl Displays {
     }
 
     // Where it puts sixteen windows, each by itself: those that are in use and maximised take a display.
-    pub fn moves(self, areas: [Area; 16], used: [bool; 16], maximised: [bool; 16]) -> Moves
+    pub fn moves(self, areas: [Rect16; 16], used: [bool; 16], maximised: [bool; 16]) -> Moves
         requires { ⌜ RepDisplays self × ((i : ℕ) → i < 16 → Small (place areas i)) ⌝ }
         ensures { λ m. ⌜ MovesTo (regions self) areas used maximised 16 m ⌝ }
     {
@@ -157,7 +157,7 @@ pub fn all_fit(m: Moves, c: u32) -> bool
 }
 
 // The pixels of those that take a display: window i has the c from i × c on, and had the size of `old`.
-pub fn resize_all(store: &mut [u32], c: usize, old: [Area; 16], m: Moves)
+pub fn resize_all(store: &mut [u32], c: usize, old: [Rect16; 16], m: Moves)
     requires { ⌜ Roomy (length (now store)) c old m ⌝ }
     ensures { λ _. ⌜ now (store .exit) ≡ allResized c old (m .takes) 0 (m .areas) (now (store .entry)) ⌝ }
 {

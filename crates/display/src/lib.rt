@@ -5,7 +5,7 @@ ghost use mathlib.Core.Path.{_≡_};
 ghost use mathlib.Core.List.{[]};
 ghost use Prim.Native.Nat.{_≤_};
 ghost use Rattle.geom.specs.Displays.{firstOn, closestTo, displayFor};
-ghost use Rattle.window.specs.Held.{Small};
+ghost use Rattle.geom.specs.Rect16.{Small};
 ghost use Rattle.rules.specs.Displays.{onScreen};
 ghost use Rattle.display.specs.Held.{regions, RepDisplays, regionOf, locatedOf, Adds};
 use geom::Pos;
@@ -15,15 +15,15 @@ use geom::inner::clamp_pos;
 use geom::inner::dist_sq;
 use geom::inner::is_empty;
 use geom::inner::right;
+use geom::rect16::Rect16;
 use winbuf::inner::region::small_area;
-use window::damage::Area;
 
 pub mod dims;
 
 // The first `len` areas.
 #[repr(C)]
 pub struct Displays {
-    pub areas: [Area; 8],
+    pub areas: [Rect16; 8],
     pub len: u8,
 }
 
@@ -63,7 +63,7 @@ impl Displays {
     pub fn none() -> Displays
         ensures { λ d. ⌜ (regions d ≡ []) × RepDisplays d ⌝ }
     {
-        let blank = Area {
+        let blank = Rect16 {
             x: 0,
             y: 0,
             w: 0,
@@ -86,7 +86,12 @@ impl Displays {
                 let n = self.len;
                 if n < 8 {
                     answer = 0;
-                    let last = Area::new(region.pos.x, region.pos.y, region.dims.w, region.dims.h);
+                    let last = Rect16::new(
+                        region.pos.x,
+                        region.pos.y,
+                        region.dims.w,
+                        region.dims.h,
+                    );
                     let at = n as usize;
                     self.areas[at] = last;
                     self.len = n + 1;
@@ -125,7 +130,7 @@ impl Displays {
     {
         let n = self.len as usize;
         let mut dist: u64 = 18446744073709551615;
-        let mut near = Area {
+        let mut near = Rect16 {
             x: 0,
             y: 0,
             w: 0,

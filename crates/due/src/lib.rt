@@ -4,7 +4,7 @@ ghost use mathlib.Core.Bool.{_&&_, _||_};
 ghost use Prim.Native.Nat.{_<_};
 ghost use lib.Dec.{leb};
 ghost use Rattle.due.specs.Due.{noWalk, settled, owing, begun, further};
-use order::Place;
+use window::ids::Place;
 
 // A redraw that goes through the places of the render order, lowest first: whether one was begun and is neither over nor dropped, the place of
 // its next window, and whether it is full. What the other two hold where none is on is not looked at.

@@ -1,6 +1,7 @@
 -- What everybody must believe of rectangles; then what our own functions say, and the limits.
 pub mod Questions
 pub mod Geom
+pub mod Rect16
 pub mod Lists
 pub mod Areas
 pub mod Nearest

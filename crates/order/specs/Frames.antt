@@ -5,17 +5,17 @@ use mathlib.Core.Bool.{Bool, true, false}
 use mathlib.Core.List.{List}
 use lib.ListN.{getD}
 use Rattle.geom.specs.declared.Rect.{Rect}
-use Rattle.window.specs.declared.damage.Area.{Area}
-use Rattle.window.specs.Held.{rectOf, noArea, Small}
-use Rattle.order.specs.declared.WinId.{WinId}
-use Rattle.order.specs.Order.{noId}
+use Rattle.geom.specs.declared.rect16.Rect16.{Rect16}
+use Rattle.geom.specs.Rect16.{rectOf, noRect16, Small}
+use Rattle.window.specs.declared.ids.WinId.{WinId}
+use Rattle.window.specs.Ids.{noId}
 
 -- the rectangle of window i
-abbrev pub frameAt : List Area → ℕ → Rect
-frameAt areas i = rectOf (getD areas i noArea)
+abbrev pub frameAt : List Rect16 → ℕ → Rect
+frameAt areas i = rectOf (getD areas i noRect16)
 
 -- the first n places of the order hold numbers of windows, whose rectangles pass question 5
-pub record Shown (areas : List Area) (order : List WinId) (n : ℕ) : Type 0 where
+pub record Shown (areas : List Rect16) (order : List WinId) (n : ℕ) : Type 0 where
   pub few : n ≤ 16
   pub low : (p : ℕ) → p < n → getD order p noId .0 < 16
   pub small : (i : ℕ) → i < 16 → Small (frameAt areas i)

@@ -5,7 +5,7 @@ use mathlib.Core.List.{List, map}
 use mathlib.Core.Option.{Option, none, some}
 use lib.Dec.{ltb}
 use lib.ListN.{take}
-use Rattle.order.specs.declared.WinId.{WinId}
+use Rattle.window.specs.declared.ids.WinId.{WinId}
 
 abbrev pub num : WinId → ℕ
 num i = i .0

@@ -5,14 +5,10 @@ use mathlib.Core.Bool.{Bool, false, cond}
 use mathlib.Core.List.{List, _++_}
 use mathlib.Core.Option.{Option, none, some}
 use lib.ListN.{length, getD, take, drop}
+use Rattle.window.specs.declared.ids.WinId.{WinId}
 use Rattle.rules.specs.Order.{isIn, placeOf}
-use Rattle.order.specs.declared.WinId.{WinId}
 use Rattle.order.specs.declared.RenderIdx.{RenderIdx}
 use Rattle.order.specs.declared.RenderIdx.the-variants.{At, Hidden}
-
--- what a read past the end of the order gives
-abbrev pub noId : WinId
-noId = record { 0 = 0 }
 
 -- the place of a window, which a hidden one has not
 abbrev pub idxOf : RenderIdx → Option ℕ

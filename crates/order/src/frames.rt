@@ -1,9 +1,9 @@
 // Where the windows are by their numbers, and which numbers are in use.
 ghost use Rattle.order.specs.Frames.{FirstFree};
-use window::damage::Area;
+use geom::rect16::Rect16;
 
 pub struct Frames {
-    pub areas: [Area; 16],
+    pub areas: [Rect16; 16],
     pub used: [bool; 16],
 }
 

@@ -6,23 +6,18 @@ ghost use Prim.Native.Nat.{ℕ, _-_, _≤_, _<_};
 ghost use mathlib.Core.Bool.{cond};
 ghost use lib.Dec.{eqb};
 ghost use lib.ListN.{getD};
+ghost use Rattle.window.specs.Ids.{noId};
 ghost use Rattle.order.specs.Ids.{ids};
-ghost use Rattle.order.specs.Order.{noId, idxOf, renderIdx, Closed, Marks};
+ghost use Rattle.order.specs.Order.{idxOf, renderIdx, Closed, Marks};
 use places::window_at;
 use places::with_window;
+use window::ids::Place;
+use window::ids::WinId;
 
 pub mod frames;
 pub mod layers;
 pub mod places;
 pub mod rects;
-
-// The number of a window, 0 to 15. Any other number is answered by 3.
-#[repr(C)]
-pub struct WinId(pub u32);
-
-// A place in the render order, 0 for the lowest window.
-#[repr(C)]
-pub struct Place(pub usize);
 
 // The place of a window in the render order, which a hidden window has not.
 pub enum RenderIdx {

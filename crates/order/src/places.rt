@@ -1,36 +1,10 @@
-// Places in the render order: those above and below, and the window at a place.
+// The window at a place in the render order.
 ghost use mathlib.Core.Path.{_≡_};
-ghost use Prim.Native.Nat.{_+_, _-_, _<_};
+ghost use Prim.Native.Nat.{_<_};
 ghost use lib.ListN.{getD, set};
-ghost use Rattle.order.specs.Order.{noId};
-use crate::Place;
-use crate::WinId;
-
-impl Place {
-    pub fn lowest() -> Place
-        ensures { λ p. ⌜ p .0 ≡ 0 ⌝ }
-    {
-        Place(0)
-    }
-
-    // The place above.
-    pub fn next(self) -> Place
-        requires { ⌜ self .0 < 16 ⌝ }
-        ensures { λ p. ⌜ p .0 ≡ self .0 + 1 ⌝ }
-    {
-        Place(self.0 + 1)
-    }
-
-    // The place below; the lowest has none, and is given back.
-    pub fn prev(self) -> Place
-        ensures { λ p. ⌜ p .0 ≡ self .0 - 1 ⌝ }
-    {
-        if self.0 == 0 {
-            return self;
-        }
-        Place(self.0 - 1)
-    }
-}
+ghost use Rattle.window.specs.Ids.{noId};
+use window::ids::Place;
+use window::ids::WinId;
 
 pub fn window_at(order: [WinId; 16], p: Place) -> WinId
     requires { ⌜ p .0 < 16 ⌝ }

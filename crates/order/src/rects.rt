@@ -6,11 +6,11 @@ ghost use Rattle.window.specs.Held.{rects, RepDamage};
 ghost use Rattle.order.specs.Ids.{ids};
 ghost use Rattle.order.specs.Frames.{frameAt, Shown};
 ghost use Rattle.order.specs.Rects.{Holds, Added, fullRect};
-use crate::Place;
-use crate::WinId;
 use geom::Rect;
-use window::damage::Area;
+use geom::rect16::Rect16;
 use window::damage::Damage;
+use window::ids::Place;
+use window::ids::WinId;
 
 pub struct Rects {
     pub numbers: [u32; 64],
@@ -57,7 +57,7 @@ impl Rects {
 }
 
 // The rectangles of the windows from a place on, lowest first.
-pub fn from(areas: [Area; 16], order: [WinId; 16], shown: usize, p: Place) -> Rects
+pub fn from(areas: [Rect16; 16], order: [WinId; 16], shown: usize, p: Place) -> Rects
     requires { ⌜ Shown areas order shown × (p .0 ≤ shown) ⌝ }
     ensures { λ r. ⌜ Holds r (map (frameAt areas) (drop (p .0) (ids shown order))) ⌝ }
 {

@@ -6,8 +6,8 @@ ghost use Rattle.windows.specs.View.{eventIn};
 ghost use Rattle.panel.specs.Press.{isPress};
 use geom::Dims;
 use geom::Rect;
-use order::WinId;
 use window::Event;
+use window::ids::WinId;
 use windows::NextEvent;
 use windows::Session;
 

@@ -7,13 +7,13 @@ use lib.Dec.{leb, eqb}
 use lib.ListN.{length, getD}
 use Rattle.geom.specs.Questions.{small}
 use Rattle.geom.specs.declared.Rect.{Rect}
-use Rattle.window.specs.declared.damage.Area.{Area}
+use Rattle.geom.specs.declared.rect16.Rect16.{Rect16}
+use Rattle.geom.specs.Rect16.{noRect16}
 use Rattle.window.specs.declared.damage.Damage.{Damage}
-use Rattle.window.specs.Held.{noArea}
+use Rattle.window.specs.Ids.{noId}
 use Rattle.rules.specs.Group.{win}
 use Rattle.rules.specs.Redraw.{drawWindow}
 use Rattle.rules.specs.Calls.{Redraw}
-use Rattle.order.specs.Order.{noId}
 use Rattle.order.specs.Rects.{Holds}
 use Rattle.due.specs.declared.Due.{Due}
 use Rattle.windows.specs.declared.Session.{Session}
@@ -24,7 +24,7 @@ use Rattle.station.specs.declared.redraw.RedrawPlan.{RedrawPlan}
 use Rattle.station.specs.declared.redraw.Cleared.{Cleared}
 
 -- the screen after a window is drawn that lies there and has this damage
-abbrev pub paintedAt : Bool → Area → Damage → Bool → ℕ → List Rect → List ℕ → ℕ → ℕ → List ℕ → List ℕ
+abbrev pub paintedAt : Bool → Rect16 → Damage → Bool → ℕ → List Rect → List ℕ → ℕ → ℕ → List ℕ → List ℕ
 paintedAt dim area damage =
     painted dim
     (record { queue = blank .queue; damage = damage; at = area; cursor = blank .cursor; used = true; marked = true })
@@ -37,7 +37,7 @@ pub record Flagged (full : Bool) (s : Session) (n : ℕ) (flags : List Bool) : T
 -- where the windows lie, which are drawn, and the rectangles of those shown, lowest first
 pub record LaidOut (s : Session) (full : Bool) (l : Layout) : Type 0 where
   pub size : length (l .areas) ≡ 16
-  pub at : (i : ℕ) → i < 16 → getD (l .areas) i noArea ≡ windowAt s i .at
+  pub at : (i : ℕ) → i < 16 → getD (l .areas) i noRect16 ≡ windowAt s i .at
   pub all : Holds (l .all) (map (λ i. win (group s) i .at) (group s .order))
   pub drawn : Flagged full s 16 (l .drawn)
   pub c : l .c ≡ s .shared .c

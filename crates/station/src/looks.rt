@@ -4,7 +4,7 @@ ghost use Rattle.windows.specs.View.{group, Given, Looks};
 ghost use Rattle.station.specs.Looks.{lookOf};
 use look::Look;
 use look::Zoom;
-use order::WinId;
+use window::ids::WinId;
 use windows::Session;
 
 // A corner, a factor, and whether the look fits the window into the target, in which case corner and factor are not read.

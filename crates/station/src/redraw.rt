@@ -5,22 +5,23 @@ ghost use mathlib.Core.Bool.{cond};
 ghost use Prim.Native.Nat.{_+_, _*_, _≤_, _<_};
 ghost use lib.Dec.{eqb};
 ghost use lib.ListN.{length, getD};
-ghost use Rattle.window.specs.Held.{rects, rectOf, Small, RepDamage};
+ghost use Rattle.geom.specs.Rect16.{rectOf, Small};
+ghost use Rattle.window.specs.Held.{rects, RepDamage};
+ghost use Rattle.window.specs.Ids.{noId};
 ghost use Rattle.rules.specs.Visible.{rectsOf};
 ghost use Rattle.rules.specs.Lent.{Lent};
-ghost use Rattle.order.specs.Order.{noId};
 ghost use Rattle.order.specs.Rects.{Holds, dirtyOf};
 ghost use Rattle.windows.specs.View.{Given};
 ghost use Rattle.station.specs.Redraw.{paintedAt, Flagged, LaidOut, PlansRedraw, SomeTurn, DrawsTurn, free};
 use due::Due;
 use due::Walk;
 use due::either;
-use order::Place;
-use order::WinId;
+use geom::rect16::Rect16;
 use order::rects;
 use order::rects::Rects;
-use window::damage::Area;
 use window::damage::Damage;
+use window::ids::Place;
+use window::ids::WinId;
 use windows::Session;
 use windows::inner::frames::frames;
 use windows::inner::redraw::screen_fits;
@@ -35,7 +36,7 @@ pub struct Order {
 // the rectangles of those shown, lowest first; C; whether the redraw is full, and whether dimming is on.
 #[repr(C)]
 pub struct Layout {
-    pub areas: [Area; 16],
+    pub areas: [Rect16; 16],
     pub all: Rects,
     pub drawn: [bool; 16],
     pub c: u32,
@@ -155,7 +156,7 @@ fn dirty_of(full: bool, d: Damage) -> Rects
 
 // Draws a window that lies there and has this damage, under n rectangles. Its pixels begin at `base` of the store.
 fn draw_area(
-    area: Area,
+    area: Rect16,
     damage: Damage,
     base: usize,
     above: &[u32],

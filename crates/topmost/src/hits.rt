@@ -11,8 +11,8 @@ ghost use Rattle.order.specs.Frames.{frameAt, Shown};
 ghost use Rattle.topmost.specs.Hits.{three, atPoint, Written, toNobody, answered, hitIn};
 use geom::Pos;
 use geom::Rect;
-use order::WinId;
-use window::damage::Area;
+use geom::rect16::Rect16;
+use window::ids::WinId;
 
 // The three numbers of point i.
 fn put(answers: &mut [u32], i: usize, id: u32, x: u32, y: u32)
@@ -66,7 +66,7 @@ fn look_all(id: WinId, r: Rect, points: &[u32], answers: &mut [u32], n: usize)
 
 // Each window is looked at once, the highest first; a point that a higher one has is passed over.
 pub fn hits(
-    areas: [Area; 16],
+    areas: [Rect16; 16],
     order: [WinId; 16],
     shown: usize,
     points: &[u32],

@@ -10,8 +10,8 @@ pub mod points;
 pub mod release;
 
 use geom::Pos;
-use order::WinId;
-use window::damage::Area;
+use geom::rect16::Rect16;
+use window::ids::WinId;
 
 pub enum Hit {
     Window(WinId),
@@ -19,7 +19,7 @@ pub enum Hit {
 }
 
 // The order is searched from its top down, as far as the first area that contains the point.
-pub fn topmost(areas: [Area; 16], order: [WinId; 16], shown: usize, x: u32, y: u32) -> Hit
+pub fn topmost(areas: [Rect16; 16], order: [WinId; 16], shown: usize, x: u32, y: u32) -> Hit
     requires { ⌜ Shown areas order shown ⌝ }
     ensures { λ r. ⌜ hitOf r ≡ topmostAt (frameAt areas) x y (ids shown order) none ⌝ }
 {

@@ -10,8 +10,8 @@ ghost use Rattle.topmost.specs.Topmost.{hitOf, takerAt};
 use crate::Hit;
 use crate::topmost;
 use geom::inner::is_empty;
-use order::WinId;
-use window::damage::Area;
+use geom::rect16::Rect16;
+use window::ids::WinId;
 
 // Who is remembered where no window is: an id that no window has.
 pub const NOBODY: WinId = WinId(16);
@@ -28,7 +28,7 @@ pub fn forget(held: WinId, id: WinId) -> WinId
 
 // The window `held`, if it is one and has pixels; else the topmost one at the point.
 pub fn taker(
-    areas: [Area; 16],
+    areas: [Rect16; 16],
     order: [WinId; 16],
     shown: usize,
     held: WinId,

@@ -9,7 +9,7 @@ use Rattle.geom.specs.declared.Rect.{Rect}
 use Rattle.geom.specs.Geom.{rect, left, top, width, height, isEmpty, contains}
 use Rattle.geom.specs.Inner.{Fits, Within}
 use Rattle.geom.specs.Lists.{outsideAll, relative, listIntersect, rectAt, anyHas}
-use Rattle.window.specs.Held.{Small}
+use Rattle.geom.specs.Rect16.{Small}
 use Rattle.rules.specs.Visible.{rectsOf}
 use Rattle.rules.specs.Redraw.{drawRegions}
 use Rattle.visible.specs.declared.region.View.{View}

@@ -7,7 +7,7 @@ ghost use lib.ListN.{length, drop};
 ghost use Rattle.geom.specs.Geom.{rect, width, height, isEmpty};
 ghost use Rattle.geom.specs.Inner.{Fits, Within};
 ghost use Rattle.geom.specs.Lists.{outsideAll, relative, listIntersect};
-ghost use Rattle.window.specs.Held.{Small};
+ghost use Rattle.geom.specs.Rect16.{Small};
 ghost use Rattle.rules.specs.Visible.{rectsOf};
 ghost use Rattle.rules.specs.Redraw.{drawRegions};
 ghost use Rattle.rules.specs.Lent.{Lent};

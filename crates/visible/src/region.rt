@@ -3,7 +3,7 @@ ghost use mathlib.Core.Path.{_≡_};
 ghost use mathlib.Core.Bool.{cond};
 ghost use Prim.Native.Nat.{_≤_};
 ghost use Rattle.geom.specs.Inner.{Within};
-ghost use Rattle.window.specs.Held.{Small};
+ghost use Rattle.geom.specs.Rect16.{Small};
 ghost use Rattle.rules.specs.Redraw.{drawRegion};
 ghost use Rattle.visible.specs.Seen.{Drawable, viewOf, own};
 use geom::Rect;

@@ -7,13 +7,13 @@ use mathlib.Core.List.{List, _++_, map}
 use lib.Dec.{ltb, eqb}
 use lib.ListN.{length, take, drop, getD}
 use Rattle.geom.specs.declared.Rect.{Rect}
-use Rattle.geom.specs.Geom.{rect, left, top, width, height, right, bottom}
+use Rattle.geom.specs.Geom.{right, bottom}
+use Rattle.geom.specs.Rect16.{Small, rectOf, noRect16, rect16Of}
 use Rattle.window.specs.declared.Event.{Event}
 use Rattle.window.specs.declared.Event.the-variants.{Resize, KeyDown, KeyUp, Text, MouseDown, MouseClick, MouseUp}
 use Rattle.window.specs.declared.CursorPos.{CursorPos}
 use Rattle.window.specs.declared.slots.Slot.{Slot}
 use Rattle.window.specs.declared.queue.Queue.{Queue}
-use Rattle.window.specs.declared.damage.Area.{Area}
 use Rattle.window.specs.declared.damage.Damage.{Damage}
 use Rattle.window.specs.declared.Window.{Window}
 use Rattle.window.specs.Window.{Win}
@@ -64,24 +64,10 @@ pub record RepCursor (p : CursorPos) : Type 0 where
 
 -- Damage ----------------------------------------------------------------------------------------------------------------
 
--- a rectangle that passes question 5
-pub record Small (r : Rect) : Type 0 where
-  pub left≤ : left r ≤ 32767
-  pub top≤ : top r ≤ 32767
-  pub width≤ : width r ≤ 32767
-  pub height≤ : height r ≤ 32767
-
 -- a rectangle whose sides fit 16 bits: small ones, and what merging makes of them
 pub record Low (r : Rect) : Type 0 where
   pub right≤ : right r ≤ 65534
   pub bottom≤ : bottom r ≤ 65534
-
-abbrev pub rectOf : Area → Rect
-rectOf a = rect (a .x) (a .y) (a .w) (a .h)
-
--- what the code reads past the end of the areas
-abbrev pub noArea : Area
-noArea = record { x = 0; y = 0; w = 0; h = 0 }
 
 -- the dirty entries in their order
 abbrev pub rects : Damage → List Rect
@@ -90,15 +76,11 @@ rects d = map rectOf (take (d .len) (d .areas))
 pub record RepDamage (d : Damage) : Type 0 where
   pub areas : length (d .areas) ≡ 16
   pub len : d .len ≤ 16
-  pub low : (i : ℕ) → i < d .len → Low (rectOf (getD (d .areas) i noArea))
-
--- the area that holds a rectangle
-abbrev pub areaOf : Rect → Area
-areaOf r = record { x = left r; y = top r; w = width r; h = height r }
+  pub low : (i : ℕ) → i < d .len → Low (rectOf (getD (d .areas) i noRect16))
 
 -- damage with these entries; past them the array is as it was
 abbrev pub withEntries : List Rect → Damage → Damage
-withEntries es d = record { areas = map areaOf es ++ drop (length es) (d .areas); len = length es }
+withEntries es d = record { areas = map rect16Of es ++ drop (length es) (d .areas); len = length es }
 
 -- The window ------------------------------------------------------------------------------------------------------------
 

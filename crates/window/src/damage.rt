@@ -6,27 +6,18 @@ ghost use Prim.Native.Nat.{_≤_};
 ghost use lib.Dec.{leb, ltb, eqb};
 ghost use Rattle.geom.specs.Geom.{rect, left, top, right, bottom, union};
 ghost use Rattle.geom.specs.Inner.{Fits};
+ghost use Rattle.geom.specs.Rect16.{Small, rectOf};
 ghost use Rattle.window.specs.Window as rule;
-ghost use Rattle.window.specs.Held.{Small, Low, rectOf, rects, RepDamage};
+ghost use Rattle.window.specs.Held.{Low, rects, RepDamage};
 ghost use Rattle.window.specs.Inner.{MergedInto, JoinedTo, Dirtied};
-use geom::Dims;
-use geom::Pos;
 use geom::Rect;
 use geom::inner;
+use geom::rect16::Rect16;
 
-// A rectangle in 16 bits each way. Also a merged entry's right and bottom sides fit: they are at most 65,534.
-#[repr(C)]
-pub struct Area {
-    pub x: u16,
-    pub y: u16,
-    pub w: u16,
-    pub h: u16,
-}
-
-// The dirty entries: the first `len` areas.
+// The dirty entries: the first `len` areas. The right and bottom sides of a merged one are at most 65,534.
 #[repr(C)]
 pub struct Damage {
-    pub areas: [Area; 16],
+    pub areas: [Rect16; 16],
     pub len: u8,
 }
 
@@ -37,34 +28,12 @@ pub struct Merged {
     pub done: bool,
 }
 
-impl Area {
-    pub fn new(x: u32, y: u32, w: u32, h: u32) -> Area
-        requires { ⌜ (x ≤ 65535) × (y ≤ 65535) × (w ≤ 65535) × (h ≤ 65535) ⌝ }
-        ensures { λ a. ⌜ rectOf a ≡ rect x y w h ⌝ }
-    {
-        Area {
-            x: x as u16,
-            y: y as u16,
-            w: w as u16,
-            h: h as u16,
-        }
-    }
-
-    pub fn rect(self) -> Rect
-        ensures { λ r. ⌜ r ≡ rectOf self ⌝ }
-    {
-        let pos = Pos::new(self.x as u32, self.y as u32);
-        let dims = Dims::new(self.w as u32, self.h as u32);
-        Rect::new_pd(pos, dims)
-    }
-}
-
 impl Damage {
     // No entry.
     pub fn none() -> Damage
         ensures { λ d. ⌜ (rects d ≡ []) × RepDamage d ⌝ }
     {
-        let blank = Area {
+        let blank = Rect16 {
             x: 0,
             y: 0,
             w: 0,
@@ -79,7 +48,7 @@ impl Damage {
         requires { ⌜ (w ≤ 32767) × (h ≤ 32767) ⌝ }
         ensures { λ d. ⌜ (rects d ≡ rect 0 0 w h ∷ []) × RepDamage d ⌝ }
     {
-        let all = Area::new(0, 0, w, h);
+        let all = Rect16::new(0, 0, w, h);
         let areas = [all; 16];
         Damage { areas, len: 1 }
     }
@@ -142,13 +111,13 @@ fn merges(e: Rect, a: Rect) -> bool
 }
 
 // The entry and the area as one.
-fn joined(e: Rect, area: Rect) -> Area
+fn joined(e: Rect, area: Rect) -> Rect16
     requires { ⌜ Low e × Small area ⌝ }
     ensures { λ j. ⌜ rectOf j ≡ union e area ⌝ }
 {
     // question 14 holds of both
     let u = e.union(area).rect;
-    Area::new(u.pos.x, u.pos.y, u.dims.w, u.dims.h)
+    Rect16::new(u.pos.x, u.pos.y, u.dims.w, u.dims.h)
 }
 
 // Does an entry contain the area?
@@ -199,13 +168,13 @@ fn append(mut d: Damage, w: u32, h: u32, area: Rect) -> Damage
 {
     let n = d.len;
     if n < 16 {
-        let last = Area::new(area.pos.x, area.pos.y, area.dims.w, area.dims.h);
+        let last = Rect16::new(area.pos.x, area.pos.y, area.dims.w, area.dims.h);
         let at = n as usize;
         d.areas[at] = last;
         d.len = n + 1;
         return d;
     }
-    let all = Area::new(0, 0, w, h);
+    let all = Rect16::new(0, 0, w, h);
     let mut only = d.areas;
     only[0] = all;
     Damage {

@@ -5,12 +5,13 @@ ghost use mathlib.Core.Path.{_≡_};
 ghost use mathlib.Core.Bool.{false};
 ghost use Rattle.window.specs.Window.{newWin};
 ghost use Rattle.window.specs.Held.{winOf, RepWindow};
-use damage::Area;
 use damage::Damage;
+use geom::rect16::Rect16;
 use queue::Queue;
 
 pub mod cursor;
 pub mod damage;
+pub mod ids;
 pub mod queue;
 pub mod slots;
 
@@ -60,7 +61,7 @@ pub struct CursorPos {
 pub struct Window {
     pub queue: Queue,
     pub damage: Damage,
-    pub at: Area,
+    pub at: Rect16,
     pub cursor: CursorPos,
     pub used: bool,
     pub marked: bool,
@@ -75,7 +76,7 @@ impl Window {
         let queue = Queue::new();
         let damage = Damage::none();
         let cursor = CursorPos::new();
-        let at = Area {
+        let at = Rect16 {
             x: 0,
             y: 0,
             w: 0,

@@ -10,9 +10,9 @@ use Rattle.window.specs.declared.Event.the-variants.{Resize}
 use Rattle.window.specs.declared.CursorPos.{CursorPos}
 use Rattle.window.specs.declared.slots.Slot.{Slot}
 use Rattle.window.specs.declared.Window.{Window}
+use Rattle.window.specs.declared.ids.WinId.{WinId}
 use Rattle.window.specs.Held.{place, noSlot, RepWindow}
 use Rattle.rules.specs.Calls.{Pop}
-use Rattle.order.specs.declared.WinId.{WinId}
 use Rattle.topmost.specs.Topmost.{nobody}
 use Rattle.windows.specs.declared.Session.{Session}
 use Rattle.windows.specs.declared.Shared.{Shared}

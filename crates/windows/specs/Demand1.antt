@@ -9,6 +9,7 @@ use mathlib.Core.Option.{some}
 use Rattle.geom.specs.Questions.{_is_, asked}
 use Rattle.geom.specs.Lists.{numbers}
 use Rattle.sheet.specs.declared.Count.{Count}
+use Rattle.window.specs.declared.ids.WinId.{WinId}
 use Rattle.look.specs.declared.Look as View
 use Rattle.rules.specs.Group.{Group, allowedC, fresh}
 use Rattle.rules.specs.Calls.{Call, Mark, Made, after}
@@ -16,7 +17,6 @@ use Rattle.rules.specs.Panels.{Write, callOf}
 use Rattle.rules.specs.Conditions.{lentStore, lentScreen}
 use Rattle.rules.specs.Demand1 as Rule
 use Rattle.rules.specs.Demand1.{questions, Query, queryQuestions, Reply, reply, refusal, locatedNumbers}
-use Rattle.order.specs.declared.WinId.{WinId}
 use Rattle.display.specs.Held.{locatedOf}
 use Rattle.windows.specs.declared.Session.{Session}
 use Rattle.windows.specs.declared.Done.{Done}

@@ -6,15 +6,16 @@ use mathlib.Core.Bool.{Bool, true, false, cond, _&&_}
 use mathlib.Core.List.{List}
 use lib.ListN.{length, getD}
 use Rattle.geom.specs.declared.Rect.{Rect}
+use Rattle.geom.specs.declared.rect16.Rect16.{Rect16}
+use Rattle.geom.specs.Rect16.{Small, rectOf}
 use Rattle.window.specs.declared.Window.{Window}
-use Rattle.window.specs.declared.damage.Area.{Area}
+use Rattle.window.specs.declared.ids.WinId.{WinId}
 use Rattle.window.specs.Window.{Win}
-use Rattle.window.specs.Held.{Small, rectOf, winOf, RepWindow}
+use Rattle.window.specs.Held.{winOf, RepWindow}
+use Rattle.window.specs.Ids.{noId}
 use Rattle.rules.specs.Group.{isMaximised}
 use Rattle.rules.specs.Displays.{updatedAt, withAt, taken, displayOf}
 use Rattle.rules.specs.Calls.{Maximise, UpdateDims, does}
-use Rattle.order.specs.declared.WinId.{WinId}
-use Rattle.order.specs.Order.{noId}
 use Rattle.display.specs.declared.dims.Moves.{Moves}
 use Rattle.display.specs.Dims.{place, takes}
 use Rattle.windows.specs.declared.Shared.{Shared}
@@ -72,7 +73,7 @@ abbrev pub Unmoved : Rect → Rect → Bool → Type 0
 Unmoved old at takes = (takes ≡ false) × (at ≡ old)
 
 -- window i of those that lay there, and of a session
-abbrev pub StaysAt : List Area → Moves → ℕ → Type 0
+abbrev pub StaysAt : List Rect16 → Moves → ℕ → Type 0
 StaysAt old m i = Unmoved (place old i) (place (m .areas) i) (takes m i)
 
 abbrev pub Stays : Session → Moves → ℕ → Type 0

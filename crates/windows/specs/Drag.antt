@@ -6,18 +6,19 @@ use mathlib.Core.List.{List, [], _∷_, _++_}
 use lib.Dec.{eqb}
 use lib.ListN.{length, set}
 use Rattle.geom.specs.declared.Rect.{Rect}
+use Rattle.geom.specs.declared.rect16.Rect16.{Rect16}
 use Rattle.geom.specs.Questions.{small}
 use Rattle.geom.specs.Geom.{meets}
+use Rattle.geom.specs.Rect16.{Small, rectOf}
 use Rattle.window.specs.declared.Window.{Window}
-use Rattle.window.specs.declared.damage.Area.{Area}
+use Rattle.window.specs.declared.ids.WinId.{WinId}
 use Rattle.window.specs.Window.{Win}
-use Rattle.window.specs.Held.{Small, rectOf, RepWindow}
+use Rattle.window.specs.Held.{RepWindow}
 use Rattle.rules.specs.Group.{win, movedTo}
 use Rattle.rules.specs.Order.{isIn, shown}
 use Rattle.rules.specs.Repair.{pending, repairedIn, whollyRepaired}
 use Rattle.rules.specs.Drag.{below, uncoveredArea, drag}
 use Rattle.due.specs.declared.Due.{Due}
-use Rattle.order.specs.declared.WinId.{WinId}
 use Rattle.order.specs.Ids.{ids}
 use Rattle.order.specs.Frames.{frameAt}
 use Rattle.windows.specs.declared.Shared.{Shared}
@@ -46,13 +47,13 @@ pub record InTurn (n : ℕ) (order : List WinId) (turns : List ℕ) : Type 0 whe
   pub list : ids n order ≡ turns
 
 -- of a shown window, at place p, where no full redraw is owed and no walk is on
-pub record TurnsOf (areas : List Area) (order : List WinId) (p id : ℕ) (old : Area) (t : Turns) : Type 0 where
+pub record TurnsOf (areas : List Rect16) (order : List WinId) (p id : ℕ) (old : Rect16) (t : Turns) : Type 0 where
   pub turns : InTurn (t .n) (t .order) (turnsOf true (frameAt areas) (rectOf old) id (ids p order))
   pub repairs : t .repairs ≡ true
   pub owes : t .owes ≡ false
 
 -- of any window: whether windows are repaired, and whether a full redraw is owed
-pub record TurnsIn (areas : List Area) (order : List WinId) (n : ℕ) (u : Due) (id : ℕ) (old : Area) (t : Turns) : Type 0 where
+pub record TurnsIn (areas : List Rect16) (order : List WinId) (n : ℕ) (u : Due) (id : ℕ) (old : Rect16) (t : Turns) : Type 0 where
   pub turns : InTurn (t .n) (t .order) (turnsOf (t .repairs) (frameAt areas) (rectOf old) id (below id (ids n order)))
   pub repairs : t .repairs ≡ isIn id (ids n order) && not (u .owed || u .walk .on)
   pub owes : t .owes ≡ isIn id (ids n order) && (u .owed || u .walk .on)

@@ -6,11 +6,12 @@ use mathlib.Core.List.{List, [], _∷_, map}
 use lib.ListN.{length, getD}
 use Rattle.geom.specs.declared.Rect.{Rect}
 use Rattle.geom.specs.Lists.{outsideAll, relative, listIntersect}
+use Rattle.geom.specs.Rect16.{rectOf}
 use Rattle.window.specs.declared.Window.{Window}
-use Rattle.window.specs.Held.{rectOf, rects}
+use Rattle.window.specs.Held.{rects}
+use Rattle.window.specs.Ids.{noId}
 use Rattle.rules.specs.Redraw.{none?, drawRegions, paid, cleanAll}
 use Rattle.rules.specs.Calls.{Call}
-use Rattle.order.specs.Order.{noId}
 use Rattle.windows.specs.declared.Shared.{Shared}
 use Rattle.windows.specs.declared.Session.{Session}
 use Rattle.windows.specs.declared.Done.{Done}

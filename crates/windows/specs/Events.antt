@@ -10,11 +10,11 @@ use Rattle.geom.specs.Questions.{_is_, asked}
 use Rattle.window.specs.declared.Window.{Window}
 use Rattle.window.specs.declared.Event.{Event}
 use Rattle.window.specs.declared.Event.the-variants.{Resize, KeyDown, KeyUp, KeyFire, Text, MouseMove, MouseDown, MouseClick, MouseUp}
+use Rattle.window.specs.declared.ids.WinId.{WinId}
 use Rattle.window.specs.Window.{Win, pushed, cursorTo}
 use Rattle.window.specs.Held.{winOf, RepWindow}
 use Rattle.window.specs.Inner.{Queued}
 use Rattle.rules.specs.Events.{withQueue, withCursor}
-use Rattle.order.specs.declared.WinId.{WinId}
 use Rattle.topmost.specs.Topmost.{nobody}
 use Rattle.windows.specs.declared.inner.events.Target.{Target}
 use Rattle.windows.specs.declared.inner.events.Target.the-variants.{Nobody, Focus, Point}

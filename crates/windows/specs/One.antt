@@ -5,8 +5,8 @@ use mathlib.Core.Bool.{Bool, true, false}
 use mathlib.Core.List.{List}
 use mathlib.Core.Option.{none, some}
 use lib.ListN.{set}
+use Rattle.geom.specs.declared.rect16.Rect16.{Rect16}
 use Rattle.window.specs.declared.Window.{Window}
-use Rattle.window.specs.declared.damage.Area.{Area}
 use Rattle.window.specs.declared.damage.Damage.{Damage}
 use Rattle.rules.specs.Group.{firstFree}
 use Rattle.rules.specs.Calls.{Call, Create}
@@ -40,7 +40,7 @@ pub record Held (id : ℕ) (w : Window) (k : Shared) : Type 0 where
   pub holds : Holds id w k session at
 
 -- some session holds a window with these fields, and shares this C
-pub record HeldAs (id : ℕ) (used : Bool) (at : Area) (damage : Damage) (c : ℕ) : Type 0 where
+pub record HeldAs (id : ℕ) (used : Bool) (at : Rect16) (damage : Damage) (c : ℕ) : Type 0 where
   pub window : Window
   pub shared : Shared
   pub held : Held id window shared
@@ -76,7 +76,7 @@ MeetsAlteredAt id u p w k r store =
     → MeetsAltered id u p s (written (put at (setDamage (r .damage) w) k s) (r .result)) store
 
 -- it is handed fields: the same of every window with these fields, in every session with this C
-abbrev pub MeetsAlteredAs : ℕ → Write → List ℕ → Bool → Area → Damage → ℕ → Painted → List ℕ → Type 0
+abbrev pub MeetsAlteredAs : ℕ → Write → List ℕ → Bool → Rect16 → Damage → ℕ → Painted → List ℕ → Type 0
 MeetsAlteredAs id u p used at damage c r store =
     (w : Window) (k : Shared) → w .used ≡ used → w .at ≡ at → w .damage ≡ damage → k .c ≡ c
     → MeetsAlteredAt id u p w k r store

@@ -5,12 +5,13 @@ use Prim.Native.Nat.{ℕ, _+_, _*_, _≤_}
 use mathlib.Core.Path.{_≡_}
 use mathlib.Core.List.{List}
 use Rattle.geom.specs.declared.Rect.{Rect}
+use Rattle.geom.specs.declared.rect16.Rect16.{Rect16}
+use Rattle.geom.specs.Rect16.{Small, rectOf}
 use Rattle.scanline.specs.Rows.{Counted}
 use Rattle.window.specs.declared.Window.{Window}
-use Rattle.window.specs.declared.damage.Area.{Area}
 use Rattle.window.specs.declared.damage.Damage.{Damage}
 use Rattle.window.specs.Window.{Win}
-use Rattle.window.specs.Held.{Small, rectOf, winOf, RepWindow}
+use Rattle.window.specs.Held.{winOf, RepWindow}
 use Rattle.window.specs.Inner.{PastAs}
 use Rattle.rules.specs.Store.{blitAt}
 use Rattle.windows.specs.declared.inner.store.Painted.{Painted}
@@ -26,7 +27,7 @@ abbrev pub setDamage : Damage → Window → Window
 setDamage d w = record { queue = w .queue; damage = d; at = w .at; cursor = w .cursor; used = w .used; marked = w .marked }
 
 -- the rows of a window at this place lie in a store of `len` pixels
-pub record RowsIn (len base : ℕ) (at : Area) : Type 0 where
+pub record RowsIn (len base : ℕ) (at : Rect16) : Type 0 where
   pub small : Small (rectOf at)
   pub room : base + at .w * at .h ≤ len
 
@@ -39,12 +40,12 @@ pub record Paints (w : Window) (rule : Win) (pixels p : List ℕ) (r : Painted) 
   pub answer : r .result .answer ≡ 0
 
 -- of every window with this place and this damage, by rules for the window and for its pixels
-abbrev pub PaintsAs : Area → Damage → (Win → Win) → (Win → List ℕ) → List ℕ → Painted → List ℕ → Type 0
+abbrev pub PaintsAs : Rect16 → Damage → (Win → Win) → (Win → List ℕ) → List ℕ → Painted → List ℕ → Type 0
 PaintsAs at damage f F p r store =
     (w : Window) → RepWindow w → w .at ≡ at → w .damage ≡ damage → Paints w (f (winOf w)) (F (winOf w)) p r store
 
 -- the pixels of a blit to every window at this place, n of which differ
-abbrev pub BlitsAs : ℕ → Area → Rect → List ℕ → ℕ → List ℕ → List ℕ → ℕ → Type 0
+abbrev pub BlitsAs : ℕ → Rect16 → Rect → List ℕ → ℕ → List ℕ → List ℕ → ℕ → Type 0
 BlitsAs base at a datum stride p store n =
     (w : Window) → w .at ≡ at → Counted (blitAt base (winOf w) a datum stride p) p store n
 

@@ -6,11 +6,11 @@ use mathlib.Core.List.{List, map}
 use lib.Dec.{eqb}
 use lib.ListN.{getD, set, drop}
 use Rattle.window.specs.declared.Window.{Window}
+use Rattle.window.specs.declared.ids.WinId.{WinId}
+use Rattle.window.specs.Ids.{noId}
 use Rattle.rules.specs.Group.{win, layer, giveLayer}
 use Rattle.rules.specs.Order.{hidden, toTop}
 use Rattle.rules.specs.Calls.{Call}
-use Rattle.order.specs.declared.WinId.{WinId}
-use Rattle.order.specs.Order.{noId}
 use Rattle.due.specs.declared.Due.{Due}
 use Rattle.order.specs.Rects.{Holds}
 use Rattle.due.specs.Due.{owing, further}

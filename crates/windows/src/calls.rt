@@ -26,8 +26,8 @@ use crate::inner::update;
 use geom::Dims;
 use geom::Pos;
 use geom::Rect;
-use order::WinId;
 use window::Event;
+use window::ids::WinId;
 use window::queue::back;
 use window::queue::front;
 

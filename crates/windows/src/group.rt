@@ -19,9 +19,9 @@ use due::Due;
 use due::Walk;
 use geom::Pos;
 use geom::Rect;
-use order::WinId;
 use topmost::release::NOBODY;
 use window::Window;
+use window::ids::WinId;
 
 impl Session {
     // A session with no window, for any C.

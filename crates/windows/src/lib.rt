@@ -15,10 +15,10 @@ use display::Displays;
 use display::Located;
 use due::Due;
 use geom::Rect;
-use order::WinId;
 use winbuf::Altered;
 use window::Event;
 use window::Window;
+use window::ids::WinId;
 
 mod calls;
 mod group;

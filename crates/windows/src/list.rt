@@ -7,11 +7,11 @@ ghost use Rattle.order.specs.Order.{renderIdx};
 use crate::Listing;
 use crate::Session;
 use crate::inner::frames::frames;
-use order::Place;
 use order::RenderIdx;
-use order::WinId;
 use order::get_render_idx;
 use order::rects;
+use window::ids::Place;
+use window::ids::WinId;
 
 impl Session {
     // The list of a window in use, which stands at a place of the order.

@@ -8,11 +8,11 @@ use crate::InView;
 use crate::Session;
 use crate::inner::frames::frames;
 use geom::inner::is_empty;
-use order::Place;
 use order::RenderIdx;
-use order::WinId;
 use order::get_render_idx;
 use order::rects;
+use window::ids::Place;
+use window::ids::WinId;
 
 impl Session {
     // The share of a window in use, which stands at a place of the order. Its pixels are at most C, so that 100 times as many are a number of 32 bits.

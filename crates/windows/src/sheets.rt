@@ -6,12 +6,12 @@ ghost use Rattle.order.specs.Ids.{ids};
 ghost use Rattle.order.specs.Order.{renderIdx};
 use crate::Session;
 use crate::inner::frames::frames;
-use order::Place;
 use order::RenderIdx;
-use order::WinId;
 use order::get_render_idx;
 use order::rects;
 use sheet::Count;
+use window::ids::Place;
+use window::ids::WinId;
 
 impl Session {
     // The sheet of a window in use, which stands at a place of the order, so that at most 15 windows are above it.

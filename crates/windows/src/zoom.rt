@@ -4,7 +4,7 @@ use crate::Session;
 use crate::inner::frames::frames;
 use look::Look;
 use look::look_window;
-use order::WinId;
+use window::ids::WinId;
 
 impl Session {
     // What a target of tw by th pixels shows of a window, shown or hidden: its pixel (i,j) is the window's at (x + i / factor, y + j / factor), or 0.

@@ -12,10 +12,10 @@ use borrow.Author.Tests.{lt-ltb, le-ltb, le-leb, lt-leb, ltb-true}
 use Rattle.geom.specs.declared.Rect.{Rect}
 use Rattle.geom.specs.Geom.{left, top, width, height, right, bottom}
 use Rattle.geom.specs.Lists.{anyHas}
+use Rattle.geom.specs.Rect16.{Small}
 use Rattle.geom.proofs.basics.Tests.{lt-or-le, fst, or-left, or-right}
 use Rattle.bands.specs.declared.scan.Made.{Made}
 use Rattle.sheet.specs.Sheet.{Span, Band, Sheet, inSpans, has, Apart, Proper, Bands, nothing, SpansFit, BandsFit}
-use Rattle.window.specs.Held.{Small}
 use Rattle.bands.specs.Above.{Alike, RunRows}
 use Rattle.sheet.specs.Numbers.{spansIn, countIn, bandIn, past, bandsIn, endIn}
 use Rattle.bands.specs.Scan.{uncovered, seenUnder, seenIn, RowMade, Scanned}

@@ -9,13 +9,13 @@ use lib.ListN.{length, take, set, length-set}
 use lib.Seq.{take-suc-set}
 use borrow.Author.Tests.{leb-true, le-leb, lt-ltb, le-ltb, not-true}
 use Rattle.geom.specs.declared.Rect.{Rect}
+use Rattle.geom.specs.declared.rect16.Rect16.{Rect16}
 use Rattle.geom.specs.Questions.{small}
 use Rattle.geom.specs.Geom.{right, smallRect, isEmpty}
+use Rattle.geom.specs.Rect16.{rectOf, noRect16}
 use Rattle.geom.proofs.basics.Tests.{Says, both, fst, snd}
 use Rattle.geom.proofs.basics.Lists.{set-in}
 use Rattle.geom.proofs.geometry.Facts.{solid}
-use Rattle.window.specs.declared.damage.Area.{Area}
-use Rattle.window.specs.Held.{rectOf, noArea}
 use Rattle.rules.specs.Displays.{onScreen, roomFor}
 use Rattle.display.specs.declared.Displays.{Displays}
 use Rattle.display.specs.declared.Added.{Added}
@@ -33,7 +33,7 @@ says-screen r = record {
 }
 
 module _ (d : Displays) (ok : RepDisplays d) (r : Rect) where
-  abbrev added : Area → Added
+  abbrev added : Rect16 → Added
   added a = record { displays = record { areas = set (d .areas) (d .len) a; len = d .len + 1 }; answer = 0 }
 
   has-room : d .len < 8 → roomFor (regions d) ≡ true
@@ -42,7 +42,7 @@ module _ (d : Displays) (ok : RepDisplays d) (r : Rect) where
   no-room : 8 ≤ d .len → roomFor (regions d) ≡ false
   no-room l = le-ltb (length (regions d)) 8 (omega (arith, count d ok))
 
-  pub adds : smallRect r ≡ true → onScreen r ≡ true → d .len < 8 → (a : Area) → rectOf a ≡ r → Adds d r (added a)
+  pub adds : smallRect r ≡ true → onScreen r ≡ true → d .len < 8 → (a : Rect16) → rectOf a ≡ r → Adds d r (added a)
   adds p q l a is =
       let size : d .len < length (d .areas) = omega (arith, ok .areas) in
       record {
@@ -54,7 +54,7 @@ module _ (d : Displays) (ok : RepDisplays d) (r : Rect) where
           record {
             areas = length-set (d .areas) (d .len) a ∙ ok .areas;
             len = omega arith;
-            each = λ i h. set-in (λ (b : Area). OnScreen (rectOf b)) (d .areas) (d .len) i a noArea (λ _. size)
+            each = λ i h. set-in (λ (b : Rect16). OnScreen (rectOf b)) (d .areas) (d .len) i a noRect16 (λ _. size)
                 (λ _. rw is (says-screen r .fact q)) (λ n. ok .each i (omega (arith, h, n)));
           },
         );

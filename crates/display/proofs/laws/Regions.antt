@@ -10,16 +10,16 @@ use Rattle.geom.specs.declared.Rect.{Rect}
 use Rattle.geom.specs.Geom.{isEmpty}
 use Rattle.geom.specs.Inner.{Fits}
 use Rattle.geom.specs.Displays.{answered, displayFor}
+use Rattle.geom.specs.Rect16.{Small, rectOf, noRect16}
 use Rattle.geom.proofs.basics.Tests.{is-false}
 use Rattle.geom.proofs.basics.Lists.{All, all-imp}
 use Rattle.geom.proofs.geometry.Facts.{says-empty}
 use Rattle.geom.proofs.geometry.Displays.{display-in}
-use Rattle.window.specs.Held.{Small, rectOf, noArea}
 use Rattle.display.specs.declared.Displays.{Displays}
 use Rattle.display.specs.Held.{regions, OnScreen, RepDisplays}
 
 abbrev pub region : Displays → ℕ → Rect
-region d i = rectOf (getD (d .areas) i noArea)
+region d i = rectOf (getD (d .areas) i noRect16)
 
 pub screen-fits : {r : Rect} → OnScreen r → Fits r
 screen-fits h = omega arith
@@ -31,7 +31,7 @@ pub screen-small : (r : Rect) → OnScreen r → Small r
 screen-small r h = omega arith
 
 -- what holds at each place of a list holds of every entry
-all-places : (P : Rect → Type 0) (ds : List Rect) → ((i : ℕ) → i < length ds → P (getD ds i (rectOf noArea))) → All P ds
+all-places : (P : Rect → Type 0) (ds : List Rect) → ((i : ℕ) → i < length ds → P (getD ds i (rectOf noRect16))) → All P ds
 all-places P [] h = tt
 all-places P (d ∷ ds) h = (h 0 (omega arith), all-places P ds (λ i l. h (suc i) (omega (arith, l))))
 
@@ -39,11 +39,11 @@ module _ (d : Displays) (ok : RepDisplays d) where
   pub count : length (regions d) ≡ d .len
   count = length-map (take (d .len) (d .areas)) rectOf ∙ length-take-le (d .len) (d .areas) (omega (arith, ok .areas, ok .len))
 
-  at : (i : ℕ) → i < d .len → getD (regions d) i (rectOf noArea) ≡ region d i
-  at i h = List·getD-map rectOf (take (d .len) (d .areas)) i noArea ∙ ap rectOf (getD-take (d .len) (d .areas) i noArea h)
+  at : (i : ℕ) → i < d .len → getD (regions d) i (rectOf noRect16) ≡ region d i
+  at i h = List·getD-map rectOf (take (d .len) (d .areas)) i noRect16 ∙ ap rectOf (getD-take (d .len) (d .areas) i noRect16 h)
 
   pub next : (i : ℕ) → i < d .len → drop i (regions d) ≡ region d i ∷ drop (suc i) (regions d)
-  next i h = drop-cons (regions d) i (rectOf noArea) (omega (arith, count)) ∙ ap (λ (r : Rect). r ∷ drop (suc i) (regions d)) (at i h)
+  next i h = drop-cons (regions d) i (rectOf noRect16) (omega (arith, count)) ∙ ap (λ (r : Rect). r ∷ drop (suc i) (regions d)) (at i h)
 
   pub last : (i : ℕ) → i ≡ d .len → drop i (regions d) ≡ []
   last i e =
@@ -51,7 +51,7 @@ module _ (d : Displays) (ok : RepDisplays d) where
       rw n (drop-length (regions d))
 
   pub longer : (i : ℕ) → i < d .len → take (suc i) (regions d) ≡ take i (regions d) ++ (region d i ∷ [])
-  longer i h = take-suc (regions d) i (rectOf noArea) (omega (arith, count)) ∙ ap (λ (r : Rect). take i (regions d) ++ (r ∷ [])) (at i h)
+  longer i h = take-suc (regions d) i (rectOf noRect16) (omega (arith, count)) ∙ ap (λ (r : Rect). take i (regions d) ++ (r ∷ [])) (at i h)
 
   pub all : (i : ℕ) → i ≡ d .len → take i (regions d) ≡ regions d
   all i e =

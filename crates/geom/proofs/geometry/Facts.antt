@@ -13,6 +13,7 @@ use Rattle.geom.specs.Geom.{left, top, width, height, right, bottom, isE
 use Rattle.geom.specs.Inner.{Fits, Within}
 use Rattle.geom.specs.Bare.{edgesFit}
 use Rattle.geom.specs.Lists.{anyHas}
+use Rattle.geom.specs.Rect16.{Small}
 use Rattle.geom.proofs.basics.Tests.{Says, says-and, says-or, says-not, says-eq, same, is-false, clash, both, fst, snd, nor-fst, nor-snd, lt-or-le}
 
 -- the pixel (x, y) is one of r's
@@ -71,6 +72,9 @@ says-within r w h = record { fact = λ t. search (fst, snd, leb-true); test = λ
 -- question 14
 pub says-fits : (r : Rect) → Says (edgesFit r) (Fits r)
 says-fits r = record { fact = λ h. search (fst, snd, leb-true); test = λ h. search (both, le-leb) }
+
+pub small-fits : (r : Rect) → Small r → Fits r
+small-fits r h = omega arith
 
 -- a pixel that a rectangle has not
 pub not-in : (r : Rect) (x y : ℕ) → (In r x y → ⊥) → contains r x y ≡ false

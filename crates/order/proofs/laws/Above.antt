@@ -8,14 +8,15 @@ use lib.Dec.{eqb, eqb·suc-zero}
 use lib.ListN.{length, getD, take, drop, length-map, length-drop, List·getD-map}
 use lib.Seq.{getD-take, getD-drop, length-take-le}
 use Rattle.geom.specs.declared.Rect.{Rect}
+use Rattle.geom.specs.declared.rect16.Rect16.{Rect16}
 use Rattle.geom.specs.Geom.{rect}
-use Rattle.window.specs.declared.damage.Area.{Area}
+use Rattle.geom.specs.Rect16.{rectOf, noRect16, Small}
 use Rattle.window.specs.declared.damage.Damage.{Damage}
-use Rattle.window.specs.Held.{rectOf, rects, noArea, Small, Low, RepDamage}
+use Rattle.window.specs.declared.ids.WinId.{WinId}
+use Rattle.window.specs.Held.{rects, Low, RepDamage}
+use Rattle.window.specs.Ids.{noId}
 use Rattle.rules.specs.Redraw.{none?}
-use Rattle.order.specs.declared.WinId.{WinId}
 use Rattle.order.specs.Ids.{ids}
-use Rattle.order.specs.Order.{noId}
 use Rattle.order.specs.Frames.{frameAt}
 use Rattle.order.specs.Rects.{Added}
 use Rattle.order.proofs.laws.Order.{ids-length, ids-at}
@@ -38,20 +39,20 @@ module _ (d : Damage) (rep : RepDamage d) where
   pub dirty-none : (l : List ℕ) → length l ≡ 64 → Filling (rects d) l 0
   dirty-none l n = fill-none (rects d) l (omega (arith, dirty-count, rep .len)) n
 
-  entry : (i : ℕ) → i < d .len → getD (rects d) i (rect 0 0 0 0) ≡ rectOf (getD (d .areas) i noArea)
-  entry i l = List·getD-map rectOf (take (d .len) (d .areas)) i noArea ∙ ap rectOf (getD-take (d .len) (d .areas) i noArea l)
+  entry : (i : ℕ) → i < d .len → getD (rects d) i (rect 0 0 0 0) ≡ rectOf (getD (d .areas) i noRect16)
+  entry i l = List·getD-map rectOf (take (d .len) (d .areas)) i noRect16 ∙ ap rectOf (getD-take (d .len) (d .areas) i noRect16 l)
 
-  pub dirty-next : {l : List ℕ} {i : ℕ} (m : List ℕ) → Filling (rects d) l i → i < d .len → Added i l (rectOf (getD (d .areas) i noArea)) m → Filling (rects d) m (i + 1)
+  pub dirty-next : {l : List ℕ} {i : ℕ} (m : List ℕ) → Filling (rects d) l i → i < d .len → Added i l (rectOf (getD (d .areas) i noRect16)) m → Filling (rects d) m (i + 1)
   dirty-next {i = i} m q less a =
-      let low : Low (rectOf (getD (d .areas) i noArea)) = rep .low i less in
-      fill-next q (rect 0 0 0 0) (rectOf (getD (d .areas) i noArea)) m (omega (arith, dirty-count)) (entry i less) (omega arith) a
+      let low : Low (rectOf (getD (d .areas) i noRect16)) = rep .low i less in
+      fill-next q (rect 0 0 0 0) (rectOf (getD (d .areas) i noRect16)) m (omega (arith, dirty-count)) (entry i less) (omega arith) a
 
 -- The windows from a place on ----------------------------------------------------------------------------------------
 
-abbrev pub framesFrom : List Area → List WinId → ℕ → ℕ → List Rect
+abbrev pub framesFrom : List Rect16 → List WinId → ℕ → ℕ → List Rect
 framesFrom areas order n f = map (frameAt areas) (drop f (ids n order))
 
-module _ (areas : List Area) (order : List WinId) (n f : ℕ) (size : length order ≡ 16) (few : n ≤ 16) where
+module _ (areas : List Rect16) (order : List WinId) (n f : ℕ) (size : length order ≡ 16) (few : n ≤ 16) where
   pub tall : length (framesFrom areas order n f) ≡ n - f
   tall =
       length-map (drop f (ids n order)) (frameAt areas)

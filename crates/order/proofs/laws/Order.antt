@@ -13,12 +13,13 @@ use lib.ListN.{length, getD, set, take, drop, length-map, length-take, length-se
 use lib.Seq.{drop-cons, getD-take, length-take-le, take-take, take-suc, take-suc-set, drop-append-le}
 use borrow.Author.Tests.{eq-eqb}
 use Rattle.geom.proofs.basics.Tests.{clash, lt-or-le, or-right}
+use Rattle.window.specs.declared.ids.WinId.{WinId}
+use Rattle.window.specs.Ids.{noId}
 use Rattle.rules.specs.Order.{isIn, placeOf, without}
 use Rattle.rules.proofs.group.Order.{isIn-here}
 use Rattle.rules.proofs.group.Room.{shown-place, hidden-place}
-use Rattle.order.specs.declared.WinId.{WinId}
 use Rattle.order.specs.Ids.{num, ids}
-use Rattle.order.specs.Order.{noId, renderIdx, Closed}
+use Rattle.order.specs.Order.{renderIdx, Closed}
 use Rattle.order.specs.Layers.{firstOf}
 
 pub ids-length : (n : ℕ) (l : List WinId) → n ≤ length l → length (ids n l) ≡ n

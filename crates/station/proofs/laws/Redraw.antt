@@ -13,15 +13,18 @@ use lib.ListN.{length, getD, set, take, drop, length-set, length-map, length-dro
 use lib.Seq.{drop-cons, getD-set-same, getD-set-other, set-set}
 use borrow.Author.Tests.{leb-true, eqb-true, eq-eqb, ne-eqb}
 use Rattle.geom.specs.declared.Rect.{Rect}
+use Rattle.geom.specs.declared.rect16.Rect16.{Rect16}
 use Rattle.geom.specs.Questions.{small}
 use Rattle.geom.specs.Lists.{outsideAll, relative, listIntersect}
+use Rattle.geom.specs.Rect16.{rectOf, noRect16, Small}
 use Rattle.geom.proofs.basics.Tests.{fst, snd, nor-snd}
 use Rattle.geom.proofs.basics.Lists.{set-in}
 use Rattle.window.specs.declared.Window.{Window}
-use Rattle.window.specs.declared.damage.Area.{Area}
 use Rattle.window.specs.declared.damage.Damage.{Damage}
+use Rattle.window.specs.declared.ids.WinId.{WinId}
 use Rattle.window.specs.Window.{Win}
-use Rattle.window.specs.Held.{rectOf, rects, noArea, Small, RepDamage}
+use Rattle.window.specs.Held.{rects, RepDamage}
+use Rattle.window.specs.Ids.{noId}
 use Rattle.rules.specs.Group.{win, setWin}
 use Rattle.rules.specs.Order.{above}
 use Rattle.rules.specs.Visible.{rectsOf}
@@ -31,8 +34,6 @@ use Rattle.rules.specs.Store.{whole}
 use Rattle.rules.specs.Calls.{Redraw, does}
 use Rattle.rules.specs.Lent.{Lent}
 use Rattle.due.specs.declared.Due.{Due}
-use Rattle.order.specs.declared.WinId.{WinId}
-use Rattle.order.specs.Order.{noId}
 use Rattle.order.specs.Rects.{dirtyOf}
 use Rattle.windows.specs.declared.Session.{Session}
 use Rattle.windows.specs.View.{group, blank, windowAt, done, Rep, Given, MeetsScreen}
@@ -66,7 +67,7 @@ or-true true b e = refl
 or-true false b e = e
 
 -- what is lent to `draw` gives the screen that the rule says
-pub area-drawn : (dim : Bool) (a : Area) (d : Damage) (full : Bool) (base : ℕ) (bs : List Rect) (store : List ℕ) (sw sh : ℕ) (screen : List ℕ) (r : Rect)
+pub area-drawn : (dim : Bool) (a : Rect16) (d : Damage) (full : Bool) (base : ℕ) (bs : List Rect) (store : List ℕ) (sw sh : ℕ) (screen : List ℕ) (r : Rect)
     (ds : List Rect) (screen′ : List ℕ) → Small (rectOf a) → r ≡ rectOf a → ds ≡ dirtyOf full (rects d)
     → screen′ ≡ drawRegions dim r base store sw sh (listIntersect (map (relative r) (outsideAll (r ∷ []) bs)) ds) screen
     → screen′ ≡ paintedAt dim a d full base bs store sw sh screen
@@ -106,14 +107,14 @@ module _ {s : Session} {damage : Damage} {l : Layout} {at p : ℕ} (o : OnTurn s
   pub count : l .all .len ≡ s .shared .shown
   count = o .laid .all .count ∙ length-map (group s .order) (λ j. win (group s) j .at) ∙ order-length s h
 
-  area-is : getD (l .areas) at noArea ≡ windowAt s (v .0) .at
+  area-is : getD (l .areas) at noRect16 ≡ windowAt s (v .0) .at
   area-is = o .laid .at at low ∙ ap (λ (k : ℕ). windowAt s k .at) (o .number)
 
   damage-is : damage ≡ windowAt s (v .0) .damage
   damage-is = o .damaged ∙ ap (λ (k : ℕ). windowAt s k .damage) (o .number)
 
-  pub area-small : Small (rectOf (getD (l .areas) at noArea))
-  area-small = subst (λ (a : Area). Small (rectOf a)) (sym area-is) (h .rep .each (v .0) (id-low s h p (o .within) v refl) .at)
+  pub area-small : Small (rectOf (getD (l .areas) at noRect16))
+  area-small = subst (λ (a : Rect16). Small (rectOf a)) (sym area-is) (h .rep .each (v .0) (id-low s h p (o .within) v refl) .at)
 
   pub damage-rep : RepDamage damage
   damage-rep = subst RepDamage (sym damage-is) (h .rep .each (v .0) (id-low s h p (o .within) v refl) .damage)
@@ -122,10 +123,10 @@ module _ {s : Session} {damage : Damage} {l : Layout} {at p : ℕ} (o : OnTurn s
   lent-behind = subst (λ (n : ℕ). Lent (n - p - 1) (behind p (l .all .numbers))) (sym count) (all-lent s h p (o .within) v refl (l .all) (o .laid .all))
 
   -- its pixels lie in the store
-  pub in-room : (a : Area) → a ≡ getD (l .areas) at noArea → (n : ℕ) → n ≡ 16 * s .shared .c → at * l .c + a .w * a .h ≤ n
+  pub in-room : (a : Rect16) → a ≡ getD (l .areas) at noRect16 → (n : ℕ) → n ≡ 16 * s .shared .c → at * l .c + a .w * a .h ≤ n
   in-room a e n whole =
-      let w : Area = windowAt s (v .0) .at in
-      subst (λ (x : Area). at * l .c + x .w * x .h ≤ n) (sym (e ∙ area-is))
+      let w : Rect16 = windowAt s (v .0) .at in
+      subst (λ (x : Rect16). at * l .c + x .w * x .h ≤ n) (sym (e ∙ area-is))
       (subst (λ (m : ℕ). at * l .c + w .w * w .h ≤ m) (sym whole)
       (subst (λ (i : ℕ). i * l .c + w .w * w .h ≤ 16 * s .shared .c) (sym (o .number))
       (subst (λ (c : ℕ). v .0 * c + w .w * w .h ≤ 16 * s .shared .c) (sym (o .laid .c)) (in-store s h p (o .within) v refl))))
@@ -152,8 +153,8 @@ module _ {s : Session} {damage : Damage} {l : Layout} {at p : ℕ} (o : OnTurn s
         rw t
 
     -- one that is
-    module _ (a : Area) (placed : a ≡ getD (l .areas) at noArea) where
-      abbrev paint : Bool → Area → Damage → ℕ → ℕ → List ℕ
+    module _ (a : Rect16) (placed : a ≡ getD (l .areas) at noRect16) where
+      abbrev paint : Bool → Rect16 → Damage → ℕ → ℕ → List ℕ
       paint dim x d base n = paintedAt dim x d (l .full) base (rectsOf (n - p - 1) (behind p (l .all .numbers))) store sw sh screen
 
       pub is-drawn : getD (l .drawn) at false ≡ true → (screen′ : List ℕ)

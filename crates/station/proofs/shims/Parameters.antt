@@ -22,8 +22,8 @@ use Rattle.display.proofs.Displays as Displays
 use Rattle.display.proofs.Displays.Laws as Displays′
 use Rattle.display.proofs.Added as Added
 use Rattle.display.proofs.Added.Laws as Added′
-use Rattle.order.proofs.WinId as WinId
-use Rattle.order.proofs.WinId.Laws as WinId′
+use Rattle.window.proofs.ids.WinId as WinId
+use Rattle.window.proofs.ids.WinId.Laws as WinId′
 use Rattle.windows.specs.View.{blank}
 use Rattle.windows.proofs.Session as Session
 use Rattle.windows.proofs.Session.Laws as Session′

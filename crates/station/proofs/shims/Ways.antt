@@ -10,8 +10,8 @@ use denote.Struct.Declared.{fields}
 use denote.Struct.Struct.{AreAll}
 use Rattle.window.proofs.Window as Window
 use Rattle.window.proofs.Window.Laws as Window′
-use Rattle.window.proofs.damage.Area as Area
-use Rattle.window.proofs.damage.Area.Laws as Area′
+use Rattle.geom.proofs.rect16.Rect16 as Rect16
+use Rattle.geom.proofs.rect16.Rect16.Laws as Rect16′
 use Rattle.window.proofs.damage.Damage as Damage
 use Rattle.window.proofs.damage.Damage.Laws as Damage′
 use Rattle.window.proofs.queue.Queue as Queue
@@ -32,7 +32,7 @@ abbrev pub small : Plain
 small = ofField u8-field Laws.u8-laws Laws.u8-plain (tyInt w8) refl
 
 abbrev pub area : Plain
-area = ofStruct Area.the-type Area′.the-laws Area′.the-plain Area′.mir refl
+area = ofStruct Rect16.the-type Rect16′.the-laws Rect16′.the-plain Rect16′.mir refl
 
 abbrev pub damage : Plain
 damage = ofStruct Damage.the-type Damage′.the-laws Damage′.the-plain Damage′.mir refl

@@ -12,10 +12,10 @@ use borrow.Author.Tests.{ne-eqb}
 use Rattle.geom.specs.declared.Rect.{Rect}
 use Rattle.geom.specs.Geom.{left, top, contains}
 use Rattle.geom.proofs.basics.Tests.{on-cond}
+use Rattle.window.specs.declared.ids.WinId.{WinId}
+use Rattle.window.specs.Ids.{noId}
 use Rattle.rules.specs.Hits.{hitBy, eachPoint}
-use Rattle.order.specs.declared.WinId.{WinId}
 use Rattle.order.specs.Ids.{ids}
-use Rattle.order.specs.Order.{noId}
 use Rattle.topmost.specs.Topmost.{topmostAt}
 use Rattle.topmost.specs.Hits.{three, atPoint, Written, toNobody, answered, hitIn}
 use Rattle.order.proofs.laws.Order.{ids-length, ids-at, ids-from}

@@ -8,9 +8,9 @@ use native.Mathlib.Omega.{arith}
 use lib.ListN.{length, getD}
 use Rattle.geom.specs.declared.Rect.{Rect}
 use Rattle.geom.specs.Geom.{contains}
-use Rattle.order.specs.declared.WinId.{WinId}
+use Rattle.window.specs.declared.ids.WinId.{WinId}
+use Rattle.window.specs.Ids.{noId}
 use Rattle.order.specs.Ids.{ids}
-use Rattle.order.specs.Order.{noId}
 use Rattle.topmost.specs.Topmost.{topmostAt}
 use Rattle.order.proofs.laws.Order.{ids-snoc}
 

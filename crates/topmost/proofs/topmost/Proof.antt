@@ -7,8 +7,8 @@ use Rattle.geom.specs.declared.Rect.{Rect}
 use Rattle.geom.specs.Geom.{contains}
 use Rattle.geom.specs.Inner.{Fits}
 use Rattle.geom.proofs.geometry.Answers.{contains-is}
-use Rattle.window.proofs.laws.Entries.{small-fits}
-use Rattle.order.specs.Order.{noId}
+use Rattle.geom.proofs.geometry.Facts.{small-fits}
+use Rattle.window.specs.Ids.{noId}
 use Rattle.order.specs.Frames.{frameAt}
 use Rattle.topmost.proofs.laws.Topmost.{Seeking, seek, gone, hit, miss}
 use borrow.Author.Needs.{needs}

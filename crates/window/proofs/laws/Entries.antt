@@ -10,15 +10,16 @@ use lib.ListN.{length, getD, set, take, drop, length-set, length-map, length-app
 use lib.Seq.{drop-cons, drop-length, take-length, take-suc, append-snoc, getD-take, length-take-le, take-set-lt, take-suc-set, drop-set-lt, set-split}
 use borrow.Author.Tests.{le-leb, lt-leb}
 use Rattle.geom.specs.declared.Rect.{Rect}
+use Rattle.geom.specs.declared.rect16.Rect16.{Rect16}
 use Rattle.geom.specs.Geom.{rect, isEmpty, containsRect, union}
 use Rattle.geom.specs.Inner.{Fits}
+use Rattle.geom.specs.Rect16.{Small, rectOf, noRect16, rect16Of}
 use Rattle.geom.proofs.basics.Tests.{clash}
 use Rattle.geom.proofs.basics.Lists.{set-in, set-case, map-set}
-use Rattle.window.specs.declared.damage.Area.{Area}
 use Rattle.window.specs.declared.damage.Damage.{Damage}
 use Rattle.window.specs.declared.damage.Merged.{Merged}
 use Rattle.window.specs.Window.{anyContains, merges, mergeOrAppend, addDirty}
-use Rattle.window.specs.Held.{Small, Low, rectOf, noArea, rects, RepDamage, areaOf, withEntries}
+use Rattle.window.specs.Held.{Low, rects, RepDamage, withEntries}
 use Rattle.window.specs.Inner.{PastAs, MergedInto, atMost16, JoinedTo, Dirtied}
 
 -- Rectangles in 16 bits ----------------------------------------------------------------------------------------------
@@ -29,9 +30,6 @@ small-low r h = omega arith
 pub low-fits : (r : Rect) → Low r → Fits r
 low-fits r h = omega arith
 
-pub small-fits : (r : Rect) → Small r → Fits r
-small-fits r h = omega arith
-
 pub low-union : (e a : Rect) → Low e → Small a → Low (union e a)
 unfolding union
 low-union e a l h = omega arith
@@ -39,17 +37,17 @@ low-union e a l h = omega arith
 -- The entries --------------------------------------------------------------------------------------------------------
 
 abbrev pub entry : Damage → ℕ → Rect
-entry d i = rectOf (getD (d .areas) i noArea)
+entry d i = rectOf (getD (d .areas) i noRect16)
 
 module _ (d : Damage) (ok : RepDamage d) where
   pub rects-count : length (rects d) ≡ d .len
   rects-count = length-map (take (d .len) (d .areas)) rectOf ∙ length-take-le (d .len) (d .areas) (omega (arith, ok .areas, ok .len))
 
-  at : (i : ℕ) → i < d .len → getD (rects d) i (rectOf noArea) ≡ entry d i
-  at i h = List·getD-map rectOf (take (d .len) (d .areas)) i noArea ∙ ap rectOf (getD-take (d .len) (d .areas) i noArea h)
+  at : (i : ℕ) → i < d .len → getD (rects d) i (rectOf noRect16) ≡ entry d i
+  at i h = List·getD-map rectOf (take (d .len) (d .areas)) i noRect16 ∙ ap rectOf (getD-take (d .len) (d .areas) i noRect16 h)
 
   next : (i : ℕ) → i < d .len → drop i (rects d) ≡ entry d i ∷ drop (suc i) (rects d)
-  next i h = drop-cons (rects d) i (rectOf noArea) (omega (arith, rects-count)) ∙ ap (λ (e : Rect). e ∷ drop (suc i) (rects d)) (at i h)
+  next i h = drop-cons (rects d) i (rectOf noRect16) (omega (arith, rects-count)) ∙ ap (λ (e : Rect). e ∷ drop (suc i) (rects d)) (at i h)
 
   last : (i : ℕ) → i ≡ d .len → drop i (rects d) ≡ []
   last i e =
@@ -65,15 +63,15 @@ module _ (d : Damage) (ok : RepDamage d) where
 pub all-of : (d r : Damage) → RepDamage r → PastAs d r → r ≡ withEntries (rects r) d
 all-of d r ok e =
     let n : r .len ≡ length (rects r) = sym (rects-count r ok) in
-    let areas : r .areas ≡ map areaOf (rects r) ++ drop (length (rects r)) (d .areas) =
+    let areas : r .areas ≡ map rect16Of (rects r) ++ drop (length (rects r)) (d .areas) =
     sym (take-append-drop (r .len) (r .areas))
     ∙ (λ i. areas-again (take (r .len) (r .areas)) i ++ e i)
-    ∙ ap (λ (k : ℕ). map areaOf (rects r) ++ drop k (d .areas)) n in
+    ∙ ap (λ (k : ℕ). map rect16Of (rects r) ++ drop k (d .areas)) n in
     λ i. record { areas = areas i; len = n i }
   where
-    areas-again : (l : List Area) → l ≡ map areaOf (map rectOf l)
+    areas-again : (l : List Rect16) → l ≡ map rect16Of (map rectOf l)
     areas-again [] = refl
-    areas-again (x ∷ l) = ap (λ (m : List Area). x ∷ m) (areas-again l)
+    areas-again (x ∷ l) = ap (λ (m : List Rect16). x ∷ m) (areas-again l)
 
 -- Does an entry contain the area? ------------------------------------------------------------------------------------
 
@@ -146,11 +144,11 @@ module _ {d : Damage} {a : Rect} {n : ℕ} {now : Damage} {done : Bool} {i : ℕ
             here h e
             ∙ sym (append-snoc (take i (rects d)) (entry d i) rest)
             ∙ ap (λ (x : Rect). (take i (rects d) ++ (x ∷ [])) ++ rest) (sym (at d (q .ok) i l))
-            ∙ ap (λ (m : List Rect). m ++ rest) (sym (take-suc (rects d) i (rectOf noArea) (omega (arith, rects-count d (q .ok)))))
+            ∙ ap (λ (m : List Rect). m ++ rest) (sym (take-suc (rects d) i (rectOf noRect16) (omega (arith, rects-count d (q .ok)))))
             ∙ ap (λ (k : ℕ). take k (rects d) ++ mergeOrAppend (drop k (rects d)) a) (sym (add-one i));
       }
 
-  pub merge-hit : i < n → merges (entry now i) a ≡ true → (v : Area) → rectOf v ≡ union (entry now i) a
+  pub merge-hit : i < n → merges (entry now i) a ≡ true → (v : Rect16) → rectOf v ≡ union (entry now i) a
       → MergedInto d a (record { damage = record { areas = set (now .areas) i v; len = now .len }; done = true })
   merge-hit h e v is =
       let l : i < d .len = omega (arith, q .count-is) in
@@ -163,7 +161,7 @@ module _ {d : Damage} {a : Rect} {n : ℕ} {now : Damage} {done : Bool} {i : ℕ
               len = q .ok .len;
               low =
                   λ j k.
-                  set-case (λ (x : Area). Low (rectOf x)) (d .areas) i j v noArea
+                  set-case (λ (x : Rect16). Low (rectOf x)) (d .areas) i j v noRect16
                   (λ _. subst Low (sym u) (low-union (entry d i) a (q .ok .low i l) (q .small))) (q .ok .low j k);
             };
         past = drop-set-lt (d .len) (d .areas) i v l;
@@ -196,14 +194,14 @@ module _ {d : Damage} {a : Rect} {n : ℕ} {now : Damage} {done : Bool} {i : ℕ
 
 -- The area added -----------------------------------------------------------------------------------------------------
 
-pub one-entry : (v : Area) (r : Rect) → rectOf v ≡ r → Low r
+pub one-entry : (v : Rect16) (r : Rect) → rectOf v ≡ r → Low r
     → (rects (record { areas = replicate 16 v; len = 1 }) ≡ r ∷ []) × RepDamage (record { areas = replicate 16 v; len = 1 })
 one-entry v r e l = (
   ap (λ (x : Rect). x ∷ []) e,
   record {
     areas = refl;
     len = omega arith;
-    low = λ i h. rw (getD-replicate 16 i v noArea (omega arith)) (subst Low (sym e) l);
+    low = λ i h. rw (getD-replicate 16 i v noRect16 (omega arith)) (subst Low (sym e) l);
   },
 )
 
@@ -211,7 +209,7 @@ module _ (w h : ℕ) (d : Damage) (a : Rect) (ok : RepDamage d) where
   longer : length (rects d ++ (a ∷ [])) ≡ d .len + 1
   longer = length-append (rects d) (a ∷ []) ∙ ap (λ (k : ℕ). k + 1) (rects-count d ok)
 
-  pub joins-last : d .len < 16 → Small a → (v : Area) → rectOf v ≡ a
+  pub joins-last : d .len < 16 → Small a → (v : Rect16) → rectOf v ≡ a
       → JoinedTo w h d a (record { areas = set (d .areas) (d .len) v; len = d .len + 1 })
   joins-last l small v e =
       record {
@@ -221,7 +219,7 @@ module _ (w h : ℕ) (d : Damage) (a : Rect) (ok : RepDamage d) where
               len = omega arith;
               low =
                   λ j k.
-                  set-in (λ (x : Area). Low (rectOf x)) (d .areas) (d .len) j v noArea (λ _. omega (arith, ok .areas))
+                  set-in (λ (x : Rect16). Low (rectOf x)) (d .areas) (d .len) j v noRect16 (λ _. omega (arith, ok .areas))
                   (λ _. subst Low (sym e) (small-low a small)) (λ n. ok .low j (omega arith));
             };
         past = drop-set-lt (d .len + 1) (d .areas) (d .len) v (omega arith);
@@ -230,7 +228,7 @@ module _ (w h : ℕ) (d : Damage) (a : Rect) (ok : RepDamage d) where
             (map-append rectOf (take (d .len) (d .areas)) (v ∷ []) ∙ ap (λ (x : Rect). rects d ++ (x ∷ [])) e);
       }
 
-  pub joins-all : 16 ≤ d .len → w ≤ 32767 → h ≤ 32767 → (v : Area) → rectOf v ≡ rect 0 0 w h → JoinedTo w h d a (record { areas = set (d .areas) 0 v; len = 1 })
+  pub joins-all : 16 ≤ d .len → w ≤ 32767 → h ≤ 32767 → (v : Rect16) → rectOf v ≡ rect 0 0 w h → JoinedTo w h d a (record { areas = set (d .areas) 0 v; len = 1 })
   joins-all l p q v e =
       record {
         rep =
@@ -239,7 +237,7 @@ module _ (w h : ℕ) (d : Damage) (a : Rect) (ok : RepDamage d) where
               len = omega arith;
               low =
                   λ j k.
-                  set-in (λ (x : Area). Low (rectOf x)) (d .areas) 0 j v noArea (λ _. omega (arith, ok .areas))
+                  set-in (λ (x : Rect16). Low (rectOf x)) (d .areas) 0 j v noRect16 (λ _. omega (arith, ok .areas))
                   (λ _. subst Low (sym e) (omega arith)) (λ n. absurd (omega arith));
             };
         past = drop-set-lt 1 (d .areas) 0 v (omega arith);

@@ -8,19 +8,19 @@ use mathlib.Core.Option.{some, Option·none-ne-some}
 use native.Mathlib.Omega.{arith}
 use borrow.Author.Tests.{leb-true}
 use Rattle.geom.specs.declared.Rect.{Rect}
+use Rattle.geom.specs.declared.rect16.Rect16.{Rect16}
 use Rattle.geom.specs.Questions.{small}
 use Rattle.geom.specs.Geom.{left, top}
 use Rattle.geom.proofs.basics.Tests.{clash, fst, snd}
 use Rattle.geom.proofs.geometry.Facts.{In}
 use Rattle.window.specs.declared.Event.{Event}
-use Rattle.window.specs.declared.damage.Area.{Area}
 use Rattle.window.specs.declared.Window.{Window}
+use Rattle.window.specs.declared.ids.WinId.{WinId}
 use Rattle.window.specs.Window.{Win}
 use Rattle.rules.specs.Group.{win}
 use Rattle.rules.specs.Order.{shown}
 use Rattle.geom.specs.Nearest.{nearestX, nearestY}
 use Rattle.rules.specs.Calls.{Route, does}
-use Rattle.order.specs.declared.WinId.{WinId}
 use Rattle.order.specs.Ids.{heldOf}
 use Rattle.order.specs.Frames.{frameAt}
 use Rattle.windows.specs.declared.Session.{Session}
@@ -67,7 +67,7 @@ unfolding group
 held-known e s m x y h k =
     held-point (λ n. (id : ℕ) → heldOf n ≡ some id → shown (group s) id ≡ true) e k (λ id q. absurd (Option·none-ne-some id q)) (given-ok s h .held-shown)
 
-module _ (e : Event) (s : Session) (areas : List Area) (m : WinId) (x y id : ℕ) (h : Given s) (k : targetOf e (s .shared .held) ≡ Point m x y)
+module _ (e : Event) (s : Session) (areas : List Rect16) (m : WinId) (x y id : ℕ) (h : Given s) (k : targetOf e (s .shared .held) ≡ Point m x y)
     (at : Found s areas x y (heldOf m) id) where
   frame-is : frameAt areas id ≡ win (group s) id .at
   frame-is = at .frame ∙ sym (ap (λ (w : Win). w .at) (win-at s id (at .used)))

@@ -7,9 +7,10 @@ use mathlib.Core.Option.{none, some}
 use native.Mathlib.Omega.{arith}
 use lib.ListN.{length, drop, set, length-map, drop-of-length-le}
 use lib.Seq.{drop-cons}
+use Rattle.geom.specs.Rect16.{noRect16}
 use Rattle.window.specs.declared.Window.{Window}
 use Rattle.window.specs.Window.{Win, newWin, cursorAtOrigin}
-use Rattle.window.specs.Held.{winOf, noArea, RepWindow}
+use Rattle.window.specs.Held.{winOf, RepWindow}
 use Rattle.order.specs.declared.frames.Frames.{Frames}
 use Rattle.order.specs.Frames.{FirstFree}
 use Rattle.rules.specs.Group as Group
@@ -64,7 +65,7 @@ renewed w =
     record {
       queue = record { slots = w .queue .slots; head = w .queue .head; len = 0 };
       damage = record { areas = w .damage .areas; len = 0 };
-      at = noArea;
+      at = noRect16;
       cursor = cursorAtOrigin;
       used = true;
       marked = false;

@@ -10,11 +10,12 @@ use lib.Dec.{ltb, eqb, eqb·suc-zero}
 use lib.ListN.{length}
 use borrow.Author.Tests.{ltb-true}
 use Rattle.geom.specs.declared.Rect.{Rect}
+use Rattle.geom.specs.declared.rect16.Rect16.{Rect16}
 use Rattle.geom.specs.Geom.{width, height}
+use Rattle.geom.specs.Rect16.{Small, rectOf}
 use Rattle.geom.proofs.basics.Tests.{fst}
-use Rattle.window.specs.declared.damage.Area.{Area}
 use Rattle.window.specs.Window.{Win}
-use Rattle.window.specs.Held.{Small, rectOf, winOf}
+use Rattle.window.specs.Held.{winOf}
 use Rattle.rules.specs.Group.{Group, used, win, setWin, setMaximised, owing}
 use Rattle.rules.specs.Displays as Rule
 use Rattle.rules.specs.Displays.{locate, onOnly, taken, takenStore, fits, displayOf}
@@ -61,7 +62,7 @@ module _ (s : Session) (h : Given s) (r : Rect) (a : Added) (q : Adds (s .displa
 -- Maximise -------------------------------------------------------------------------------------------------------------
 
 -- the first half, at the place of an id, whose window lies at `old` and takes the display d
-module _ (s : Session) (h : Given s) (id at : ℕ) (p : At id at) (store : List ℕ) (old d : Area) (old-is : old ≡ windowAt s at .at)
+module _ (s : Session) (h : Given s) (id at : ℕ) (p : At id at) (store : List ℕ) (old d : Rect16) (old-is : old ≡ windowAt s at .at)
     (d-is : (rectOf d ≡ onOnly (locate (regions (s .displays)) (rectOf old))) × Small (rectOf d)) where
   abbrev made : ℕ → Taking
   made n = record { at = at; what = record { id = record { 0 = id }; display = d; answer = n } }

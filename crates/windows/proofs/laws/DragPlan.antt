@@ -8,17 +8,17 @@ use lib.Dec.{ltb}
 use lib.ListN.{set}
 use borrow.Author.Tests.{ltb-true, leb-true}
 use Rattle.geom.specs.declared.Rect.{Rect}
+use Rattle.geom.specs.declared.rect16.Rect16.{Rect16}
 use Rattle.geom.specs.Questions.{small}
+use Rattle.geom.specs.Rect16.{rectOf}
 use Rattle.geom.proofs.basics.Tests.{fst, snd}
-use Rattle.window.specs.declared.damage.Area.{Area}
+use Rattle.window.specs.declared.ids.WinId.{WinId}
 use Rattle.window.specs.Window.{Win}
-use Rattle.window.specs.Held.{rectOf}
 use Rattle.rules.specs.Group.{used, win}
 use Rattle.rules.specs.Order.{shown}
 use Rattle.rules.specs.Drag as Rule
 use Rattle.rules.specs.Drag.{below}
 use Rattle.rules.proofs.group.Drag.{below-shown}
-use Rattle.order.specs.declared.WinId.{WinId}
 use Rattle.order.specs.Ids.{ids}
 use Rattle.order.specs.declared.frames.Frames.{Frames}
 use Rattle.order.specs.Frames.{frameAt}
@@ -71,7 +71,7 @@ module _ (s : Session) (h : Given s) (id at x y : ℕ) (p : At id at) where
       y-low = leb-true y 32767 (snd (small x) (small y) (sym c-is ∙ near))
 
       -- the turns, and the flags, of the code's arrays
-      module _ (f : Frames) (framed : Framed s 16 f) (old : Area) (old-is : old ≡ windowAt s at .at) (u : Turns)
+      module _ (f : Frames) (framed : Framed s 16 f) (old : Rect16) (old-is : old ≡ windowAt s at .at) (u : Turns)
           (q : TurnsIn (f .areas) (s .shared .order) (s .shared .shown) (s .shared .due) id old u) (v : WinId) (v-is : v .0 ≡ id) where
         there : windowAt s id .used ≡ true
         there = sym (used-at s id) ∙ in-use

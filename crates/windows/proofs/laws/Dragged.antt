@@ -15,14 +15,16 @@ use lib.ListN.{length, getD, set, length-map, length-set}
 use lib.Seq.{ext-getD}
 use borrow.Author.Tests.{leb-true, eqb-true, eqb-false, eq-eqb, ne-eqb}
 use Rattle.geom.specs.declared.Rect.{Rect}
+use Rattle.geom.specs.declared.rect16.Rect16.{Rect16}
 use Rattle.geom.specs.Questions.{small}
 use Rattle.geom.specs.Geom.{meets}
+use Rattle.geom.specs.Rect16.{rectOf, Small}
 use Rattle.geom.proofs.basics.Tests.{clash, is-false, cond-yes, cond-no, fst, snd, or-cases, or-left, nor-fst, nor-snd}
 use Rattle.geom.proofs.basics.Lists.{set-in}
 use Rattle.window.specs.declared.Window.{Window}
-use Rattle.window.specs.declared.damage.Area.{Area}
 use Rattle.window.specs.Window.{Win}
-use Rattle.window.specs.Held.{winOf, rectOf, Small}
+use Rattle.window.specs.Held.{winOf}
+use Rattle.window.specs.Ids.{noId}
 use Rattle.rules.specs.Group.{Group, win, winAt, withWindows, setMaximised, movedTo, moved, owing}
 use Rattle.rules.specs.Order.{isIn, shown}
 use Rattle.rules.specs.Displays.{eachById}
@@ -35,7 +37,6 @@ use Rattle.rules.proofs.group.Invariant.{used-small}
 use Rattle.rules.proofs.group.Displays.{length-each, each-at}
 use Rattle.rules.proofs.group.Drag.{draggedAt, drag-hidden, drag-owing, drag-each, below-own, below-shown, below-distinct}
 use Rattle.order.specs.Ids.{ids}
-use Rattle.order.specs.Order.{noId}
 use Rattle.order.proofs.laws.Order.{ids-snoc, in-at}
 use Rattle.windows.specs.declared.Shared.{Shared}
 use Rattle.windows.specs.declared.Session.{Session}
@@ -154,7 +155,7 @@ module _ {first : Session} {id x y : ℕ} {t : DragPlan} {p : ℕ} {s : Session}
           let low = used-small g id (given-ok first (q .given)) (used-at first id ∙ a .used) in
           record {
             rep = q .rep .each at inside;
-            old = subst (λ (r : Area). Small (rectOf r)) (sym (a .old)) (q .given .rep .each id low .at);
+            old = subst (λ (r : Rect16). Small (rectOf r)) (sym (a .old)) (q .given .rep .each id low .at);
             x≤ = omega (arith, a .to-x, leb-true x 32767 (fst (small x) (small y) (a .near)));
             y≤ = omega (arith, a .to-y, leb-true y 32767 (snd (small x) (small y) (a .near)));
           }

@@ -11,9 +11,12 @@ use lib.Seq.{drop-cons, drop-drop}
 use borrow.Author.Tests.{leb-true, eqb-true}
 use Rattle.geom.specs.declared.Rect.{Rect}
 use Rattle.geom.specs.Lists.{outsideAll, relative, listIntersect}
+use Rattle.geom.specs.Rect16.{rectOf}
 use Rattle.geom.proofs.basics.Tests.{fst, snd}
+use Rattle.window.specs.declared.ids.WinId.{WinId}
 use Rattle.window.specs.Window.{Win}
-use Rattle.window.specs.Held.{winOf, rectOf, rects}
+use Rattle.window.specs.Held.{winOf, rects}
+use Rattle.window.specs.Ids.{noId}
 use Rattle.rules.specs.Group.{Group, win}
 use Rattle.rules.specs.Visible.{visible, rectsOf}
 use Rattle.rules.specs.Redraw.{none?, regions, isDrawn, drawWindow, drawAll, paid, screenFits}
@@ -23,7 +26,6 @@ use Rattle.rules.specs.Calls.{Redraw, does}
 use Rattle.rules.specs.Lent.{Lent}
 use Rattle.rules.proofs.group.Invariant.{WinOk}
 use Rattle.rules.proofs.Lent.{behind, rects-split, rest-lent}
-use Rattle.order.specs.declared.WinId.{WinId}
 use Rattle.windows.specs.declared.Session.{Session}
 use Rattle.order.specs.declared.rects.Rects.{Rects}
 use Rattle.windows.specs.View.{walkOf, group, windowAt, Rep, Given, Meets, MeetsScreen, done}
@@ -31,7 +33,6 @@ use Rattle.windows.specs.Walk.{noted, sharing}
 use Rattle.due.specs.Due.{walkAt}
 use Rattle.windows.specs.declared.inner.redraw.Drawn.{Drawn}
 use Rattle.windows.specs.Drawing.{painted, Draws}
-use Rattle.order.specs.Order.{noId}
 use Rattle.order.specs.Rects.{Holds}
 use Rattle.windows.proofs.laws.Session.{given-ok, refuses, gives}
 use Rattle.windows.proofs.laws.Places.{order-length, id-at, shown-at, id-low, is-used, win-there, above-there}

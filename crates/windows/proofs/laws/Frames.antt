@@ -10,13 +10,14 @@ use native.Mathlib.Omega.{arith}
 use lib.Dec.{eqb}
 use lib.ListN.{getD, set, length-set}
 use Rattle.geom.specs.declared.Rect.{Rect}
+use Rattle.geom.specs.declared.rect16.Rect16.{Rect16}
 use Rattle.geom.specs.Geom.{isEmpty, contains}
+use Rattle.geom.specs.Rect16.{rectOf, noRect16, Small}
 use Rattle.geom.proofs.basics.Tests.{or-right}
 use Rattle.geom.proofs.basics.Lists.{set-in}
 use Rattle.geom.proofs.geometry.Facts.{In, Solid, says-in, solid}
-use Rattle.window.specs.declared.damage.Area.{Area}
 use Rattle.window.specs.Window.{Win}
-use Rattle.window.specs.Held.{rectOf, noArea, Small}
+use Rattle.window.specs.Ids.{noId}
 use Rattle.rules.specs.Group.{Group, win}
 use Rattle.rules.specs.Order.{isIn, shown}
 use Rattle.rules.specs.Events.{topmostOf, topmost, holder}
@@ -26,7 +27,6 @@ use Rattle.rules.proofs.group.Topmost.{topmost-tops}
 use Rattle.rules.proofs.group.Steps.{holder-held}
 use Rattle.order.specs.declared.frames.Frames.{Frames}
 use Rattle.order.specs.Ids.{ids}
-use Rattle.order.specs.Order.{noId}
 use Rattle.order.specs.Frames.{frameAt, Shown}
 use Rattle.topmost.specs.Topmost.{topmostAt, takerAt}
 use Rattle.windows.specs.declared.Session.{Session}
@@ -37,13 +37,13 @@ use Rattle.windows.proofs.laws.Places.{id-low}
 
 -- One window more ----------------------------------------------------------------------------------------------------
 
-pub frame-more : (s : Session) (i : ℕ) (areas : List Area) (used : List Bool) → i < 16 → Framed s i (record { areas = areas; used = used })
+pub frame-more : (s : Session) (i : ℕ) (areas : List Rect16) (used : List Bool) → i < 16 → Framed s i (record { areas = areas; used = used })
     → Framed s (i + 1) (record { areas = set areas i (windowAt s i .at); used = set used i (windowAt s i .used) })
 frame-more s i areas used low f =
     record {
       areas = length-set areas i (windowAt s i .at) ∙ f .areas;
       flags = length-set used i (windowAt s i .used) ∙ f .flags;
-      at = λ j h. set-in (λ (a : Area). a ≡ windowAt s j .at) areas i j (windowAt s i .at) noArea (λ _. omega (arith, f .areas))
+      at = λ j h. set-in (λ (a : Rect16). a ≡ windowAt s j .at) areas i j (windowAt s i .at) noRect16 (λ _. omega (arith, f .areas))
           (λ q. ap (λ (k : ℕ). windowAt s k .at) (sym q)) (λ n. f .at j (omega (arith, h, n)));
       used = λ j h. set-in (λ (b : Bool). b ≡ windowAt s j .used) used i j (windowAt s i .used) false (λ _. omega (arith, f .flags))
           (λ q. ap (λ (k : ℕ). windowAt s k .used) (sym q)) (λ n. f .used j (omega (arith, h, n)));
@@ -93,7 +93,7 @@ taker g x y none = topmost g x y
 taker g x y (some id) = some id
 
 -- the window that a search found for o, which is remembered: that one, or the topmost, whose rectangle has the point; it is in use and has pixels
-pub record Found (s : Session) (areas : List Area) (x y : ℕ) (o : Option ℕ) (id : ℕ) : Type 0 where
+pub record Found (s : Session) (areas : List Rect16) (x y : ℕ) (o : Option ℕ) (id : ℕ) : Type 0 where
   pub which : (holder (group s) o ≡ some id) ⊎ ((holder (group s) o ≡ none) × (topmost (group s) x y ≡ some id) × In (frameAt areas id) x y)
   pub low : id < 16
   pub used : windowAt s id .used ≡ true

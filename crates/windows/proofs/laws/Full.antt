@@ -8,12 +8,13 @@ use Rattle.geom.specs.declared.Rect.{Rect}
 use Rattle.geom.specs.Geom.{rect, left, top, width, height, right, bottom, meets, common}
 use Rattle.geom.specs.Inner.{Fits, Within}
 use Rattle.geom.specs.Lists.{outsideAll, relative, meetsOf, listIntersect}
+use Rattle.geom.specs.Rect16.{Small, rectOf}
 use Rattle.geom.proofs.basics.Tests.{is-false, clash, cond-no}
 use Rattle.geom.proofs.basics.Lists.{All}
 use Rattle.geom.proofs.geometry.Facts.{says-meet}
 use Rattle.geom.proofs.geometry.Pieces.{left-within}
 use Rattle.window.specs.declared.Window.{Window}
-use Rattle.window.specs.Held.{Small, rectOf, rects}
+use Rattle.window.specs.Held.{rects}
 use Rattle.rules.specs.Redraw.{none?, drawRegion, drawRegions}
 use Rattle.rules.specs.Lent.{AllFit}
 use Rattle.visible.specs.declared.region.View.{View}

@@ -7,9 +7,9 @@ use mathlib.Core.Option.{none, some}
 use native.Mathlib.Omega.{arith}
 use lib.Dec.{eqb}
 use lib.ListN.{getD}
+use Rattle.window.specs.declared.ids.WinId.{WinId}
 use Rattle.rules.specs.Group.{withOrder, withHeld, owing}
 use Rattle.rules.specs.Order.{shown, without, nextFocus, forget, hidden}
-use Rattle.order.specs.declared.WinId.{WinId}
 use Rattle.windows.specs.declared.Session.{Session}
 use Rattle.windows.specs.View.{group, Rep, Given}
 use Rattle.order.specs.Ids.{ids, heldOf}

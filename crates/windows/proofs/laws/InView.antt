@@ -12,10 +12,10 @@ use Rattle.geom.specs.declared.Rect.{Rect}
 use Rattle.geom.specs.Geom.{left, top, width, height, isEmpty}
 use Rattle.geom.specs.Lists.{outsideAll, anyHas}
 use Rattle.geom.specs.Areas.{pixels, areas}
+use Rattle.geom.specs.Rect16.{rectOf}
 use Rattle.geom.proofs.basics.Tests.{nor-fst, nor-snd}
 use Rattle.geom.proofs.geometry.Areas.{remains-area, remains-most}
 use Rattle.window.specs.Window.{Win}
-use Rattle.window.specs.Held.{rectOf}
 use Rattle.rules.specs.Group.{used, win}
 use Rattle.rules.specs.Order.{shown, above}
 use Rattle.rules.specs.Share.{unobscured, size, share}

@@ -7,9 +7,9 @@ use mathlib.Core.Option.{none, some}
 use lib.Dec.{eqb}
 use lib.ListN.{getD, set}
 use borrow.Author.Tests.{eq-eqb, ne-eqb}
+use Rattle.window.specs.declared.ids.WinId.{WinId}
 use Rattle.rules.specs.Group.{Group, layer, giveLayer, withOrder, owing}
 use Rattle.rules.specs.Order.{shown, toTop}
-use Rattle.order.specs.declared.WinId.{WinId}
 use Rattle.order.specs.Ids.{ids}
 use Rattle.order.specs.Order.{renderIdx}
 use Rattle.order.specs.Layers.{Raised}

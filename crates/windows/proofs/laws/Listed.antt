@@ -11,8 +11,8 @@ use borrow.Author.Tests.{le-leb}
 use Rattle.geom.specs.declared.Rect.{Rect}
 use Rattle.geom.specs.Inner.{Fits}
 use Rattle.geom.specs.Lists.{outsideAll, relative, numbers}
+use Rattle.geom.specs.Rect16.{rectOf, Small}
 use Rattle.window.specs.Window.{Win}
-use Rattle.window.specs.Held.{rectOf, Small}
 use Rattle.rules.specs.Group.{used, win}
 use Rattle.rules.specs.Order.{shown, above}
 use Rattle.rules.specs.Visible.{visible, visibleList}

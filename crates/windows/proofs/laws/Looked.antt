@@ -8,14 +8,14 @@ use native.Mathlib.Nat.{mul-le-mul-right}
 use lib.Dec.{eqb}
 use lib.ListN.{length}
 use Rattle.geom.specs.declared.Rect.{Rect}
+use Rattle.geom.specs.declared.rect16.Rect16.{Rect16}
 use Rattle.geom.specs.Geom.{width, height}
+use Rattle.geom.specs.Rect16.{rectOf}
 use Rattle.look.specs.declared.Look.{Look}
 use Rattle.look.specs.declared.Sizes.{Sizes}
 use Rattle.look.specs.View.{view}
 use Rattle.look.specs.Inner as Inner
-use Rattle.window.specs.declared.damage.Area.{Area}
 use Rattle.window.specs.Window.{Win}
-use Rattle.window.specs.Held.{rectOf}
 use Rattle.rules.specs.Group.{used, win}
 use Rattle.rules.specs.Look.{sizesOf, look}
 use Rattle.windows.specs.declared.Session.{Session}
@@ -32,7 +32,7 @@ module _ (s : Session) (id : ℕ) (l : Look) (store target : List ℕ) (tw th : 
     unfolding look
     not-used u = record { answer = rw (is-whole s store e, u); target = rw (is-whole s store e, u) }
 
-    module _ (a : Area) (u : windowAt s id .used ≡ true) (frame : a ≡ windowAt s id .at) where
+    module _ (a : Rect16) (u : windowAt s id .used ≡ true) (frame : a ≡ windowAt s id .at) where
       win-is : win (group s) id .at ≡ rectOf a
       win-is = ap (λ (v : Win). v .at) (win-at s id u) ∙ ap rectOf (sym frame)
 

@@ -8,9 +8,9 @@ use mathlib.Core.Option.{Option}
 use lib.Dec.{ltb}
 use lib.Seq.{set-getD}
 use borrow.Author.Tests.{ltb-true, lt-ltb, le-ltb}
+use Rattle.geom.specs.declared.rect16.Rect16.{Rect16}
 use Rattle.geom.proofs.basics.Tests.{fst, snd, lt-or-le}
 use Rattle.window.specs.declared.Window.{Window}
-use Rattle.window.specs.declared.damage.Area.{Area}
 use Rattle.window.specs.declared.damage.Damage.{Damage}
 use Rattle.window.specs.Held.{winOf, RepWindow}
 use Rattle.order.specs.Ids.{ids}
@@ -49,11 +49,11 @@ same-place id o same = subst (λ (j : Shared). o ≡ renderIdx id (ids (j .shown
 -- Fields of a window --------------------------------------------------------------------------------------------------
 
 -- the window with another use, place and damage
-abbrev pub fields : Bool → Area → Damage → Window → Window
+abbrev pub fields : Bool → Rect16 → Damage → Window → Window
 fields u a d w = record { queue = w .queue; damage = d; at = a; cursor = w .cursor; used = u; marked = w .marked }
 
 -- what holds of it holds of a window that has them
-pub by-fields : (P : Window → Type 0) {u : Bool} {a : Area} {d : Damage} (w : Window) → w .used ≡ u → w .at ≡ a
+pub by-fields : (P : Window → Type 0) {u : Bool} {a : Rect16} {d : Damage} (w : Window) → w .used ≡ u → w .at ≡ a
     → w .damage ≡ d → P (fields u a d w) → P w
 by-fields P w u a d = subst P (λ i. fields (sym u i) (sym a i) (sym d i) w)
 

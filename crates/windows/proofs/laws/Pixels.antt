@@ -10,18 +10,19 @@ use lib.Dec.{ltb}
 use lib.ListN.{take}
 use borrow.Author.Tests.{ltb-true, lt-ltb}
 use Rattle.geom.specs.declared.Rect.{Rect}
+use Rattle.geom.specs.declared.rect16.Rect16.{Rect16}
 use Rattle.geom.specs.Geom.{rect, left, top, width, height, isEmpty, meets, common}
 use Rattle.geom.specs.Inner.{Fits, Within}
+use Rattle.geom.specs.Rect16.{Small}
 use Rattle.geom.proofs.basics.Tests.{clash, on-cond, lt-or-le}
 use Rattle.geom.proofs.geometry.Facts.{Meet, says-meet, solid, common-within}
 use Rattle.scanline.specs.Pixels.{writeRows, part}
 use Rattle.scanline.specs.Rows.{Inside, Counted}
 use Rattle.scanline.proofs.rows.Altered.{altered-same}
 use Rattle.window.specs.declared.Window.{Window}
-use Rattle.window.specs.declared.damage.Area.{Area}
 use Rattle.window.specs.declared.damage.Damage.{Damage}
 use Rattle.window.specs.Window.{Win}
-use Rattle.window.specs.Held.{winOf, Small, RepWindow, withEntries}
+use Rattle.window.specs.Held.{winOf, RepWindow, withEntries}
 use Rattle.window.specs.Inner.{PastAs, Dirtied}
 use Rattle.window.proofs.laws.Entries.{all-of}
 use Rattle.rules.specs.Store.{withDamage, dirtied, bounds, filledPart, filledAt, blitRows, blitAt}
@@ -72,31 +73,31 @@ uncounted {s = s} e = record { pixels = e; altered = sym (altered-same s) }
 -- The window at a place -----------------------------------------------------------------------------------------------
 
 -- a law of the window with this place and this damage is one of every window that has them
-pub paints : {at : Area} {d : Damage} (f : Win → Win) (F : Win → List ℕ) {p t : List ℕ} {r : Painted}
+pub paints : {at : Rect16} {d : Damage} (f : Win → Win) (F : Win → List ℕ) {p t : List ℕ} {r : Painted}
     → ((w : Window) → let v = fields (w .used) at d w in RepWindow v → Paints v (f (winOf v)) (F (winOf v)) p r t)
     → PaintsAs at d f F p r t
 paints f F {p} {t} {r} law w rep a d =
     by-fields (λ v. RepWindow v → Paints v (f (winOf v)) (F (winOf v)) p r t) w refl a d (law w) rep
 
-pub blits : {at : Area} (base : ℕ) (a : Rect) (datum : List ℕ) (stride : ℕ) (p : List ℕ) {t : List ℕ} {n : ℕ}
+pub blits : {at : Rect16} (base : ℕ) (a : Rect) (datum : List ℕ) (stride : ℕ) (p : List ℕ) {t : List ℕ} {n : ℕ}
     → ((w : Window) → Counted (blitAt base (winOf (fields (w .used) at (w .damage) w)) a datum stride p) p t n)
     → BlitsAs base at a datum stride p t n
 blits base a datum stride p {t} {n} law w e =
     by-fields (λ v. Counted (blitAt base (winOf v) a datum stride p) p t n) w refl e refl (law w)
 
 -- its own pixels, from its corner
-abbrev pub boundsOf : Area → Rect
+abbrev pub boundsOf : Rect16 → Rect
 boundsOf at = rect 0 0 (at .w) (at .h)
 
 -- The area and the window --------------------------------------------------------------------------------------------
 
 -- an area, and the window's own rectangle as the code has it
-pub record Cut (len base : ℕ) (at : Area) (a all : Rect) : Type 0 where
+pub record Cut (len base : ℕ) (at : Rect16) (a all : Rect) : Type 0 where
   pub rows : RowsIn len base at
   pub small : Small a
   pub is : all ≡ boundsOf at
 
-module _ {len base : ℕ} {at : Area} {a all : Rect} (q : Cut len base at a all) where
+module _ {len base : ℕ} {at : Rect16} {a all : Rect} (q : Cut len base at a all) where
   pub fits : Fits a × Fits all
   fits =
       let s = q .small in

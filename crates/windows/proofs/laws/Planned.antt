@@ -11,12 +11,15 @@ use lib.Dec.{eqb, eqb·suc-zero}
 use lib.ListN.{length, getD, set, length-set, length-map}
 use lib.Seq.{getD-set-same, getD-set-other}
 use borrow.Author.Tests.{leb-true}
+use Rattle.geom.specs.declared.rect16.Rect16.{Rect16}
 use Rattle.geom.specs.Geom.{width, height}
+use Rattle.geom.specs.Rect16.{rectOf, noRect16}
 use Rattle.geom.proofs.basics.Tests.{fst}
 use Rattle.geom.proofs.basics.Lists.{set-in}
-use Rattle.window.specs.declared.damage.Area.{Area}
+use Rattle.window.specs.declared.ids.WinId.{WinId}
 use Rattle.window.specs.Window.{Win}
-use Rattle.window.specs.Held.{rectOf, noArea, winOf}
+use Rattle.window.specs.Held.{winOf}
+use Rattle.window.specs.Ids.{noId}
 use Rattle.rules.specs.Group.{Group, winAt, isMaximised}
 use Rattle.rules.specs.Displays as Rule
 use Rattle.rules.specs.Displays.{updatedAt, takenStore, fits, everyById, updateFits, updateStore, updateStores, everyFits}
@@ -26,8 +29,6 @@ use Rattle.rules.proofs.group.Displays.{fits-at}
 use Rattle.display.specs.declared.dims.Moves.{Moves}
 use Rattle.display.specs.Held.{regions}
 use Rattle.display.specs.Dims.{place, takes, MovesTo, allFit, Roomy, resizedOne, allResized}
-use Rattle.order.specs.declared.WinId.{WinId}
-use Rattle.order.specs.Order.{noId}
 use Rattle.order.specs.declared.frames.Frames.{Frames}
 use Rattle.windows.specs.declared.Session.{Session}
 use Rattle.windows.specs.declared.inner.update.DimsPlan.{DimsPlan}
@@ -48,8 +49,8 @@ every-same p q a b (x ∷ xs) (y ∷ ys) i e h =
     λ t. h 0 i (omega arith) (omega arith) t && every-same p q a b xs ys (suc i) (omega (arith, e)) (λ j k l s. h (suc j) k (omega (arith, l)) (omega (arith, s))) t
 
 -- pixels resized alike at every number
-stores-same : (g : Group) (c : ℕ) (old : List Area) (flags : List Bool) (ws : List (Option Win)) (to : List Area) (i : ℕ) (s : List ℕ)
-    → length ws ≡ length to → ((j k : ℕ) → k ≡ i + j → j < length ws → (t : List ℕ) → updateStore g k (getD ws j none) t ≡ resizedOne c old flags k (getD to j noArea) t)
+stores-same : (g : Group) (c : ℕ) (old : List Rect16) (flags : List Bool) (ws : List (Option Win)) (to : List Rect16) (i : ℕ) (s : List ℕ)
+    → length ws ≡ length to → ((j k : ℕ) → k ≡ i + j → j < length ws → (t : List ℕ) → updateStore g k (getD ws j none) t ≡ resizedOne c old flags k (getD to j noRect16) t)
     → updateStores g i ws s ≡ allResized c old flags i to s
 unfolding allResized
 stores-same g c old flags [] [] i s e h = refl
@@ -138,7 +139,7 @@ module _ (s : Session) (h : Given s) (f : Frames) (framed : Framed s 16 f) (m : 
   unfolding group
   moves-of i l = record {
     flag = to .taken i l ∙ ap (λ (b : Bool). b && getD (s .shared .maximised) i false) (framed .used i l);
-    at = to .at i l ∙ ap (λ (a : Area). updatedAt (regions (s .displays)) (takes m i) (rectOf a)) (framed .at i l);
+    at = to .at i l ∙ ap (λ (a : Rect16). updatedAt (regions (s .displays)) (takes m i) (rectOf a)) (framed .at i l);
     small = to .small i l;
   }
 
@@ -175,7 +176,7 @@ module _ (s : Session) (h : Given s) (f : Frames) (framed : Framed s 16 f) (m : 
     abbrev ruled : Bool → List ℕ → List ℕ
     ruled b t = cond b (takenStore (i * c) c (rectOf (windowAt s i .at)) (updatedAt (regions (s .displays)) true (rectOf (windowAt s i .at))) t) t
 
-    store-one : (t : List ℕ) → updateStore (group s) i (winAt (group s) i) t ≡ resizedOne c (f .areas) (m .takes) i (getD (m .areas) i noArea) t
+    store-one : (t : List ℕ) → updateStore (group s) i (winAt (group s) i) t ≡ resizedOne c (f .areas) (m .takes) i (getD (m .areas) i noRect16) t
     unfolding group
     store-one t = go (windowAt s i .used) refl
       where
@@ -186,7 +187,7 @@ module _ (s : Session) (h : Given s) (f : Frames) (framed : Framed s 16 f) (m : 
             λ j. takenStore (i * c) c (rectOf (was j)) (goal j) t
         by false e = refl
 
-        go : (b : Bool) → windowAt s i .used ≡ b → updateStore (group s) i (winAt (group s) i) t ≡ resizedOne c (f .areas) (m .takes) i (getD (m .areas) i noArea) t
+        go : (b : Bool) → windowAt s i .used ≡ b → updateStore (group s) i (winAt (group s) i) t ≡ resizedOne c (f .areas) (m .takes) i (getD (m .areas) i noRect16) t
         go true u =
             let (w, q) = in-use u in
             ap (λ (o : Option Win). updateStore (group s) i o t) w ∙ ap (λ (b : Bool). ruled b t) (sym q) ∙ by (takes m i) refl
@@ -198,7 +199,7 @@ module _ (s : Session) (h : Given s) (f : Frames) (framed : Framed s 16 f) (m : 
   pub fits-all : everyFits (group s) ≡ allFit c m
   unfolding allFit
   fits-all =
-      every-same (updateFits (group s)) _ none noArea (group s .windows) (m .areas) 0 (sixteen ∙ sym (to .all))
+      every-same (updateFits (group s)) _ none noRect16 (group s .windows) (m .areas) 0 (sixteen ∙ sym (to .all))
       (λ j k e l. let q : k ≡ j = omega (arith, e) in rw q (fits-one j (omega (arith, l, sixteen))))
 
   stores-all : (store : List ℕ) → updateStores (group s) 0 (group s .windows) store ≡ allResized c (f .areas) (m .takes) 0 (m .areas) store
@@ -262,7 +263,7 @@ module _ (s : Session) (h : Given s) (f : Frames) (framed : Framed s 16 f) (m : 
         c≤ = given-ok s h .c-high;
         had = λ i l t.
             let u : windowAt s i .used ≡ true = fst (windowAt s i .used) (isMaximised (group s) i) (sym (moves-of i l .flag) ∙ t) in
-            subst (λ (a : Area). width (rectOf a) * height (rectOf a) ≤ c) (sym (framed .at i l))
+            subst (λ (a : Rect16). width (rectOf a) * height (rectOf a) ≤ c) (sym (framed .at i l))
             (subst (λ (w : Win). width (w .at) * height (w .at) ≤ c) (win-at s i u) (given-ok s h .fits i .area≤));
         gets = λ i l t.
             let p : not (takes m i) || fits c (place (m .areas) i) ≡ true = sym (fits-one i l) ∙ fits-at (group s) (given-ok s h) i (fits-all ∙ sym e ∙ y) in

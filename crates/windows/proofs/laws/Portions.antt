@@ -10,8 +10,10 @@ use native.Mathlib.Numerals.{add-one}
 use lib.ListN.{length, getD, take}
 use lib.Seq.{drop-cons}
 use Rattle.window.specs.declared.Window.{Window}
+use Rattle.window.specs.declared.ids.WinId.{WinId}
 use Rattle.window.specs.Window.{Win}
 use Rattle.window.specs.Held.{RepWindow}
+use Rattle.window.specs.Ids.{noId}
 use Rattle.rules.specs.Group.{win, setWin, settle}
 use Rattle.rules.specs.Visible.{rectsOf}
 use Rattle.rules.specs.Redraw.{isDrawn, clean, cleanAll, drawWindow, screenFits}
@@ -20,10 +22,8 @@ use Rattle.rules.specs.Store.{whole}
 use Rattle.rules.specs.Calls.{Call, Begin, Portion, does}
 use Rattle.rules.specs.Lent.{Lent}
 use Rattle.rules.proofs.group.Invariant.{WalkOk}
-use Rattle.order.specs.declared.WinId.{WinId}
 use Rattle.order.specs.declared.rects.Rects.{Rects}
 use Rattle.order.specs.declared.frames.Frames.{Frames}
-use Rattle.order.specs.Order.{noId}
 use Rattle.order.specs.Rects.{Holds}
 use Rattle.due.specs.declared.Walk.{Walk}
 use Rattle.due.specs.Due.{walkAt, begun}

@@ -8,12 +8,12 @@ use native.Mathlib.Omega.{arith}
 use lib.Dec.{leb}
 use lib.ListN.{length, drop, length-map, length-drop}
 use Rattle.geom.specs.declared.Rect.{Rect}
+use Rattle.geom.specs.Rect16.{rectOf, Small}
 use Rattle.sheet.specs.declared.Count.{Count}
 use Rattle.sheet.specs.Sheet.{Sheet}
 use Rattle.sheet.specs.Bytes.{encode}
 use Rattle.sheet.specs.Writer.{Writes}
 use Rattle.window.specs.Window.{Win}
-use Rattle.window.specs.Held.{rectOf, Small}
 use Rattle.rules.specs.Group.{Group, used, win}
 use Rattle.rules.specs.Order.{shown, above}
 use Rattle.rules.specs.Visible.{rectsOf}

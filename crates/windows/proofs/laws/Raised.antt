@@ -8,6 +8,7 @@ use native.Mathlib.Numerals.{add-one}
 use lib.Dec.{leb, ltb}
 use lib.ListN.{getD}
 use Rattle.window.specs.declared.Window.{Window}
+use Rattle.window.specs.declared.ids.WinId.{WinId}
 use Rattle.window.specs.Window.{Win}
 use Rattle.window.specs.Held.{winOf}
 use Rattle.rules.specs.Group.{Outcome, used, setWin, withOrder, owing}
@@ -16,7 +17,6 @@ use Rattle.rules.specs.Walk as Walk
 use Rattle.rules.specs.Repair.{pending, whollyRepaired, atTop, toFront, sameOrder, raised, raise}
 use Rattle.rules.specs.Calls.{Show, Raise, does}
 use Rattle.rules.proofs.group.Repair.{raise-hidden, raised-same, raised-owing, raised-repaired, same-by-next}
-use Rattle.order.specs.declared.WinId.{WinId}
 use Rattle.order.specs.Ids.{ids}
 use Rattle.order.specs.Order.{renderIdx}
 use Rattle.order.specs.Layers.{Raised}

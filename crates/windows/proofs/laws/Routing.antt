@@ -10,13 +10,13 @@ use Rattle.geom.specs.Geom.{left, top}
 use Rattle.window.specs.declared.Event.{Event}
 use Rattle.window.specs.declared.Event.the-variants.{Resize, KeyDown, KeyUp, KeyFire, Text, MouseMove, MouseDown, MouseClick, MouseUp}
 use Rattle.window.specs.declared.Window.{Window}
+use Rattle.window.specs.declared.ids.WinId.{WinId}
 use Rattle.rules.specs.Group.{Group, Outcome, win, setWin, withHeld, leaves, someId, idOr}
 use Rattle.rules.specs.Order.{shown}
 use Rattle.geom.specs.Nearest.{nearestX, nearestY}
 use Rattle.rules.specs.Events as Rule
 use Rattle.rules.specs.Events.{topmost, holder}
 use Rattle.rules.specs.Calls.{Route, does}
-use Rattle.order.specs.declared.WinId.{WinId}
 use Rattle.order.specs.Ids.{heldOf}
 use Rattle.topmost.specs.Topmost as Topmost
 use Rattle.windows.specs.declared.Session.{Session}

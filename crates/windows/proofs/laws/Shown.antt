@@ -5,12 +5,12 @@ use mathlib.Core.Bool.{true, false}
 use mathlib.Core.List.{List}
 use mathlib.Core.Option.{none, some}
 use native.Mathlib.Omega.{arith}
+use Rattle.window.specs.declared.ids.WinId.{WinId}
 use Rattle.rules.specs.Group.{used, withOrder, owing}
 use Rattle.rules.specs.Order as Order
 use Rattle.rules.specs.Order.{shown, setOrder, inserted}
 use Rattle.rules.specs.Calls.{Show, does}
 use Rattle.rules.proofs.group.Room.{room}
-use Rattle.order.specs.declared.WinId.{WinId}
 use Rattle.windows.specs.declared.Session.{Session}
 use Rattle.windows.specs.View.{group, windowAt, Rep, Given, Meets, done}
 use Rattle.order.specs.Ids.{ids}

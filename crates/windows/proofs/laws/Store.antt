@@ -11,16 +11,17 @@ use lib.ListN.{length, set}
 use lib.Seq.{set-getD}
 use borrow.Author.Tests.{leb-true, ltb-true, lt-ltb, eq-eqb, ne-eqb}
 use Rattle.geom.specs.declared.Rect.{Rect}
+use Rattle.geom.specs.declared.rect16.Rect16.{Rect16}
 use Rattle.geom.specs.Questions.{Question, _is_, asked, small}
 use Rattle.geom.specs.Geom.{smallRect}
+use Rattle.geom.specs.Rect16.{Small}
 use Rattle.geom.proofs.basics.Tests.{clash, fst, snd}
 use Rattle.scanline.specs.Altered.{altered}
 use Rattle.scanline.proofs.rows.Altered.{altered-same}
 use Rattle.window.specs.declared.Window.{Window}
-use Rattle.window.specs.declared.damage.Area.{Area}
 use Rattle.window.specs.declared.damage.Damage.{Damage}
 use Rattle.window.specs.Window.{Win}
-use Rattle.window.specs.Held.{winOf, Small, RepDamage, RepWindow}
+use Rattle.window.specs.Held.{winOf, RepDamage, RepWindow}
 use Rattle.rules.specs.Group.{Group, used, win, winAt, theWin, someWin, withWindows, setWin}
 use Rattle.rules.specs.Store.{whole}
 use Rattle.rules.specs.Calls.{Call, does, accepted}
@@ -209,7 +210,7 @@ module _ {id : ℕ} {w : Window} {k : Shared} {store : List ℕ} (held : Held id
 
 -- The same, where fields of the window are at hand -------------------------------------------------------------------
 
-module _ {id : ℕ} {b : Bool} {a : Area} {d : Damage} {c : ℕ} {store : List ℕ} (h : HeldAs id b a d c)
+module _ {id : ℕ} {b : Bool} {a : Rect16} {d : Damage} {c : ℕ} {store : List ℕ} (h : HeldAs id b a d c)
     (o : Writable id b c store) where
   of-held : Writable id (h .window .used) (h .shared .c) store
   of-held =
@@ -226,7 +227,7 @@ module _ {id : ℕ} {b : Bool} {a : Area} {d : Damage} {c : ℕ} {store : List �
     subst RepDamage (h .is-damage) (rep (h .held) of-held .damage),
   )
 
-module _ {id : ℕ} (u : Write) {store : List ℕ} (n : Counts (callOf id u store) store) {b : Bool} {a : Area} {d : Damage}
+module _ {id : ℕ} (u : Write) {store : List ℕ} (n : Counts (callOf id u store) store) {b : Bool} {a : Rect16} {d : Damage}
     {c : ℕ} where
   -- what holds of the window and of what is shared with these fields holds of all that have them
   of-fields : {r : Painted} {t : List ℕ}

@@ -21,6 +21,7 @@ use Rattle.window.specs.declared.CursorPos.{CursorPos}
 use Rattle.window.specs.declared.Window.{Window}
 use Rattle.window.specs.declared.slots.Slot.{Slot}
 use Rattle.window.specs.declared.queue.Queue.{Queue}
+use Rattle.window.specs.declared.ids.WinId.{WinId}
 use Rattle.window.specs.Window.{Win, pushed, cursorTo}
 use Rattle.window.specs.Held.{place, noSlot, winOf, events, RepCursor, RepWindow}
 use Rattle.window.specs.Inner.{Queued, slotOf, PushedTo}
@@ -30,7 +31,6 @@ use Rattle.window.proofs.laws.Events as Queue
 use Rattle.rules.specs.Group.{Group, Outcome, win, setWin, withHeld, leaves}
 use Rattle.rules.specs.Events.{withQueue, withCursor}
 use Rattle.rules.specs.Calls.{Call, does}
-use Rattle.order.specs.declared.WinId.{WinId}
 use Rattle.order.specs.Ids.{heldOf}
 use Rattle.windows.specs.declared.Shared.{Shared}
 use Rattle.windows.specs.declared.Session.{Session}

@@ -12,18 +12,19 @@ use lib.ListN.{length, getD, set, take, length-set}
 use lib.Seq.{take-take, take-suc-set, getD-set-other}
 use borrow.Author.Tests.{eqb-true, eqb-false, ne-eqb}
 use Rattle.geom.specs.declared.Rect.{Rect}
+use Rattle.geom.specs.declared.rect16.Rect16.{Rect16}
 use Rattle.geom.specs.Geom.{meets}
+use Rattle.geom.specs.Rect16.{rectOf}
 use Rattle.geom.proofs.basics.Tests.{clash, is-false, fst, nor, nor-fst, nor-snd, on-cond, or-right}
-use Rattle.window.specs.declared.damage.Area.{Area}
-use Rattle.window.specs.Held.{rectOf}
+use Rattle.window.specs.declared.ids.WinId.{WinId}
+use Rattle.window.specs.Ids.{noId}
 use Rattle.rules.specs.Order.{isIn, placeOf}
 use Rattle.rules.specs.Drag.{below}
 use Rattle.rules.proofs.group.Order.{Distinct, isIn-here, isIn-append}
 use Rattle.rules.proofs.group.Drag.{below-take}
 use Rattle.due.specs.declared.Due.{Due}
-use Rattle.order.specs.declared.WinId.{WinId}
 use Rattle.order.specs.Ids.{num, ids}
-use Rattle.order.specs.Order.{noId, renderIdx}
+use Rattle.order.specs.Order.{renderIdx}
 use Rattle.order.specs.Frames.{frameAt, Shown}
 use Rattle.order.proofs.laws.Order.{ids-length, ids-at, ids-snoc, ids-take, is-in-at, is-at, place-low}
 use Rattle.windows.specs.declared.inner.drag.Turns.{Turns}
@@ -196,7 +197,7 @@ module _ {frame : ℕ → Rect} {old : Rect} {order : List WinId} {p : ℕ} {bla
 
 -- Of a shown window ---------------------------------------------------------------------------------------------------
 
-module _ {areas : List Area} {order : List WinId} {n : ℕ} (id p : ℕ) (all : length order ≡ 16) (lies : Shown areas order n)
+module _ {areas : List Rect16} {order : List WinId} {n : ℕ} (id p : ℕ) (all : length order ≡ 16) (lies : Shown areas order n)
     (found : some p ≡ renderIdx id (ids n order)) where
   pub place-in : p < n
   place-in =
@@ -212,7 +213,7 @@ module _ {areas : List Area} {order : List WinId} {n : ℕ} (id p : ℕ) (all : 
         small = lies .small;
       }
 
-  pub by-place : {u : Due} {old : Area} {t : Turns} → u .owed || u .walk .on ≡ false → TurnsOf areas order p id old t
+  pub by-place : {u : Due} {old : Rect16} {t : Turns} → u .owed || u .walk .on ≡ false → TurnsOf areas order p id old t
       → TurnsIn areas order n u id old t
   by-place {u} {old} {t} free q =
       let is = is-at id p (ids n order) found in

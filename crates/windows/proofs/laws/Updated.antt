@@ -12,10 +12,12 @@ use lib.ListN.{length, getD, length-map}
 use lib.Seq.{ext-getD}
 use borrow.Author.Tests.{eq-eqb}
 use Rattle.geom.specs.declared.Rect.{Rect}
+use Rattle.geom.specs.Rect16.{rectOf}
 use Rattle.geom.proofs.basics.Lists.{set-in}
 use Rattle.window.specs.declared.Window.{Window}
 use Rattle.window.specs.Window.{Win}
-use Rattle.window.specs.Held.{rectOf, winOf, RepWindow}
+use Rattle.window.specs.Held.{winOf, RepWindow}
+use Rattle.window.specs.Ids.{noId}
 use Rattle.rules.specs.Group.{winAt, isMaximised, withWindows, owing}
 use Rattle.rules.specs.Displays as Rule
 use Rattle.rules.specs.Displays.{withAt, updatedAt, updatedWin, allUpdated}
@@ -24,7 +26,6 @@ use Rattle.rules.proofs.group.Displays.{length-each, window-at}
 use Rattle.display.specs.declared.dims.Moves.{Moves}
 use Rattle.display.specs.Held.{regions}
 use Rattle.display.specs.Dims.{place, takes}
-use Rattle.order.specs.Order.{noId}
 use Rattle.windows.specs.declared.Shared.{Shared}
 use Rattle.windows.specs.declared.Session.{Session}
 use Rattle.windows.specs.declared.inner.update.DimsPlan.{DimsPlan}

@@ -5,7 +5,8 @@ ghost use mathlib.Core.Bool.{_&&_};
 ghost use Prim.Native.Nat.{_<_};
 ghost use lib.Dec.{ltb};
 ghost use lib.ListN.{set};
-ghost use Rattle.window.specs.Held.{Small, rectOf, RepWindow};
+ghost use Rattle.geom.specs.Rect16.{Small, rectOf};
+ghost use Rattle.window.specs.Held.{RepWindow};
 ghost use Rattle.windows.specs.View.{Given};
 ghost use Rattle.windows.specs.Walk.{flagged};
 ghost use Rattle.windows.specs.Dims.{TakesDisplay, Took};
@@ -16,16 +17,16 @@ use crate::inner::frames::frames;
 use crate::inner::one::slot;
 use crate::inner::store::taken;
 use display::dims::fits;
-use order::WinId;
+use geom::rect16::Rect16;
 use winbuf::inner::resize::resize_store;
 use window::Window;
-use window::damage::Area;
+use window::ids::WinId;
 
 // The window that a call of maximise is for, the display that it takes, and the answer.
 #[repr(C)]
 pub struct Takes {
     pub id: WinId,
-    pub display: Area,
+    pub display: Rect16,
     pub answer: u32,
 }
 

@@ -9,8 +9,9 @@
 ghost use mathlib.Core.Path.{_≡_};
 ghost use Prim.Native.Nat.{_≤_, _<_};
 ghost use lib.ListN.{getD};
-ghost use Rattle.window.specs.Held.{RepWindow, Small, rectOf, winOf};
-ghost use Rattle.order.specs.Order.{noId};
+ghost use Rattle.geom.specs.Rect16.{Small, rectOf};
+ghost use Rattle.window.specs.Held.{RepWindow, winOf};
+ghost use Rattle.window.specs.Ids.{noId};
 ghost use Rattle.order.specs.Frames.{Shown};
 ghost use Rattle.windows.specs.View.{Given};
 ghost use Rattle.windows.specs.Pixels.{Becomes};
@@ -29,12 +30,12 @@ use due::Due;
 use geom::Rect;
 use geom::inner::common;
 use geom::inner::meets;
-use order::Place;
+use geom::rect16::Rect16;
 use order::RenderIdx;
-use order::WinId;
 use order::get_render_idx;
 use window::Window;
-use window::damage::Area;
+use window::ids::Place;
+use window::ids::WinId;
 
 // Whose turns there are, in the first n places; whether windows are repaired, and whether a full redraw is owed.
 pub struct Turns {
@@ -51,7 +52,7 @@ pub struct Dragging {
     pub order: [WinId; 16],
     pub maximised: [bool; 16],
     pub id: WinId,
-    pub old: Area,
+    pub old: Rect16,
     pub x: u16,
     pub y: u16,
     pub repairs: bool,
@@ -67,7 +68,7 @@ pub struct DragPlan {
 }
 
 // The windows below a place that meet the rectangle, lowest first, and last the window itself.
-fn uncovered(areas: [Area; 16], order: [WinId; 16], p: Place, id: WinId, old: Area) -> Turns
+fn uncovered(areas: [Rect16; 16], order: [WinId; 16], p: Place, id: WinId, old: Rect16) -> Turns
     requires { ⌜ Shown areas order (p .0) × (p .0 < 16) × Small (rectOf old) ⌝ }
     ensures { λ t. ⌜ TurnsOf areas order (p .0) (id .0) old t ⌝ }
 {
@@ -95,12 +96,12 @@ fn uncovered(areas: [Area; 16], order: [WinId; 16], p: Place, id: WinId, old: Ar
 
 // Whose turns there are. Where a repair owes a full redraw the drag is a move.
 fn whose_turns(
-    areas: [Area; 16],
+    areas: [Rect16; 16],
     order: [WinId; 16],
     shown: usize,
     due: Due,
     id: WinId,
-    old: Area,
+    old: Rect16,
 ) -> Turns
     requires { ⌜ Shown areas order shown × Small (rectOf old) ⌝ }
     ensures { λ t. ⌜ TurnsIn areas order shown due (id .0) old t ⌝ }
@@ -132,7 +133,7 @@ fn refused(id: WinId, answer: u32) -> DragPlan
 {
     let order = [id; 16];
     let maximised = [false; 16];
-    let old = Area {
+    let old = Rect16 {
         x: 0,
         y: 0,
         w: 0,
@@ -216,7 +217,7 @@ fn dragged(mut win: Window, x: u16, y: u16, repairs: bool) -> Window
 }
 
 // A lower window: marked, and what it has in common with the rectangle added to its damage, from its own corner.
-fn uncover(mut win: Window, old: Area) -> Window
+fn uncover(mut win: Window, old: Rect16) -> Window
     requires { ⌜ RepWindow win × Small (rectOf old) ⌝ }
     ensures { λ r. ⌜ Becomes win (uncoveredWin (rectOf old) (winOf win)) r ⌝ }
 {

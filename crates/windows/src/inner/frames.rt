@@ -1,14 +1,14 @@
 // Where the windows of a session are, and which ids are in use.
 ghost use Rattle.windows.specs.Frames.{Framed};
 use crate::Session;
+use geom::rect16::Rect16;
 use order::frames::Frames;
-use window::damage::Area;
 
 // The windows are read at places that are known when this is compiled: an index that is not known would have the session copied.
 pub fn frames(s: Session) -> Frames
     ensures { λ f. ⌜ Framed s 16 f ⌝ }
 {
-    let nowhere = Area {
+    let nowhere = Rect16 {
         x: 0,
         y: 0,
         w: 0,

@@ -22,9 +22,8 @@ use crate::Session;
 use crate::Shared;
 use crate::inner::frames::frames;
 use crate::inner::small::small_point;
-use order::Place;
+use geom::rect16::Rect16;
 use order::RenderIdx;
-use order::WinId;
 use order::close_gap;
 use order::focus_after;
 use order::frames::first_free;
@@ -36,8 +35,9 @@ use order::layers::with_layer;
 use topmost::release::forget;
 use window::CursorPos;
 use window::Window;
-use window::damage::Area;
 use window::damage::Damage;
+use window::ids::Place;
+use window::ids::WinId;
 
 // Where the window of an id lies: at its number. For a number that no window has it is 0, and the call is refused, whatever lies there.
 pub fn slot(id: WinId) -> usize
@@ -83,7 +83,7 @@ pub fn create(mut win: Window, mut shared: Shared, id: WinId) -> CreatedOne
     let mut answer: u32 = 4;
     let mut new = NewId::Absent;
     if !win.used {
-        let origin = Area {
+        let origin = Rect16 {
             x: 0,
             y: 0,
             w: 0,

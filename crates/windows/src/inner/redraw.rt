@@ -21,13 +21,13 @@ use crate::Session;
 use crate::Shared;
 use crate::inner::frames::frames;
 use due::either;
-use order::Place;
 use order::places::window_at;
 use order::rects;
 use order::rects::Rects;
 use order::shown_ids;
 use window::Window;
 use window::damage::Damage;
+use window::ids::Place;
 
 // What was drawn: in full or not; and the answer.
 #[repr(C)]

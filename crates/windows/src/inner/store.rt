@@ -8,8 +8,9 @@ ghost use Prim.Native.Nat.{_≤_};
 ghost use lib.ListN.{length};
 ghost use mathlib.Core.Bool.{false};
 ghost use Rattle.geom.specs.Geom.{rect, isEmpty};
+ghost use Rattle.geom.specs.Rect16.{Small, rectOf};
 ghost use Rattle.scanline.specs.Pixels.{resizedAt};
-ghost use Rattle.window.specs.Held.{Small, rectOf, RepDamage, RepWindow, winOf};
+ghost use Rattle.window.specs.Held.{RepDamage, RepWindow, winOf};
 ghost use Rattle.window.specs.Inner.{Dirtied};
 ghost use Rattle.rules.specs.Store.{resizedWin, filledAt, blitAt};
 ghost use Rattle.rules.specs.Displays.{taken};
@@ -29,16 +30,16 @@ use geom::Intersection;
 use geom::Pos;
 use geom::Rect;
 use geom::inner::is_empty;
-use order::WinId;
+use geom::rect16::Rect16;
 use winbuf::Altered;
 use winbuf::inner::area::blit_area;
 use winbuf::inner::area::fill_area;
 use winbuf::inner::resize::resize_store;
 use window::Event;
 use window::Window;
-use window::damage::Area;
 use window::damage::Damage;
 use window::damage::add_dirty;
+use window::ids::WinId;
 
 // A window's damage after a fill or a blit; the answer, and how many pixels of the store differ.
 #[repr(C)]
@@ -48,7 +49,7 @@ pub struct Painted {
 }
 
 // A window's own pixels, from its corner.
-fn bounds(at: Area) -> Rect
+fn bounds(at: Rect16) -> Rect
     ensures { λ r. ⌜ r ≡ rect 0 0 (at .w) (at .h) ⌝ }
 {
     let pos = Pos::new(0, 0);
@@ -57,7 +58,7 @@ fn bounds(at: Area) -> Rect
 }
 
 // The area is added to the damage of a window of that size.
-pub fn damaged(old: Damage, size: Area, area: Rect) -> Damage
+pub fn damaged(old: Damage, size: Rect16, area: Rect) -> Damage
     requires { ⌜ RepDamage old × Small area × (size .w ≤ 32767) × (size .h ≤ 32767) ⌝ }
     ensures { λ r. ⌜ Dirtied (size .w) (size .h) old area r ⌝ }
 {
@@ -74,7 +75,7 @@ fn unpainted(damage: Damage, answer: u32) -> Painted
 
 // The part of the area that lies in the window takes the colour.
 fn fill_rect(
-    at: Area,
+    at: Rect16,
     old: Damage,
     base: usize,
     area: Rect,
@@ -111,7 +112,7 @@ fn fill_rect(
 
 // Rows of the area take successive chunks of `stride` data, where they lie in the window. How many pixels differ.
 fn blit_part(
-    at: Area,
+    at: Rect16,
     base: usize,
     area: Rect,
     data: &[u32],
@@ -143,7 +144,7 @@ fn blit_part(
 
 // The same, with the area added to the damage uncut. An empty area is left alone.
 fn blit_rect(
-    at: Area,
+    at: Rect16,
     old: Damage,
     base: usize,
     area: Rect,
@@ -164,7 +165,7 @@ fn blit_rect(
 }
 
 // The window at a new place and of a new size, with all of it damaged and Resize queued.
-pub fn taken(mut win: Window, at: Area) -> Window
+pub fn taken(mut win: Window, at: Rect16) -> Window
     requires { ⌜ RepWindow win × Small (rectOf at) ⌝ }
     ensures { λ r. ⌜ Becomes win (taken (rectOf at) (winOf win)) r ⌝ }
 {
@@ -192,7 +193,7 @@ fn resized(win: Window, base: usize, c: usize, size: Dims, store: &mut [u32]) ->
         size.w as u16,
         size.h as usize,
     );
-    let at = Area {
+    let at = Rect16 {
         x: old.x,
         y: old.y,
         w: size.w as u16,
@@ -203,7 +204,7 @@ fn resized(win: Window, base: usize, c: usize, size: Dims, store: &mut [u32]) ->
 
 pub fn fill(
     used: bool,
-    at: Area,
+    at: Rect16,
     damage: Damage,
     c: u32,
     id: WinId,
@@ -229,7 +230,7 @@ pub fn fill(
 
 pub fn blit(
     used: bool,
-    at: Area,
+    at: Rect16,
     damage: Damage,
     c: u32,
     id: WinId,

@@ -5,8 +5,9 @@ ghost use mathlib.Core.Bool.{true, false, cond};
 ghost use Prim.Native.Nat.{_<_};
 ghost use lib.Dec.{eqb};
 ghost use lib.ListN.{getD};
-ghost use Rattle.window.specs.Held.{Small, rectOf, winOf, RepWindow};
-ghost use Rattle.order.specs.Order.{noId};
+ghost use Rattle.geom.specs.Rect16.{Small, rectOf};
+ghost use Rattle.window.specs.Held.{winOf, RepWindow};
+ghost use Rattle.window.specs.Ids.{noId};
 ghost use Rattle.windows.specs.View.{Given};
 ghost use Rattle.windows.specs.Walk.{indebted};
 ghost use Rattle.windows.specs.Pixels.{Becomes};
@@ -19,9 +20,9 @@ use crate::inner::store::taken;
 use display::dims::Moves;
 use display::dims::all_fit;
 use display::dims::resize_all;
-use order::WinId;
+use geom::rect16::Rect16;
 use window::Window;
-use window::damage::Area;
+use window::ids::WinId;
 
 // The windows that go, by number, in the first places of the order; and where all sixteen go. A window goes that takes
 // a display or whose rectangle changes.
@@ -40,7 +41,7 @@ pub struct DimsPlan {
 }
 
 // Whether a window goes: it takes a display, or its rectangle changes.
-fn changes(old: Area, at: Area, takes: bool) -> bool
+fn changes(old: Rect16, at: Rect16, takes: bool) -> bool
     ensures { λ b. ⌜ (b ≡ true → Unmoved (rectOf old) (rectOf at) takes → ⊥) × (b ≡ false → Unmoved (rectOf old) (rectOf at) takes) ⌝ }
 {
     if takes {
@@ -68,7 +69,7 @@ fn refused(moves: Moves, answer: u32) -> DimsPlan
 }
 
 // The windows go that change, by number.
-fn accepted(old: [Area; 16], moves: Moves) -> DimsPlan
+fn accepted(old: [Rect16; 16], moves: Moves) -> DimsPlan
     ensures { λ t. ⌜ Collects (StaysAt old moves) 16 (t .n) (t .what .order) × (t .answer ≡ 0) × (t .what .moves ≡ moves) ⌝ }
 {
     let areas = moves.areas;
@@ -120,7 +121,7 @@ pub fn place(m: Moving, p: usize) -> usize
 }
 
 // A window where it goes, by the rule of resize if it takes a display there.
-fn placed(mut win: Window, at: Area, takes: bool) -> Window
+fn placed(mut win: Window, at: Rect16, takes: bool) -> Window
     requires { ⌜ RepWindow win × Small (rectOf at) ⌝ }
     ensures { λ r. ⌜ Becomes win (goes takes (rectOf at) (winOf win)) r ⌝ }
 {

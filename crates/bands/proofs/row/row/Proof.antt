@@ -7,7 +7,7 @@ use lib.ListN.{length, length-set}
 use borrow.Author.Needs.{needs}
 use Rattle.geom.specs.Inner.{Fits}
 use Rattle.geom.proofs.geometry.Answers.{contains-is}
-use Rattle.window.proofs.laws.Entries.{small-fits}
+use Rattle.geom.proofs.geometry.Facts.{small-fits}
 use Rattle.rules.proofs.Lent.{fits-at}
 use Rattle.bands.proofs.laws.Pass.{Passing, passing-none, passing-over, passing-on, passing-span, row-done, row-last}
 use Rattle.bands.proofs.row.row.Statement.{statement}

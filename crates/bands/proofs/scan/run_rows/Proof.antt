@@ -6,8 +6,8 @@ use native.Mathlib.Omega.{arith}
 use borrow.Author.Tests.{not-true, not-false}
 use Rattle.geom.specs.declared.Rect.{Rect}
 use Rattle.geom.specs.Geom.{left, right}
+use Rattle.geom.proofs.geometry.Facts.{small-fits}
 use Rattle.sheet.specs.Checks.{Decides}
-use Rattle.window.proofs.laws.Entries.{small-fits}
 use Rattle.rules.specs.Visible.{rectsOf}
 use Rattle.rules.proofs.Lent.{length-rects}
 use Rattle.bands.specs.Above.{Alike}

@@ -6,7 +6,7 @@ use native.Mathlib.Omega.{arith}
 use lib.ListN.{length, length-set}
 use Rattle.geom.specs.declared.Rect.{Rect}
 use Rattle.geom.specs.Geom.{bottom}
-use Rattle.window.proofs.laws.Entries.{small-fits}
+use Rattle.geom.proofs.geometry.Facts.{small-fits}
 use Rattle.rules.specs.Visible.{rectsOf}
 use Rattle.rules.proofs.Lent.{length-rects}
 use Rattle.bands.specs.Scan.{RowMade}

@@ -6,7 +6,7 @@ use Rattle.geom.proofs.basics.Tests.{fst, snd}
 use borrow.Author.Tests.{leb-true}
 use Rattle.geom.specs.declared.Rect.{Rect}
 use Rattle.geom.specs.Geom.{smallRect}
-use Rattle.window.specs.Held.{Small}
+use Rattle.geom.specs.Rect16.{Small}
 use Rattle.display.proofs.laws.Added.{adds, no-place, off-screen, too-far}
 use borrow.Author.Needs.{needs}
 use Rattle.display.proofs.Displays.add.Statement.{statement}

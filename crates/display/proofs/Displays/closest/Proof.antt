@@ -6,7 +6,7 @@ use native.Mathlib.Omega.{arith}
 use Rattle.geom.specs.declared.Rect.{Rect}
 use Rattle.geom.specs.Nearest.{nearestX, nearestY, distance²}
 use Rattle.geom.specs.Displays.{away²}
-use Rattle.window.specs.Held.{rectOf}
+use Rattle.geom.specs.Rect16.{rectOf}
 use Rattle.display.specs.Held.{OnScreen}
 use Rattle.display.proofs.laws.Regions.{region, screen-fits, screen-solid}
 use Rattle.display.proofs.laws.Search.{near-enough, Nearing, is-nearer, not-nearer, at-end}

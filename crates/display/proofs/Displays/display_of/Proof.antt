@@ -2,7 +2,7 @@
 use mathlib.Core.Path.{_≡_, sym, ap, subst, _∙_}
 use Rattle.geom.specs.Displays as rule
 use Rattle.geom.specs.Displays.{answered, displayFor}
-use Rattle.window.specs.Held.{Small, rectOf}
+use Rattle.geom.specs.Rect16.{Small, rectOf}
 use Rattle.display.specs.declared.Located.{Located}
 use Rattle.display.specs.Held.{regions, locatedOf}
 use Rattle.display.proofs.laws.Regions.{answer-small}

@@ -1,7 +1,7 @@
 -- The same in both cases.
 use mathlib.Core.Path.{sym, ap, subst, _∙_}
 use Rattle.geom.specs.Displays.{answered}
-use Rattle.window.specs.Held.{Small}
+use Rattle.geom.specs.Rect16.{Small}
 use Rattle.display.specs.declared.Located.{Located}
 use Rattle.display.specs.Held.{locatedOf}
 use borrow.Author.Needs.{needs}

@@ -3,10 +3,10 @@ use Prim.Native.Nat.{ℕ, _≤_}
 use mathlib.Core.Path.{_≡_, sym, ap, subst, _∙_}
 use native.Mathlib.Omega.{arith}
 use Rattle.geom.specs.declared.Rect.{Rect}
+use Rattle.geom.specs.declared.rect16.Rect16.{Rect16}
 use Rattle.geom.specs.Geom.{rect, left, top, right, bottom}
 use Rattle.geom.specs.Displays.{answered}
-use Rattle.window.specs.declared.damage.Area.{Area}
-use Rattle.window.specs.Held.{Small, rectOf}
+use Rattle.geom.specs.Rect16.{Small, rectOf}
 use Rattle.rules.specs.Displays.{warped, keptAt}
 use Rattle.display.specs.declared.Located.{Located}
 use Rattle.display.specs.Held.{locatedOf}
@@ -29,7 +29,7 @@ module _ (c : tie.After-warped2) where
   abbrev d : Rect
   d = told c .before .found2 .given .0 .0
 
-  abbrev at : Area
+  abbrev at : Rect16
   at = entry c .args .at
 
   x-is : c .before .before .before .warped .result ≡ warped (left d) (right d) (at .x)

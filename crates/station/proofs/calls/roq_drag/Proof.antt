@@ -7,8 +7,8 @@ use contract.Running.{tables}
 use denote.Triple.Spec.{tripleOf}
 use denote.Triple.Table.{entered}
 use Rattle.window.specs.Held.{winOf}
+use Rattle.window.specs.Ids.{noId}
 use Rattle.rules.specs.Calls.{Drag}
-use Rattle.order.specs.Order.{noId}
 use Rattle.windows.specs.View.{Given, Meets}
 use Rattle.windows.specs.View as View
 use Rattle.windows.specs.Pixels.{Becomes}

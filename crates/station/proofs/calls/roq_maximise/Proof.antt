@@ -6,7 +6,8 @@ use contract.Running.{tables}
 use denote.Ref.{now}
 use denote.Triple.Spec.{tripleOf}
 use denote.Triple.Table.{entered}
-use Rattle.window.specs.Held.{Small, rectOf, RepWindow}
+use Rattle.geom.specs.Rect16.{Small, rectOf}
+use Rattle.window.specs.Held.{RepWindow}
 use Rattle.rules.specs.Calls.{Maximise}
 use Rattle.windows.specs.View.{Given, MeetsStore}
 use Rattle.windows.specs.View as View

@@ -8,8 +8,8 @@ use contract.Running.{tables}
 use denote.Ref.{now}
 use denote.Triple.Spec.{tripleOf}
 use denote.Triple.Table.{entered}
+use Rattle.window.specs.Ids.{noId}
 use Rattle.rules.specs.Calls.{Redraw}
-use Rattle.order.specs.Order.{noId}
 use Rattle.windows.specs.View.{Given, MeetsScreen}
 use Rattle.windows.specs.View as View
 use Rattle.station.specs.Redraw.{PlansRedraw, SomeTurn, DrawsTurn, free}

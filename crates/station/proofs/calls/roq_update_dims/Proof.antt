@@ -9,8 +9,8 @@ use contract.Running.{tables}
 use denote.Ref.{now}
 use denote.Triple.Spec.{tripleOf}
 use denote.Triple.Table.{entered}
+use Rattle.window.specs.Ids.{noId}
 use Rattle.rules.specs.Calls.{UpdateDims}
-use Rattle.order.specs.Order.{noId}
 use Rattle.windows.specs.View.{Given, MeetsStore}
 use Rattle.windows.specs.View as View
 use Rattle.windows.specs.Walk.{indebted}

@@ -1,6 +1,6 @@
 -- The window is drawn from its rectangle, those above it and its dirty entries.
 use mathlib.Core.Path.{sym, subst}
-use Rattle.window.specs.Held.{Small}
+use Rattle.geom.specs.Rect16.{Small}
 use Rattle.order.proofs.laws.Rects.{lends}
 use Rattle.station.proofs.laws.Redraw.{area-drawn}
 use borrow.Author.Needs.{needs}

@@ -2,7 +2,7 @@
 use mathlib.Core.Path.{refl, sym, subst}
 use native.Mathlib.Omega.{arith}
 use Rattle.geom.specs.Inner.{Fits}
-use Rattle.window.proofs.laws.Entries.{small-fits}
+use Rattle.geom.proofs.geometry.Facts.{small-fits}
 use Rattle.order.specs.Frames.{frameAt}
 use Rattle.topmost.proofs.laws.Hits.{Passed, pass-none, pass-next, pass-end}
 use borrow.Author.Needs.{needs}

@@ -5,8 +5,8 @@ use mathlib.Core.Bool.{Bool, true, false, cond}
 use mathlib.Core.Option.{none, some}
 use lib.Dec.{ltb}
 use borrow.Author.Tests.{eq-eqb, ne-eqb}
+use Rattle.window.specs.declared.ids.WinId.{WinId}
 use Rattle.rules.specs.Order as Rule
-use Rattle.order.specs.declared.WinId.{WinId}
 use Rattle.order.specs.Ids.{heldOf}
 use Rattle.topmost.proofs.release.forget.Statement.{statement}
 use Rattle.topmost.proofs.release.forget.Tie as tie

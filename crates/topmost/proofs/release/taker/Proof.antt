@@ -8,7 +8,7 @@ use mathlib.Core.Option.{none, some}
 use borrow.Author.Tests.{lt-ltb, le-ltb, not-true, not-false}
 use Rattle.geom.specs.declared.Rect.{Rect}
 use Rattle.geom.specs.Geom.{isEmpty}
-use Rattle.order.specs.declared.WinId.{WinId}
+use Rattle.window.specs.declared.ids.WinId.{WinId}
 use Rattle.order.specs.Ids.{heldOf}
 use Rattle.topmost.specs.Topmost.{topmostAt, takerAt}
 use borrow.Author.Needs.{needs}

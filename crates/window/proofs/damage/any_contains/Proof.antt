@@ -6,7 +6,8 @@ use Rattle.geom.specs.declared.Rect.{Rect}
 use Rattle.geom.specs.Geom.{containsRect}
 use Rattle.geom.specs.Bare.{bareContainsRect}
 use Rattle.geom.proofs.geometry.Answers.{contains-rect-is}
-use Rattle.window.proofs.laws.Entries.{entry, low-fits, small-fits, Passed, contains-hit, contains-miss, contains-none}
+use Rattle.geom.proofs.geometry.Facts.{small-fits}
+use Rattle.window.proofs.laws.Entries.{entry, low-fits, Passed, contains-hit, contains-miss, contains-none}
 use borrow.Author.Needs.{needs}
 use Rattle.window.proofs.damage.any_contains.Statement.{statement}
 use Rattle.window.proofs.damage.any_contains.Tie as tie

@@ -5,8 +5,8 @@ use mathlib.Core.Bool.{true}
 use native.Mathlib.Omega.{arith}
 use borrow.Author.Needs.{needs}
 use lib.ListN.{length, getD}
-use Rattle.window.specs.declared.damage.Area.{Area}
-use Rattle.window.specs.Held.{noArea}
+use Rattle.geom.specs.declared.rect16.Rect16.{Rect16}
+use Rattle.geom.specs.Rect16.{noRect16}
 use Rattle.windows.specs.View.{windowAt}
 use Rattle.windows.proofs.laws.Session.{used-at, used-past}
 use Rattle.windows.proofs.laws.Looked.{not-whole, not-used, lies, looked}
@@ -40,7 +40,7 @@ is-used : (c : tie.Then3) → let f = c .before .before in let a = f .before .be
 is-used c = let f = c .before .before in sym (f .frames .ensures .used _ (f .before .if2 .taken)) ∙ c .if3 .taken
 
 stored : (c : tie.Then3) → let f = c .before .before in let a = f .before .before .before .before .before .before .args in
-    let r = getD (f .frames .result .areas) (a .id .0) noArea in
+    let r = getD (f .frames .result .areas) (a .id .0) noRect16 in
     (r .w ≤ 32767) × (r .h ≤ 32767) × (a .id .0 * a .self .shared .c + r .w * r .h ≤ length (a .store .now))
 stored c =
     let f = c .before .before in

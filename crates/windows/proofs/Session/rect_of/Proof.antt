@@ -4,8 +4,8 @@ use mathlib.Core.Path.{_≡_, sym, ap, _∙_}
 use mathlib.Core.Bool.{true, false}
 use Rattle.geom.specs.declared.Rect.{Rect}
 use Rattle.geom.specs.Geom.{rect}
+use Rattle.geom.specs.Rect16.{rectOf}
 use Rattle.window.specs.Window.{Win}
-use Rattle.window.specs.Held.{rectOf}
 use Rattle.rules.specs.Group.{used}
 use Rattle.windows.specs.declared.Session.{Session}
 use Rattle.windows.specs.declared.Placed.{Placed}

@@ -3,7 +3,7 @@ use Prim.Native.Nat.{suc, _*_, _≤_, _<_}
 use mathlib.Core.Path.{_≡_, sym, ap, _∙_}
 use native.Mathlib.Omega.{arith}
 use Rattle.geom.specs.Geom.{width, height}
-use Rattle.window.specs.Held.{rectOf}
+use Rattle.geom.specs.Rect16.{rectOf}
 use Rattle.rules.specs.Visible.{rectsOf}
 use Rattle.order.proofs.laws.Rects.{lends}
 use Rattle.windows.specs.View.{windowAt}

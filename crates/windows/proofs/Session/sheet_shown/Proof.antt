@@ -2,7 +2,7 @@
 use Prim.Native.Nat.{suc}
 use mathlib.Core.Path.{_≡_, ap, _∙_}
 use native.Mathlib.Omega.{arith}
-use Rattle.window.specs.Held.{rectOf}
+use Rattle.geom.specs.Rect16.{rectOf}
 use Rattle.rules.specs.Visible.{rectsOf}
 use Rattle.order.proofs.laws.Rects.{lends}
 use Rattle.windows.specs.View.{windowAt}

@@ -5,8 +5,8 @@ use native.Mathlib.Omega.{arith}
 use lib.Dec.{ltb}
 use lib.ListN.{getD}
 use borrow.Author.Tests.{leb-true}
-use Rattle.window.specs.declared.damage.Area.{Area}
-use Rattle.window.specs.Held.{Small, rectOf, noArea}
+use Rattle.geom.specs.declared.rect16.Rect16.{Rect16}
+use Rattle.geom.specs.Rect16.{Small, rectOf, noRect16}
 use Rattle.windows.specs.View.{windowAt}
 use Rattle.windows.proofs.laws.Dims.{no-store, no-window, too-large, takes-it, old-fits, pixels-in, base-low}
 use borrow.Author.Needs.{needs}
@@ -15,7 +15,7 @@ use Rattle.windows.proofs.inner.dims.plan_take.Tie as tie
 
 -- where the window lies
 module _ (c : tie.After-old) where
-  lies : getD (c .before .before .before .frames .result .areas) (c .before .before .before .before .slot .result) noArea
+  lies : getD (c .before .before .before .frames .result .areas) (c .before .before .before .before .slot .result) noRect16
       ≡ windowAt (c .before .before .before .before .before .before .args .s) (c .before .before .before .before .slot .result) .at
   lies = let f = c .before .before .before in f .frames .ensures .at _ (f .before .slot .ensures .inside)
 
@@ -44,7 +44,7 @@ display-of-requires : tie.Need-display-of-requires
 display-of-requires c κs =
     let s = c .before .before .before .before .before .before .before in
     let p = c .before .before .before .before .before .slot .ensures .inside in
-    (s .pre .rep .displays, subst (λ (a : Area). Small (rectOf a)) (sym (lies (c .before))) (s .pre .rep .each _ p .at))
+    (s .pre .rep .displays, subst (λ (a : Rect16). Small (rectOf a)) (sym (lies (c .before))) (s .pre .rep .each _ p .at))
 
 cast-c : tie.Need-cast-c
 cast-c c = search needs

@@ -4,8 +4,8 @@ use mathlib.Core.Bool.{Bool, true, _&&_}
 use native.Mathlib.Omega.{arith}
 use lib.Dec.{ltb}
 use borrow.Author.Tests.{not-true, not-false}
-use Rattle.window.specs.declared.damage.Area.{Area}
-use Rattle.window.specs.Held.{Small, rectOf}
+use Rattle.geom.specs.declared.rect16.Rect16.{Rect16}
+use Rattle.geom.specs.Rect16.{Small, rectOf}
 use Rattle.windows.specs.View.{windowAt}
 use Rattle.windows.proofs.laws.Frames.{order-lies}
 use Rattle.windows.proofs.laws.DragPlan.{no-window, too-far, low, x-low, y-low, plans}
@@ -89,7 +89,7 @@ whose-turns-requires c κs =
     let s = entry f in
     let inside = f .before .slot .ensures .inside in (
       order-lies (s .args .s) (s .pre) (f .frames .result) (f .frames .ensures),
-      subst (λ (a : Area). Small (rectOf a)) (sym (f .frames .ensures .at _ inside)) (s .pre .rep .each _ inside .at),
+      subst (λ (a : Rect16). Small (rectOf a)) (sym (f .frames .ensures .at _ inside)) (s .pre .rep .each _ inside .at),
     )
 
 -- both questions were answered yes, and the turns found

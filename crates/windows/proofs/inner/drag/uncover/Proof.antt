@@ -4,15 +4,16 @@ use mathlib.Core.Bool.{Bool, true, false}
 use mathlib.Core.List.{List}
 use native.Mathlib.Omega.{arith}
 use Rattle.geom.specs.declared.Rect.{Rect}
+use Rattle.geom.specs.declared.rect16.Rect16.{Rect16}
 use Rattle.geom.specs.Geom.{meets, common}
 use Rattle.geom.specs.Inner.{Fits, Within}
 use Rattle.geom.specs.Lists.{relative}
+use Rattle.geom.specs.Rect16.{rectOf, Small}
 use Rattle.geom.proofs.geometry.Facts.{says-meet, common-within}
 use Rattle.window.specs.declared.Window.{Window}
-use Rattle.window.specs.declared.damage.Area.{Area}
 use Rattle.window.specs.declared.damage.Damage.{Damage}
 use Rattle.window.specs.Window.{addDirty}
-use Rattle.window.specs.Held.{winOf, rectOf, rects, Small, RepWindow}
+use Rattle.window.specs.Held.{winOf, rects, RepWindow}
 use Rattle.window.specs.Inner.{Dirtied}
 use Rattle.rules.specs.Group.{withMark}
 use Rattle.rules.specs.Store.{withDamage}
@@ -27,7 +28,7 @@ abbrev made : Window → Damage → Window
 made w d = record { queue = w .queue; damage = d; at = w .at; cursor = w .cursor; used = w .used; marked = true }
 
 -- a and b are the rectangles of the window and of what was uncovered
-module _ (w : Window) (rep : RepWindow w) (old : Area) (small : Small (rectOf old)) (a b : Rect)
+module _ (w : Window) (rep : RepWindow w) (old : Rect16) (small : Small (rectOf old)) (a b : Rect)
     (a-is : a ≡ rectOf (w .at)) (b-is : b ≡ rectOf old) where
   fits : Fits a × Fits b
   fits =

@@ -5,19 +5,19 @@ use mathlib.Core.Logic.{⊎-elim}
 use native.Mathlib.Omega.{arith}
 use lib.ListN.{getD, getD-replicate}
 use Rattle.geom.specs.declared.Rect.{Rect}
+use Rattle.geom.specs.declared.rect16.Rect16.{Rect16}
 use Rattle.geom.specs.Geom.{meets}
 use Rattle.geom.specs.Inner.{Fits}
-use Rattle.window.specs.declared.damage.Area.{Area}
-use Rattle.window.specs.Held.{Small, rectOf}
+use Rattle.geom.specs.Rect16.{Small, rectOf}
+use Rattle.window.specs.Ids.{noId}
 use Rattle.order.specs.Ids.{num}
-use Rattle.order.specs.Order.{noId}
 use Rattle.order.specs.Frames.{frameAt}
 use Rattle.windows.proofs.laws.Turns.{Collecting, collects, one-met, one-unmet, all-collected}
 use borrow.Author.Needs.{needs}
 use Rattle.windows.proofs.inner.drag.uncovered.Statement.{statement}
 use Rattle.windows.proofs.inner.drag.uncovered.Tie as tie
 
-small-fits : (a : Area) (r : Rect) → r ≡ rectOf a → Small (rectOf a) → Fits r
+small-fits : (a : Rect16) (r : Rect) → r ≡ rectOf a → Small (rectOf a) → Fits r
 small-fits a r e o = let f : Fits (rectOf a) = omega arith in subst Fits (sym e) f
 
 abbrev Inv-loop : tie.InvT-loop

@@ -1,7 +1,7 @@
 -- Each arm of the match gives the event, at which the rule computes.
 use mathlib.Core.Path.{_≡_, sym, ap}
 use Rattle.window.specs.declared.Event.{Event}
-use Rattle.order.specs.declared.WinId.{WinId}
+use Rattle.window.specs.declared.ids.WinId.{WinId}
 use Rattle.windows.specs.Events.{targetOf}
 use borrow.Author.Needs.{needs}
 use Rattle.windows.proofs.inner.events.target_of.Statement.{statement}

@@ -6,7 +6,7 @@ use mathlib.Core.List.{List}
 use native.Mathlib.Omega.{arith}
 use lib.Dec.{eqb}
 use lib.ListN.{getD}
-use Rattle.order.specs.declared.WinId.{WinId}
+use Rattle.window.specs.declared.ids.WinId.{WinId}
 use Rattle.order.specs.Ids.{ids, heldOf}
 use Rattle.order.specs.Order.{Closed}
 use Rattle.rules.specs.Order as Rule

@@ -6,10 +6,10 @@ use mathlib.Core.List.{List}
 use mathlib.Core.Option.{some}
 use lib.Dec.{ltb}
 use Rattle.window.specs.declared.Window.{Window}
+use Rattle.window.specs.declared.ids.WinId.{WinId}
 use Rattle.window.specs.Held.{winOf}
 use Rattle.rules.specs.Repair.{whollyRepaired}
 use Rattle.rules.specs.Calls.{Raise}
-use Rattle.order.specs.declared.WinId.{WinId}
 use Rattle.order.specs.Ids.{ids}
 use Rattle.order.specs.Order.{renderIdx}
 use Rattle.order.specs.Layers.{Low, Raised}

@@ -3,9 +3,10 @@ use mathlib.Core.Path.{_≡_, refl}
 use mathlib.Core.Bool.{true}
 use mathlib.Core.List.{[], _∷_}
 use Rattle.geom.specs.Geom.{rect}
+use Rattle.geom.specs.Rect16.{rectOf}
 use Rattle.window.specs.declared.Window.{Window}
 use Rattle.window.specs.declared.damage.Damage.{Damage}
-use Rattle.window.specs.Held.{winOf, rectOf, rects, events, RepWindow, RepDamage}
+use Rattle.window.specs.Held.{winOf, rects, events, RepWindow, RepDamage}
 use Rattle.rules.specs.Repair.{whollyRepaired}
 use Rattle.windows.specs.Pixels.{Becomes}
 use borrow.Author.Needs.{needs}

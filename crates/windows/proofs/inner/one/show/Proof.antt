@@ -6,7 +6,7 @@ use mathlib.Core.List.{List}
 use mathlib.Core.Option.{none}
 use native.Mathlib.Omega.{arith}
 use lib.Dec.{ltb}
-use Rattle.order.specs.declared.WinId.{WinId}
+use Rattle.window.specs.declared.ids.WinId.{WinId}
 use Rattle.order.specs.Ids.{ids}
 use Rattle.order.specs.Order.{idxOf, renderIdx}
 use Rattle.order.specs.Layers.{Low, Inserted}

@@ -1,6 +1,6 @@
 -- The window is drawn from its rectangle, those above it and its dirty entries, or the screen stays as it is.
 use mathlib.Core.Path.{sym, subst, _∙_}
-use Rattle.window.specs.Held.{Small}
+use Rattle.geom.specs.Rect16.{Small}
 use Rattle.order.proofs.laws.Rects.{lends}
 use Rattle.windows.proofs.laws.Full.{lent-drawn}
 use borrow.Author.Needs.{needs}

@@ -1,13 +1,14 @@
 -- Of the window the cursor and the flags stay.
 use mathlib.Core.Path.{_≡_, refl}
 use mathlib.Core.List.{[], _∷_}
+use Rattle.geom.specs.declared.rect16.Rect16.{Rect16}
 use Rattle.geom.specs.Geom.{rect}
+use Rattle.geom.specs.Rect16.{rectOf, Small}
 use Rattle.window.specs.declared.Window.{Window}
-use Rattle.window.specs.declared.damage.Area.{Area}
 use Rattle.window.specs.declared.damage.Damage.{Damage}
 use Rattle.window.specs.declared.queue.Queue.{Queue}
 use Rattle.window.specs.declared.Event.the-variants.{Resize}
-use Rattle.window.specs.Held.{winOf, rectOf, rects, Small, RepWindow, RepDamage}
+use Rattle.window.specs.Held.{winOf, rects, RepWindow, RepDamage}
 use Rattle.window.specs.Inner.{PushedTo}
 use Rattle.rules.specs.Displays.{taken}
 use Rattle.windows.specs.Pixels.{Becomes}
@@ -15,10 +16,10 @@ use borrow.Author.Needs.{needs}
 use Rattle.windows.proofs.inner.store.taken.Statement.{statement}
 use Rattle.windows.proofs.inner.store.taken.Tie as tie
 
-abbrev made : Window → Area → Damage → Queue → Window
+abbrev made : Window → Rect16 → Damage → Queue → Window
 made v a d q = record { queue = q; damage = d; at = a; cursor = v .cursor; used = v .used; marked = v .marked }
 
-made-is : (v : Window) (a : Area) (d : Damage) (q : Queue) → RepWindow v → Small (rectOf a) → (rects d ≡ rect 0 0 (a .w) (a .h) ∷ []) × RepDamage d
+made-is : (v : Window) (a : Rect16) (d : Damage) (q : Queue) → RepWindow v → Small (rectOf a) → (rects d ≡ rect 0 0 (a .w) (a .h) ∷ []) × RepDamage d
     → PushedTo (v .queue) Resize q → Becomes v (taken (rectOf a) (winOf v)) (made v a d q)
 made-is v a d q r s e f =
     record {

@@ -1,8 +1,8 @@
 -- Questions 1 and 6; then the pixels of all that take a display are resized.
 use mathlib.Core.Path.{sym, subst}
 use borrow.Author.Tests.{not-true, not-false}
-use Rattle.window.specs.declared.damage.Area.{Area}
-use Rattle.window.specs.Held.{Small, rectOf}
+use Rattle.geom.specs.declared.rect16.Rect16.{Rect16}
+use Rattle.geom.specs.Rect16.{Small, rectOf}
 use Rattle.windows.proofs.laws.Planned.{no-store, too-large, plans, roomy}
 use borrow.Author.Needs.{needs}
 use Rattle.windows.proofs.inner.update.plan_moves.Statement.{statement}
@@ -22,7 +22,7 @@ moves-requires : tie.Need-moves-requires
 moves-requires c κs =
     let f = framed c in
     let r = f .before .before .pre .rep in
-    (r .displays, λ i l. subst (λ (a : Area). Small (rectOf a)) (sym (f .frames .ensures .at i l)) (r .each i l .at))
+    (r .displays, λ i l. subst (λ (a : Rect16). Small (rectOf a)) (sym (f .frames .ensures .at i l)) (r .each i l .at))
 
 cast-c : tie.Need-cast-c
 cast-c c = search needs
