@@ -15,8 +15,8 @@ use geom::inner::clamp_pos;
 use geom::inner::dist_sq;
 use geom::inner::is_empty;
 use geom::inner::right;
+use geom::inner::small::is_small;
 use geom::rect16::Rect16;
-use winbuf::inner::region::small_area;
 
 pub mod dims;
 
@@ -79,7 +79,7 @@ impl Displays {
         ensures { λ r. ⌜ Adds self region r ⌝ }
     {
         let mut answer: u32 = 5;
-        if small_area(region.pos.x, region.pos.y, region.dims.w, region.dims.h) {
+        if is_small(region) {
             answer = 15;
             if on_screen(region) {
                 answer = 16;

@@ -7,8 +7,10 @@ ghost use Rattle.geom.specs.Nearest.{nearestX, nearestY, apart, distance
 ghost use Rattle.geom.specs.Inner.{Fits};
 ghost use Rattle.geom.specs.Bare.{edgesFit, bothFit};
 
+pub mod bools;
 pub mod numbers;
 pub mod pieces;
+pub mod small;
 
 use crate::Pos;
 use crate::Rect;

@@ -7,9 +7,6 @@ pub mod place;
 pub mod region;
 pub mod resize;
 
-// Question 5: the greatest coordinate or size.
-pub const MOST: u32 = 32767;
-
 pub fn least(a: usize, b: usize) -> usize
     ensures { λ r. ⌜ r ≡ min a b ⌝ }
 {

@@ -4,11 +4,11 @@
 ghost use mathlib.Core.Path.{_≡_};
 ghost use Rattle.winbuf.specs.Pixels.{lineStart, noPart, scanlineRange, scanline, fillScanline, setScanline, region};
 ghost use Rattle.winbuf.specs.Bare.{Gives, Hands, none, regionStart};
+use geom::inner::small::small_area;
 use inner::least;
 use inner::place::Place;
 use inner::place::line_place;
 use inner::region::region_fits;
-use inner::region::small_area;
 use scanline::row::fill_part;
 use scanline::row::set_part;
 

@@ -8,6 +8,5 @@ pub mod frames;
 pub mod one;
 pub mod portion;
 pub mod redraw;
-pub mod small;
 pub mod store;
 pub mod update;

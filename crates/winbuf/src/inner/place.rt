@@ -2,8 +2,8 @@
 ghost use mathlib.Core.Path.{_≡_};
 ghost use Rattle.winbuf.specs.Pixels.{smallLine, onLine};
 ghost use Rattle.winbuf.specs.Places.{linePlace};
-use super::MOST;
 use super::least;
+use geom::inner::small::MOST;
 
 pub enum Place {
     // A number above 32,767.

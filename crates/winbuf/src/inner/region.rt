@@ -1,13 +1,6 @@
-// The questions of a strided region.
+// Question 13 of a strided region.
 ghost use mathlib.Core.Path.{_≡_};
-ghost use Rattle.winbuf.specs.Pixels.{smallArea, regionFits};
-use super::MOST;
-
-pub fn small_area(x: u32, y: u32, w: u32, h: u32) -> bool
-    ensures { λ r. ⌜ r ≡ smallArea x y w h ⌝ }
-{
-    x <= MOST && (y <= MOST && (w <= MOST && h <= MOST))
-}
+ghost use Rattle.winbuf.specs.Pixels.{regionFits};
 
 // A quotient decides where the region ends: with any stride, the products of the rule may not fit 64 bits.
 pub fn region_fits(total: usize, stride: usize, x: u32, y: u32, w: u32, h: u32) -> bool

@@ -14,7 +14,7 @@ use crate::NextEvent;
 use crate::Session;
 use crate::inner::dims::in_use;
 use crate::inner::frames::frames;
-use crate::inner::small::small_point;
+use geom::inner::small::small_point;
 use order::RenderIdx;
 use order::get_render_idx;
 use topmost::Hit;

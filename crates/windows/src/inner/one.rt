@@ -21,7 +21,7 @@ use crate::NewId;
 use crate::Session;
 use crate::Shared;
 use crate::inner::frames::frames;
-use crate::inner::small::small_point;
+use geom::inner::small::small_point;
 use geom::rect16::Rect16;
 use order::RenderIdx;
 use order::close_gap;

@@ -1,7 +1,7 @@
 -- The width is tested before the height.
 use borrow.Author.Tests.{le-leb, lt-leb}
-use Rattle.windows.proofs.inner.small.is_small_size.Statement.{statement}
-use Rattle.windows.proofs.inner.small.is_small_size.Tie as tie
+use Rattle.geom.proofs.inner.small.is_small_size.Statement.{statement}
+use Rattle.geom.proofs.inner.small.is_small_size.Tie as tie
 
 returns : tie.Need-returns
 returns c = rw (le-leb _ _ (c .before .if1 .taken))

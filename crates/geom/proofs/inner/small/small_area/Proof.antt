@@ -1,7 +1,7 @@
 -- The first test that fails decides, or the last is the answer.
 use borrow.Author.Tests.{le-leb, lt-leb}
-use Rattle.winbuf.proofs.inner.region.small_area.Statement.{statement}
-use Rattle.winbuf.proofs.inner.region.small_area.Tie as tie
+use Rattle.geom.proofs.inner.small.small_area.Statement.{statement}
+use Rattle.geom.proofs.inner.small.small_area.Tie as tie
 
 returns : tie.Need-returns
 returns c = simp (le-leb _ _ (c .before .before .if1 .taken), le-leb _ _ (c .before .if2 .taken), le-leb _ _ (c .if3 .taken))
