@@ -1,6 +1,5 @@
 // Where windows go: the display that a maximised window takes, and where `update_dims` puts each of sixteen windows. Translated from windows/mod.rs.
 ghost use mathlib.Core.Path.{_≡_};
-ghost use mathlib.Core.Bool.{_&&_};
 ghost use Prim.Native.Nat.{ℕ, _<_};
 ghost use lib.ListN.{length};
 ghost use Rattle.geom.specs.Displays.{answered};
@@ -12,6 +11,7 @@ use crate::Displays;
 use crate::Located;
 use geom::Pos;
 use geom::Rect;
+use geom::inner::bools::both;
 use geom::inner::bottom;
 use geom::inner::greatest;
 use geom::inner::least;
@@ -75,15 +75,6 @@ fn answered(found: Located) -> Rect16
         Located::On(d) => area_of(d),
         Located::Closest(d) => area_of(d),
     }
-}
-
-fn both(a: bool, b: bool) -> bool
-    ensures { λ t. ⌜ t ≡ a && b ⌝ }
-{
-    if a {
-        return b;
-    }
-    false
 }
 
 // Question 6 of a window that takes a display.

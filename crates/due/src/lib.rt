@@ -4,6 +4,7 @@ ghost use mathlib.Core.Bool.{_&&_, _||_};
 ghost use Prim.Native.Nat.{_<_};
 ghost use lib.Dec.{leb};
 ghost use Rattle.due.specs.Due.{noWalk, settled, owing, begun, further};
+use geom::inner::bools::either;
 use window::ids::Place;
 
 // A redraw that goes through the places of the render order, lowest first: whether one was begun and is neither over nor dropped, the place of
@@ -54,15 +55,6 @@ impl Walk {
         }
         Due { walk: self, owed }
     }
-}
-
-pub fn either(a: bool, b: bool) -> bool
-    ensures { λ t. ⌜ t ≡ a || b ⌝ }
-{
-    if a {
-        return true;
-    }
-    b
 }
 
 impl Due {

@@ -15,7 +15,7 @@ ghost use Rattle.windows.specs.View.{Given};
 ghost use Rattle.station.specs.Redraw.{paintedAt, Flagged, LaidOut, PlansRedraw, SomeTurn, DrawsTurn, free};
 use due::Due;
 use due::Walk;
-use due::either;
+use geom::inner::bools::either;
 use geom::rect16::Rect16;
 use order::rects;
 use order::rects::Rects;

@@ -12,7 +12,7 @@ use crate::SharedDone;
 use crate::inner::frames::frames;
 use crate::inner::redraw::draw_window;
 use crate::inner::redraw::screen_fits;
-use due::either;
+use geom::inner::bools::either;
 use order::places::window_at;
 use order::rects;
 use order::rects::Rects;

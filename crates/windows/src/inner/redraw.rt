@@ -20,7 +20,7 @@ use crate::Done;
 use crate::Session;
 use crate::Shared;
 use crate::inner::frames::frames;
-use due::either;
+use geom::inner::bools::either;
 use order::places::window_at;
 use order::rects;
 use order::rects::Rects;
