@@ -5,8 +5,9 @@ ghost use lib.ListN.{drop};
 ghost use Rattle.window.specs.Held.{rects, RepDamage};
 ghost use Rattle.order.specs.Ids.{ids};
 ghost use Rattle.order.specs.Frames.{frameAt, Shown};
-ghost use Rattle.order.specs.Rects.{Holds, Added, fullRect};
+ghost use Rattle.order.specs.Rects.{Holds, Added, fullRect, dirtyOf};
 use geom::Rect;
+use geom::inner::bools::either;
 use geom::rect16::Rect16;
 use window::damage::Damage;
 use window::ids::Place;
@@ -54,6 +55,17 @@ impl Rects {
         }
         Rects { numbers, len: n }
     }
+}
+
+// What a redraw takes for dirty: the full rectangle where it is full or no entry is there, else the entries.
+pub fn dirty_of(full: bool, d: Damage) -> Rects
+    requires { ⌜ RepDamage d ⌝ }
+    ensures { λ r. ⌜ Holds r (dirtyOf full (rects d)) ⌝ }
+{
+    if either(full, d.len == 0) {
+        return Rects::full();
+    }
+    Rects::of_damage(d)
 }
 
 // The rectangles of the windows from a place on, lowest first.

@@ -6,11 +6,10 @@ ghost use Prim.Native.Nat.{_+_, _*_, _≤_, _<_};
 ghost use lib.Dec.{eqb};
 ghost use lib.ListN.{length, getD};
 ghost use Rattle.geom.specs.Rect16.{rectOf, Small};
-ghost use Rattle.window.specs.Held.{rects, RepDamage};
+ghost use Rattle.window.specs.Held.{RepDamage};
 ghost use Rattle.window.specs.Ids.{noId};
 ghost use Rattle.rules.specs.Visible.{rectsOf};
 ghost use Rattle.rules.specs.Lent.{Lent};
-ghost use Rattle.order.specs.Rects.{Holds, dirtyOf};
 ghost use Rattle.windows.specs.View.{Given};
 ghost use Rattle.station.specs.Redraw.{paintedAt, Flagged, LaidOut, PlansRedraw, SomeTurn, DrawsTurn, free};
 use due::Due;
@@ -19,6 +18,7 @@ use geom::inner::bools::either;
 use geom::rect16::Rect16;
 use order::rects;
 use order::rects::Rects;
+use order::rects::dirty_of;
 use window::damage::Damage;
 use window::ids::Place;
 use window::ids::WinId;
@@ -141,17 +141,6 @@ pub fn place(order: Order, p: usize) -> usize
     let ids = order.ids;
     let id = ids[p];
     id.0 as usize
-}
-
-// What is taken for dirty: the full rectangle where the redraw is full or no entry is there, else the entries.
-fn dirty_of(full: bool, d: Damage) -> Rects
-    requires { ⌜ RepDamage d ⌝ }
-    ensures { λ r. ⌜ Holds r (dirtyOf full (rects d)) ⌝ }
-{
-    if either(full, d.len == 0) {
-        return Rects::full();
-    }
-    Rects::of_damage(d)
 }
 
 // Draws a window that lies there and has this damage, under n rectangles. Its pixels begin at `base` of the store.

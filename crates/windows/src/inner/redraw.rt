@@ -6,7 +6,7 @@ ghost use Prim.Native.Nat.{_+_, _*_, _≤_};
 ghost use lib.Dec.{leb, eqb};
 ghost use lib.ListN.{length};
 ghost use Rattle.geom.specs.Questions.{small};
-ghost use Rattle.window.specs.Held.{rects, RepDamage, RepWindow};
+ghost use Rattle.window.specs.Held.{RepWindow};
 ghost use Rattle.rules.specs.Visible.{rectsOf};
 ghost use Rattle.rules.specs.Redraw.{drawAll};
 ghost use Rattle.rules.specs.Calls.{Call};
@@ -15,7 +15,6 @@ ghost use Rattle.windows.specs.View.{group, Given};
 ghost use Rattle.windows.specs.Drawing.{Drawable, painted, Ordered, Settles, Draws};
 ghost use Rattle.order.specs.Ids.{ids};
 ghost use Rattle.order.specs.Order.{Marks};
-ghost use Rattle.order.specs.Rects.{Holds, dirtyOf};
 use crate::Done;
 use crate::Session;
 use crate::Shared;
@@ -23,10 +22,9 @@ use crate::inner::frames::frames;
 use geom::inner::bools::either;
 use order::places::window_at;
 use order::rects;
-use order::rects::Rects;
+use order::rects::dirty_of;
 use order::shown_ids;
 use window::Window;
-use window::damage::Damage;
 use window::ids::Place;
 
 // What was drawn: in full or not; and the answer.
@@ -66,17 +64,6 @@ fn drawn_ids(shared: Shared, answer: u32) -> [bool; 16]
     }
     let order = shared.order;
     shown_ids(order, n)
-}
-
-// What a redraw takes for dirty: the full rectangle where it is full or no entry is there, else the entries.
-fn dirty_of(full: bool, d: Damage) -> Rects
-    requires { ⌜ RepDamage d ⌝ }
-    ensures { λ r. ⌜ Holds r (dirtyOf full (rects d)) ⌝ }
-{
-    if either(full, d.len == 0) {
-        return Rects::full();
-    }
-    Rects::of_damage(d)
 }
 
 // Draws a window under n rectangles, if it is to be drawn, as dimming is on or off. Its pixels begin at `base` of the store.

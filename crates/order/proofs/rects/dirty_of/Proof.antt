@@ -3,10 +3,10 @@ use mathlib.Core.Path.{_≡_, _∙_}
 use mathlib.Core.Bool.{_||_}
 use Rattle.window.specs.Held.{rects}
 use Rattle.rules.specs.Redraw.{none?}
 use Rattle.order.proofs.laws.Above.{dirty-full}
 use borrow.Author.Needs.{needs}
-use Rattle.station.proofs.redraw.dirty_of.Statement.{statement}
-use Rattle.station.proofs.redraw.dirty_of.Tie as tie
+use Rattle.order.proofs.rects.dirty_of.Statement.{statement}
+use Rattle.order.proofs.rects.dirty_of.Tie as tie
 
 -- the code's test is the rule's
 test : (c : tie.After-either) → let a = c .before .before .args in a .full || none? (rects (a .d)) ≡ c .either .result
