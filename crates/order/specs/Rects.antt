@@ -1,12 +1,11 @@
 -- Up to sixteen rectangles held as numbers.
-use Prim.Native.Nat.{ℕ, _+_, _≤_}
+use Prim.Native.Nat.{ℕ, _≤_}
 use mathlib.Core.Bool.{Bool, cond, _||_}
 use mathlib.Core.Path.{_≡_}
-use mathlib.Core.List.{List, [], _∷_, _++_}
+use mathlib.Core.List.{List, [], _∷_}
 use lib.ListN.{length}
 use Rattle.geom.specs.declared.Rect.{Rect}
 use Rattle.geom.specs.Geom.{rect}
-use Rattle.geom.specs.Inner.{Fits}
 use Rattle.rules.specs.Visible.{rectsOf}
 use Rattle.rules.specs.Redraw.{none?}
 use Rattle.rules.specs.Lent.{AllFit}
@@ -23,10 +22,6 @@ pub record Holds (r : Rects) (rs : List Rect) : Type 0 where
 -- n rectangles as numbers
 abbrev pub listed : ℕ → List ℕ → Rects
 listed n l = record { numbers = l; len = n }
-
--- the numbers m are l with one more rectangle, at place n
-pub record Added (n : ℕ) (l : List ℕ) (r : Rect) (m : List ℕ) : Type 0 where
-  pub holds : (rs : List Rect) → Fits r → Holds (listed n l) rs → Holds (listed (n + 1) m) (rs ++ (r ∷ []))
 
 -- the constant `Rect::FULL`, the Rust's `FULL_RECT`
 abbrev pub fullRect : Rect

@@ -1,13 +1,14 @@
 // Up to sixteen rectangles as numbers, four for each: what the crate `visible` is lent.
 ghost use mathlib.Core.List.{[], _∷_, map};
-ghost use Prim.Native.Nat.{_≤_, _<_};
+ghost use Prim.Native.Nat.{_≤_};
 ghost use lib.ListN.{drop};
 ghost use Rattle.window.specs.Held.{rects, RepDamage};
 ghost use Rattle.order.specs.Ids.{ids};
 ghost use Rattle.order.specs.Frames.{frameAt, Shown};
-ghost use Rattle.order.specs.Rects.{Holds, Added, fullRect, dirtyOf};
+ghost use Rattle.order.specs.Rects.{Holds, fullRect, dirtyOf};
 use geom::Rect;
 use geom::inner::bools::either;
+use geom::inner::numbers::put;
 use geom::rect16::Rect16;
 use window::damage::Damage;
 use window::ids::Place;
@@ -16,18 +17,6 @@ use window::ids::WinId;
 pub struct Rects {
     pub numbers: [u32; 64],
     pub len: usize,
-}
-
-// Writes a rectangle at place i.
-fn put(numbers: &mut [u32; 64], i: usize, r: Rect)
-    requires { ⌜ i < 16 ⌝ }
-    ensures { λ _. ⌜ Added i (now (numbers .entry)) r (now (numbers .exit)) ⌝ }
-{
-    let at = 4 * i;
-    numbers[at] = r.pos.x;
-    numbers[at + 1] = r.pos.y;
-    numbers[at + 2] = r.dims.w;
-    numbers[at + 3] = r.dims.h;
 }
 
 impl Rects {

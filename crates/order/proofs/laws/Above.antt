@@ -18,9 +18,8 @@ use Rattle.window.specs.Ids.{noId}
 use Rattle.rules.specs.Redraw.{none?}
 use Rattle.order.specs.Ids.{ids}
 use Rattle.order.specs.Frames.{frameAt}
-use Rattle.order.specs.Rects.{Added}
 use Rattle.order.proofs.laws.Order.{ids-length, ids-at}
-use Rattle.order.proofs.laws.Rects.{Filling, fill-none, fill-next}
+use Rattle.order.proofs.laws.Rects.{Added, Filling, fill-none, fill-next}
 
 -- The dirty entries --------------------------------------------------------------------------------------------------
 

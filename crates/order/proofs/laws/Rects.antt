@@ -4,20 +4,19 @@ use mathlib.Core.Path.{_≡_, refl, sym, ap, ap₂, subst, _∙_}
 use mathlib.Core.List.{List, [], _∷_, _++_}
 use mathlib.Core.Logic.{inl}
 use native.Mathlib.Omega.{arith}
-use lib.ListN.{length, getD, set, take, drop, length-append}
+use lib.ListN.{length, getD, take, drop, length-append}
 use lib.Seq.{sets, length-sets, getD-drop, take-suc, take-all}
 use Rattle.geom.specs.declared.Rect.{Rect}
 use Rattle.geom.specs.Geom.{rect}
 use Rattle.geom.specs.Lists.{numbers, rectAt}
 use Rattle.geom.specs.Inner.{Fits}
-use Rattle.geom.proofs.geometry.Numbers.{four-set}
 use Rattle.scanline.proofs.rows.Rows.{sets-on, sets-off}
 use Rattle.window.specs.Held.{Low}
 use Rattle.rules.specs.Visible.{rectsOf}
 use Rattle.rules.specs.Lent.{AllFit, Lent}
 use Rattle.rules.proofs.Lent.{rect-later}
 use Rattle.order.specs.declared.rects.Rects.{Rects}
-use Rattle.order.specs.Rects.{Holds, listed, Added, fullRect}
+use Rattle.order.specs.Rects.{Holds, listed, fullRect}
 
 -- The list of some numbers -------------------------------------------------------------------------------------------
 
@@ -58,22 +57,23 @@ unfolding AllFit
 fit-append [] r h f = (f, tt)
 fit-append (x ∷ rs) r h f = (h .0, fit-append rs r (h .1) f)
 
-pub added : (n : ℕ) (l m : List ℕ) (r : Rect) → n < 16 → m ≡ set (set (set (set l (4 * n) (r .pos .x)) (4 * n + 1) (r .pos .y)) (4 * n + 2) (r .dims .w)) (4 * n + 3) (r .dims .h)
-    → Added n l r m
-added n l m r less s = record {
-  holds = λ rs f h.
-      let t : m ≡ sets l (4 * n) (numbers (r ∷ [])) = s ∙ four-set l (4 * n) r in
-      let up : n + 1 ≡ suc n = omega arith in
-      let room : 4 * n + 4 ≤ length l = omega (arith, h .room) in
-      let long : length (rs ++ (r ∷ [])) ≡ length rs + 1 = length-append rs (r ∷ []) in
-      record {
-        room = ap length t ∙ length-sets l (4 * n) (numbers (r ∷ [])) ∙ h .room;
-        few = omega (arith, h .count);
-        count = omega (arith, h .count);
-        list = rw (up, t) (with-one l n r room ∙ ap (λ (k : List Rect). k ++ (r ∷ [])) (h .list));
-        fit = fit-append rs r (h .fit) f;
-      };
-}
+-- the numbers m are l with one more rectangle, at place n
+abbrev pub Added : ℕ → List ℕ → Rect → List ℕ → Type 0
+Added n l r m = m ≡ sets l (4 * n) (numbers (r ∷ []))
+
+added : {n : ℕ} {l m : List ℕ} {r : Rect} → n < 16 → Added n l r m → (rs : List Rect) → Fits r → Holds (listed n l) rs
+    → Holds (listed (n + 1) m) (rs ++ (r ∷ []))
+added {n} {l} {m} {r} less t rs f h =
+    let up : n + 1 ≡ suc n = omega arith in
+    let room : 4 * n + 4 ≤ length l = omega (arith, h .room) in
+    let long : length (rs ++ (r ∷ [])) ≡ length rs + 1 = length-append rs (r ∷ []) in
+    record {
+      room = ap length t ∙ length-sets l (4 * n) (numbers (r ∷ [])) ∙ h .room;
+      few = omega (arith, h .count);
+      count = omega (arith, h .count);
+      list = rw (up, t) (with-one l n r room ∙ ap (λ (k : List Rect). k ++ (r ∷ [])) (h .list));
+      fit = fit-append rs r (h .fit) f;
+    }
 
 none-held : (l : List ℕ) → length l ≡ 64 → Holds (listed 0 l) []
 unfolding AllFit
@@ -81,7 +81,7 @@ none-held l n = record { room = n; few = omega arith; count = refl; list = refl;
 
 -- the full rectangle alone
 pub full-held : (l m : List ℕ) → length l ≡ 64 → Added 0 l fullRect m → Holds (listed 1 m) (fullRect ∷ [])
-full-held l m n d = d .holds [] (omega arith) (none-held l n)
+full-held l m n d = added (omega arith) d [] (omega arith) (none-held l n)
 
 -- What is lent -------------------------------------------------------------------------------------------------------
 
@@ -110,7 +110,7 @@ module _ {rs : List Rect} {l : List ℕ} {i : ℕ} (q : Filling rs l i) where
       record {
         few = q .few;
         within = omega arith;
-        holds = subst (Holds (listed (i + 1) m)) (sym (ap (λ (k : ℕ). take k rs) up ∙ take-suc rs i z less ∙ ap (λ (x : Rect). take i rs ++ (x ∷ [])) e)) (d .holds (take i rs) f (q .holds));
+        holds = subst (Holds (listed (i + 1) m)) (sym (ap (λ (k : ℕ). take k rs) up ∙ take-suc rs i z less ∙ ap (λ (x : Rect). take i rs ++ (x ∷ [])) e)) (added (omega (arith, q .few)) d (take i rs) f (q .holds));
       }
 
   pub fill-end : (n : ℕ) → n ≤ i → length rs ≡ n → Holds (listed n l) rs

@@ -27,20 +27,32 @@ mul-area c = omega (arith, c .before .before .pre .len, c .loop-test .taken)
 element-copy-out-area : tie.Need-element-copy-out-area Inv-loop μ-loop
 element-copy-out-area c = omega (arith, c .before .before .pre .len, c .loop-test .taken)
 
+slice-aggregate-put : tie.Need-slice-aggregate-put Inv-loop μ-loop
+slice-aggregate-put c = search needs
+
 rect-requires : tie.Need-rect-requires Inv-loop μ-loop
 rect-requires c κs = search needs
 
 put-requires : tie.Need-put-requires Inv-loop μ-loop
-put-requires c κs = omega (arith, c .before .before .before .before .before .pre .len, c .before .before .before .loop-test .taken)
+put-requires c κs =
+    let t = c .before .before .before in
+    omega (arith, t .before .before .pre .len, t .loop-test .taken, t .before .loop .inv .holds .room)
+
+-- the turn, from the place behind the call of `put`
+abbrev turn : tie.After-put Inv-loop μ-loop → tie.In-loop Inv-loop μ-loop
+turn c = c .before .before .before .before
 
 add-i : tie.Need-add-i Inv-loop μ-loop
-add-i c = omega (arith, c .before .before .before .before .before .before .pre .len, c .before .before .before .before .loop-test .taken)
+add-i c = let t = turn (c .before) in omega (arith, t .before .before .pre .len, t .loop-test .taken)
 
 loop-less : tie.Need-loop-less Inv-loop μ-loop
-loop-less c = omega arith
+loop-less c = let t = turn (c .before) in omega (arith, t .loop-test .taken)
 
 loop-again : tie.Need-loop-again Inv-loop μ-loop
-loop-again c = dirty-next _ (c .before .before .before .before .before .before .pre) _ (c .before .before .before .before .before .loop .inv) (c .before .before .before .before .loop-test .taken) (rw (c .before .rect .ensures) at (c .put .ensures))
+loop-again c =
+    let put = c .before in
+    let t = turn put in
+    dirty-next _ (t .before .before .pre) _ (t .before .loop .inv) (t .loop-test .taken) (rw (put .before .rect .ensures) at (put .put .ensures))
 
 returns : tie.Need-returns Inv-loop μ-loop
 returns c = fill-end (c .before .loop .inv) _ (c .loop-test .left) (dirty-count _ (c .before .before .pre))
@@ -55,6 +67,7 @@ of-damage-spec =
     loop-holds
     mul-area
     element-copy-out-area
+    slice-aggregate-put
     rect-requires
     put-requires
     add-i
