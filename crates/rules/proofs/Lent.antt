@@ -1,16 +1,18 @@
--- Rectangles lent as numbers: the one at a place, and those behind it.
+-- Rectangles lent as numbers: the one at a place, those behind it, and one more.
 use Prim.Native.Nat.{ℕ, zero, suc, _+_, _-_, _*_, _≤_, _<_}
-use mathlib.Core.Path.{_≡_, refl, ap, sym, _∙_}
-use mathlib.Core.List.{List, [], _∷_}
+use mathlib.Core.Path.{_≡_, refl, ap, ap₂, sym, _∙_}
+use mathlib.Core.List.{List, [], _∷_, _++_}
+use mathlib.Core.Logic.{_⊎_, inl, inr, ⊎-elim}
 use native.Mathlib.Omega.{arith}
 use native.Mathlib.Numerals.{add-one}
 use native.Mathlib.Nat.{le-refl, not-suc-le-zero}
 use lib.ListN.{length, take, drop, getD, length-drop}
-use lib.Seq.{drop-cons, drop-drop, getD-drop, take-all}
+use lib.Seq.{sets, drop-cons, drop-drop, getD-drop, take-all}
 use Rattle.geom.specs.declared.Rect.{Rect}
 use Rattle.geom.specs.Geom.{rect}
 use Rattle.geom.specs.Inner.{Fits}
-use Rattle.geom.specs.Lists.{rectAt}
+use Rattle.geom.specs.Lists.{numbers, rectAt}
+use Rattle.scanline.proofs.rows.Rows.{sets-on, sets-off}
 use Rattle.rules.specs.Visible.{rectsOf}
 use Rattle.rules.specs.Lent.{AllFit, Lent}
 
@@ -94,3 +96,46 @@ module _ (n : ℕ) (l : List ℕ) (k : ℕ) (h : k < n) where
     room = rw (behind-all k l, length-drop) (omega (arith, lent .room));
     fit = (rw rects-split at (fit-drop k (rectsOf n l) (lent .fit))) .1;
   }
+
+-- One more at a place --------------------------------------------------------------------------------------------------
+
+module _ (l : List ℕ) (k : ℕ) (r : Rect) where
+  abbrev pub stored : List ℕ
+  stored = sets l (4 * k) (numbers (r ∷ []))
+
+  pub put-other : (j : ℕ) → (j < k) ⊎ (k < j) → rectAt stored j ≡ rectAt l j
+  put-other j o = λ i.
+      rect (off (4 * j) (omega arith) (omega arith) i) (off (4 * j + 1) (omega arith) (omega arith) i)
+      (off (4 * j + 2) (omega arith) (omega arith) i) (off (4 * j + 3) (omega arith) (omega arith) i)
+    where
+      off : (a : ℕ) → 4 * j ≤ a → a < 4 * j + 4 → getD stored a 0 ≡ getD l a 0
+      off a b c = sets-off l (4 * k) (numbers (r ∷ [])) a 0 (⊎-elim (λ h. inl (omega arith)) (λ h. inr (omega arith)) o)
+
+  pub put-same : 4 * (k + 1) ≤ length l → rectAt stored k ≡ r
+  put-same room = λ i.
+      rect (on 0 (4 * k) (omega arith) (omega arith) i) (on 1 (4 * k + 1) (omega arith) (omega arith) i)
+      (on 2 (4 * k + 2) (omega arith) (omega arith) i) (on 3 (4 * k + 3) (omega arith) (omega arith) i)
+    where
+      on : (j a : ℕ) → j < 4 → 4 * k + j ≡ a → getD stored a 0 ≡ getD (numbers (r ∷ [])) j 0
+      on j a h e = ap (λ (i : ℕ). getD stored i 0) (sym e) ∙ sets-on l (4 * k) (numbers (r ∷ [])) j 0 h (omega arith)
+
+rects-last : (n : ℕ) (l : List ℕ) → rectsOf (suc n) l ≡ rectsOf n l ++ (rectAt l n ∷ [])
+rects-last zero l = refl
+rects-last (suc n) l =
+    ap (λ (rs : List Rect). rectAt l 0 ∷ rs)
+    (rects-last n (drop 4 l) ∙ ap (λ (r : Rect). rectsOf n (drop 4 l) ++ (r ∷ [])) (rect-later l n))
+
+rects-same : (n : ℕ) (l m : List ℕ) → ((j : ℕ) → j < n → rectAt l j ≡ rectAt m j) → rectsOf n l ≡ rectsOf n m
+rects-same zero l m f = refl
+rects-same (suc n) l m f =
+    ap₂ (λ (r : Rect) (rs : List Rect). r ∷ rs) (f 0 (omega arith))
+    (rects-same n (drop 4 l) (drop 4 m) (λ j h. rect-later l j ∙ f (suc j) (omega arith) ∙ sym (rect-later m j)))
+
+-- at the end of k rectangles it joins them
+pub rects-put : (l : List ℕ) (k : ℕ) (r : Rect) → 4 * (k + 1) ≤ length l
+    → rectsOf (k + 1) (stored l k r) ≡ rectsOf k l ++ (r ∷ [])
+rects-put l k r room =
+    ap (λ (n : ℕ). rectsOf n (stored l k r)) (add-one k)
+    ∙ rects-last k (stored l k r)
+    ∙ ap₂ (λ (rs : List Rect) (s : Rect). rs ++ (s ∷ []))
+    (rects-same k (stored l k r) l (λ j h. put-other l k r j (inl h))) (put-same l k r room)

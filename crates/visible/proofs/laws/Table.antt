@@ -1,25 +1,23 @@
 -- The table of the rectangles above a window: one that the window does not meet can be left out, and one that it meets
 -- joins the end.
-use Prim.Native.Nat.{ℕ, zero, suc, _+_, _*_, _≤_, _<_}
-use mathlib.Core.Path.{_≡_, refl, sym, ap, ap₂, subst, subst₂, _∙_}
+use Prim.Native.Nat.{ℕ, _+_, _*_, _≤_, _<_}
+use mathlib.Core.Path.{_≡_, refl, sym, ap, subst, subst₂, _∙_}
 use mathlib.Core.Bool.{true, false, cond}
 use mathlib.Core.List.{List, [], _∷_, _++_, append-assoc, append-nil}
 use mathlib.Core.Logic.{_⊎_, inl, inr, ⊎-elim}
 use native.Mathlib.Omega.{arith}
-use native.Mathlib.Numerals.{add-one}
-use lib.ListN.{length, drop, getD, drop-of-length-le}
+use lib.ListN.{length, drop, drop-of-length-le}
 use lib.Seq.{sets, length-sets}
 use Rattle.geom.specs.declared.Rect.{Rect}
-use Rattle.geom.specs.Geom.{rect, isEmpty, meets, pieces}
+use Rattle.geom.specs.Geom.{isEmpty, meets, pieces}
 use Rattle.geom.specs.Inner.{Fits, Within}
 use Rattle.geom.specs.Lists.{outside, outsideAll, numbers, rectAt}
 use Rattle.geom.proofs.basics.Tests.{is-false, clash, on-test₂, lt-or-le}
 use Rattle.geom.proofs.basics.Lists.{All}
 use Rattle.geom.proofs.geometry.Facts.{says-meet, says-empty}
 use Rattle.geom.proofs.geometry.Pieces.{left-within}
-use Rattle.scanline.proofs.rows.Rows.{sets-on, sets-off}
 use Rattle.rules.specs.Visible.{rectsOf}
-use Rattle.rules.proofs.Lent.{length-rects, rect-later, rects-next}
+use Rattle.rules.proofs.Lent.{length-rects, rects-next, stored, put-other, put-same, rects-put}
 use Rattle.visible.specs.Seen.{Gathered}
 
 -- One that is left out ------------------------------------------------------------------------------------------------
@@ -56,53 +54,13 @@ met-some a b m =
 
 -- One that joins the end ----------------------------------------------------------------------------------------------
 
-module _ (l : List ℕ) (k : ℕ) (r : Rect) where
-  abbrev stored : List ℕ
-  stored = sets l (4 * k) (numbers (r ∷ []))
-
-  put-other : (j : ℕ) → (j < k) ⊎ (k < j) → rectAt stored j ≡ rectAt l j
-  put-other j o = λ i.
-      rect (off (4 * j) (omega arith) (omega arith) i) (off (4 * j + 1) (omega arith) (omega arith) i)
-      (off (4 * j + 2) (omega arith) (omega arith) i) (off (4 * j + 3) (omega arith) (omega arith) i)
-    where
-      off : (a : ℕ) → 4 * j ≤ a → a < 4 * j + 4 → getD stored a 0 ≡ getD l a 0
-      off a b c = sets-off l (4 * k) (numbers (r ∷ [])) a 0 (⊎-elim (λ h. inl (omega arith)) (λ h. inr (omega arith)) o)
-
-  put-same : 4 * (k + 1) ≤ length l → rectAt stored k ≡ r
-  put-same room = λ i.
-      rect (on 0 (4 * k) (omega arith) (omega arith) i) (on 1 (4 * k + 1) (omega arith) (omega arith) i)
-      (on 2 (4 * k + 2) (omega arith) (omega arith) i) (on 3 (4 * k + 3) (omega arith) (omega arith) i)
-    where
-      on : (j a : ℕ) → j < 4 → 4 * k + j ≡ a → getD stored a 0 ≡ getD (numbers (r ∷ [])) j 0
-      on j a h e = ap (λ (i : ℕ). getD stored i 0) (sym e) ∙ sets-on l (4 * k) (numbers (r ∷ [])) j 0 h (omega arith)
-
-  -- what holds of the rectangles before and of the one that is put holds of all
-  each : (P : Rect → Type 0) → 4 * (k + 1) ≤ length l → ((j : ℕ) → j < k → P (rectAt l j)) → P r
-      → (j : ℕ) → j < k + 1 → P (rectAt stored j)
-  each P room f p j h =
-      ⊎-elim (λ a. subst P (sym (put-other j (inl a))) (f j a))
-      (λ a. let e : k ≡ j = omega arith in
-      subst (λ (i : ℕ). P (rectAt stored i)) e (subst P (sym (put-same room)) p)) (lt-or-le j k)
-
-rects-last : (n : ℕ) (l : List ℕ) → rectsOf (suc n) l ≡ rectsOf n l ++ (rectAt l n ∷ [])
-rects-last zero l = refl
-rects-last (suc n) l =
-    ap (λ (rs : List Rect). rectAt l 0 ∷ rs)
-    (rects-last n (drop 4 l) ∙ ap (λ (r : Rect). rectsOf n (drop 4 l) ++ (r ∷ [])) (rect-later l n))
-
-rects-same : (n : ℕ) (l m : List ℕ) → ((j : ℕ) → j < n → rectAt l j ≡ rectAt m j) → rectsOf n l ≡ rectsOf n m
-rects-same zero l m f = refl
-rects-same (suc n) l m f =
-    ap₂ (λ (r : Rect) (rs : List Rect). r ∷ rs) (f 0 (omega arith))
-    (rects-same n (drop 4 l) (drop 4 m) (λ j h. rect-later l j ∙ f (suc j) (omega arith) ∙ sym (rect-later m j)))
-
-rects-put : (l : List ℕ) (k : ℕ) (r : Rect) → 4 * (k + 1) ≤ length l
-    → rectsOf (k + 1) (stored l k r) ≡ rectsOf k l ++ (r ∷ [])
-rects-put l k r room =
-    ap (λ (n : ℕ). rectsOf n (stored l k r)) (add-one k)
-    ∙ rects-last k (stored l k r)
-    ∙ ap₂ (λ (rs : List Rect) (s : Rect). rs ++ (s ∷ []))
-    (rects-same k (stored l k r) l (λ j h. put-other l k r j (inl h))) (put-same l k r room)
+-- what holds of the rectangles before and of the one that is put holds of all
+each : (l : List ℕ) (k : ℕ) (r : Rect) (P : Rect → Type 0) → 4 * (k + 1) ≤ length l → ((j : ℕ) → j < k → P (rectAt l j)) → P r
+    → (j : ℕ) → j < k + 1 → P (rectAt (stored l k r) j)
+each l k r P room f p j h =
+    ⊎-elim (λ a. subst P (sym (put-other l k r j (inl a))) (f j a))
+    (λ a. let e : k ≡ j = omega arith in
+    subst (λ (i : ℕ). P (rectAt (stored l k r) i)) e (subst P (sym (put-same l k r room)) p)) (lt-or-le j k)
 
 -- The table filled in turn --------------------------------------------------------------------------------------------
 
