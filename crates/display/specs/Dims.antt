@@ -5,7 +5,7 @@ use mathlib.Core.Bool.{Bool, true, false, cond, not, _&&_, _||_}
 use mathlib.Core.List.{List, [], _∷_}
 use lib.ListN.{length, getD}
 use Rattle.geom.specs.declared.Rect.{Rect}
-use Rattle.geom.specs.declared.rect16.Rect16.{Rect16}
+use Rattle.geom.specs.declared.inner.rect16.Rect16.{Rect16}
 use Rattle.geom.specs.Geom.{width, height}
 use Rattle.geom.specs.Rect16.{Small, rectOf, noRect16}
 use Rattle.rules.specs.Displays.{updatedAt, takenStore, fits, everyById}

@@ -15,8 +15,8 @@ use geom::inner::bools::both;
 use geom::inner::bottom;
 use geom::inner::greatest;
 use geom::inner::least;
+use geom::inner::rect16::Rect16;
 use geom::inner::right;
-use geom::rect16::Rect16;
 use winbuf::inner::resize::resize_store;
 
 // What stays visible at least of a window that comes to the closest display.

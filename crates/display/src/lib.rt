@@ -14,9 +14,9 @@ use geom::inner::bottom;
 use geom::inner::clamp_pos;
 use geom::inner::dist_sq;
 use geom::inner::is_empty;
+use geom::inner::rect16::Rect16;
 use geom::inner::right;
 use geom::inner::small::is_small;
-use geom::rect16::Rect16;
 
 pub mod dims;
 

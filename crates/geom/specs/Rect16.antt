@@ -1,7 +1,7 @@
 -- A rectangle held in 16 bits each way, and those that question 5 lets in.
 use Prim.Native.Nat.{_≤_}
 use Rattle.geom.specs.declared.Rect.{Rect}
-use Rattle.geom.specs.declared.rect16.Rect16.{Rect16}
+use Rattle.geom.specs.declared.inner.rect16.Rect16.{Rect16}
 use Rattle.geom.specs.Geom.{rect, left, top, width, height}
 
 -- a rectangle that passes question 5

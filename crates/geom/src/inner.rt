@@ -10,6 +10,7 @@ ghost use Rattle.geom.specs.Bare.{edgesFit, bothFit};
 pub mod bools;
 pub mod numbers;
 pub mod pieces;
+pub mod rect16;
 pub mod small;
 
 use crate::Pos;

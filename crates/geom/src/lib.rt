@@ -7,7 +7,6 @@ ghost use Rattle.geom.specs.Geom.{rect};
 ghost use Rattle.geom.specs.Bare.{met, bareContains, bareContainsRect, bareWithin, bareIntersect, bareUnion, BareNotIntersect};
 
 pub mod inner;
-pub mod rect16;
 
 #[repr(C)]
 pub struct Pos {

@@ -1,6 +1,6 @@
 // Where the windows are by their numbers, and which numbers are in use.
 ghost use Rattle.order.specs.Frames.{FirstFree};
-use geom::rect16::Rect16;
+use geom::inner::rect16::Rect16;
 
 pub struct Frames {
     pub areas: [Rect16; 16],

@@ -9,7 +9,7 @@ ghost use Rattle.order.specs.Rects.{Holds, fullRect, dirtyOf};
 use geom::Rect;
 use geom::inner::bools::either;
 use geom::inner::numbers::put;
-use geom::rect16::Rect16;
+use geom::inner::rect16::Rect16;
 use window::damage::Damage;
 use window::ids::Place;
 use window::ids::WinId;

@@ -15,7 +15,7 @@ ghost use Rattle.station.specs.Redraw.{paintedAt, Flagged, LaidOut, Plan
 use due::Due;
 use due::Walk;
 use geom::inner::bools::either;
-use geom::rect16::Rect16;
+use geom::inner::rect16::Rect16;
 use order::rects;
 use order::rects::Rects;
 use order::rects::dirty_of;

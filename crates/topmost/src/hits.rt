@@ -11,7 +11,7 @@ ghost use Rattle.order.specs.Frames.{frameAt, Shown};
 ghost use Rattle.topmost.specs.Hits.{three, atPoint, Written, toNobody, answered, hitIn};
 use geom::Pos;
 use geom::Rect;
-use geom::rect16::Rect16;
+use geom::inner::rect16::Rect16;
 use window::ids::WinId;
 
 // The three numbers of point i.

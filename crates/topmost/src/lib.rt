@@ -10,7 +10,7 @@ pub mod points;
 pub mod release;
 
 use geom::Pos;
-use geom::rect16::Rect16;
+use geom::inner::rect16::Rect16;
 use window::ids::WinId;
 
 pub enum Hit {

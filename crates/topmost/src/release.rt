@@ -10,7 +10,7 @@ ghost use Rattle.topmost.specs.Topmost.{hitOf, takerAt};
 use crate::Hit;
 use crate::topmost;
 use geom::inner::is_empty;
-use geom::rect16::Rect16;
+use geom::inner::rect16::Rect16;
 use window::ids::WinId;
 
 // Who is remembered where no window is: an id that no window has.

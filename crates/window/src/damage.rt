@@ -12,7 +12,7 @@ ghost use Rattle.window.specs.Held.{Low, rects, RepDamage};
 ghost use Rattle.window.specs.Inner.{MergedInto, JoinedTo, Dirtied};
 use geom::Rect;
 use geom::inner;
-use geom::rect16::Rect16;
+use geom::inner::rect16::Rect16;
 
 // The dirty entries: the first `len` areas. The right and bottom sides of a merged one are at most 65,534.
 #[repr(C)]

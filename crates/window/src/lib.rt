@@ -6,7 +6,7 @@ ghost use mathlib.Core.Bool.{false};
 ghost use Rattle.window.specs.Window.{newWin};
 ghost use Rattle.window.specs.Held.{winOf, RepWindow};
 use damage::Damage;
-use geom::rect16::Rect16;
+use geom::inner::rect16::Rect16;
 use queue::Queue;
 
 pub mod cursor;

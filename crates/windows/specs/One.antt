@@ -5,7 +5,7 @@ use mathlib.Core.Bool.{Bool, true, false}
 use mathlib.Core.List.{List}
 use mathlib.Core.Option.{none, some}
 use lib.ListN.{set}
-use Rattle.geom.specs.declared.rect16.Rect16.{Rect16}
+use Rattle.geom.specs.declared.inner.rect16.Rect16.{Rect16}
 use Rattle.window.specs.declared.Window.{Window}
 use Rattle.window.specs.declared.damage.Damage.{Damage}
 use Rattle.rules.specs.Group.{firstFree}

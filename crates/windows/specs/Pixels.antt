@@ -5,7 +5,7 @@ use Prim.Native.Nat.{ℕ, _+_, _*_, _≤_}
 use mathlib.Core.Path.{_≡_}
 use mathlib.Core.List.{List}
 use Rattle.geom.specs.declared.Rect.{Rect}
-use Rattle.geom.specs.declared.rect16.Rect16.{Rect16}
+use Rattle.geom.specs.declared.inner.rect16.Rect16.{Rect16}
 use Rattle.geom.specs.Rect16.{Small, rectOf}
 use Rattle.scanline.specs.Rows.{Counted}
 use Rattle.window.specs.declared.Window.{Window}

@@ -9,7 +9,7 @@ use native.Mathlib.Numerals.{add-one}
 use lib.ListN.{length, drop, getD, set, length-set}
 use lib.Seq.{drop-cons, drop-length}
 use Rattle.geom.specs.declared.Rect.{Rect}
-use Rattle.geom.specs.declared.rect16.Rect16.{Rect16}
+use Rattle.geom.specs.declared.inner.rect16.Rect16.{Rect16}
 use Rattle.geom.specs.Rect16.{Small, rectOf, noRect16}
 use Rattle.geom.proofs.basics.Lists.{set-in}
 use Rattle.rules.specs.Displays.{updatedAt, takenStore, fits, everyById}

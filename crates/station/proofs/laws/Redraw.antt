@@ -13,7 +13,7 @@ use lib.ListN.{length, getD, set, take, drop, length-set, length-map, length-dro
 use lib.Seq.{drop-cons, getD-set-same, getD-set-other, set-set}
 use borrow.Author.Tests.{leb-true, eqb-true, eq-eqb, ne-eqb}
 use Rattle.geom.specs.declared.Rect.{Rect}
-use Rattle.geom.specs.declared.rect16.Rect16.{Rect16}
+use Rattle.geom.specs.declared.inner.rect16.Rect16.{Rect16}
 use Rattle.geom.specs.Questions.{small}
 use Rattle.geom.specs.Lists.{outsideAll, relative, listIntersect}
 use Rattle.geom.specs.Rect16.{rectOf, noRect16, Small}

@@ -10,8 +10,8 @@ use denote.Struct.Declared.{fields}
 use denote.Struct.Struct.{AreAll}
 use Rattle.window.proofs.Window as Window
 use Rattle.window.proofs.Window.Laws as Window′
-use Rattle.geom.proofs.rect16.Rect16 as Rect16
-use Rattle.geom.proofs.rect16.Rect16.Laws as Rect16′
+use Rattle.geom.proofs.inner.rect16.Rect16 as Rect16
+use Rattle.geom.proofs.inner.rect16.Rect16.Laws as Rect16′
 use Rattle.window.proofs.damage.Damage as Damage
 use Rattle.window.proofs.damage.Damage.Laws as Damage′
 use Rattle.window.proofs.queue.Queue as Queue

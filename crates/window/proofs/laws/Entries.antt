@@ -10,7 +10,7 @@ use lib.ListN.{length, getD, set, take, drop, length-set, length-map, length-app
 use lib.Seq.{drop-cons, drop-length, take-length, take-suc, append-snoc, getD-take, length-take-le, take-set-lt, take-suc-set, drop-set-lt, set-split}
 use borrow.Author.Tests.{le-leb, lt-leb}
 use Rattle.geom.specs.declared.Rect.{Rect}
-use Rattle.geom.specs.declared.rect16.Rect16.{Rect16}
+use Rattle.geom.specs.declared.inner.rect16.Rect16.{Rect16}
 use Rattle.geom.specs.Geom.{rect, isEmpty, containsRect, union}
 use Rattle.geom.specs.Inner.{Fits}
 use Rattle.geom.specs.Rect16.{Small, rectOf, noRect16, rect16Of}

@@ -15,7 +15,7 @@ use lib.ListN.{length, getD, set, length-map, length-set}
 use lib.Seq.{ext-getD}
 use borrow.Author.Tests.{leb-true, eqb-true, eqb-false, eq-eqb, ne-eqb}
 use Rattle.geom.specs.declared.Rect.{Rect}
-use Rattle.geom.specs.declared.rect16.Rect16.{Rect16}
+use Rattle.geom.specs.declared.inner.rect16.Rect16.{Rect16}
 use Rattle.geom.specs.Questions.{small}
 use Rattle.geom.specs.Geom.{meets}
 use Rattle.geom.specs.Rect16.{rectOf, Small}

@@ -10,7 +10,7 @@ use native.Mathlib.Omega.{arith}
 use lib.Dec.{eqb}
 use lib.ListN.{getD, set, length-set}
 use Rattle.geom.specs.declared.Rect.{Rect}
-use Rattle.geom.specs.declared.rect16.Rect16.{Rect16}
+use Rattle.geom.specs.declared.inner.rect16.Rect16.{Rect16}
 use Rattle.geom.specs.Geom.{isEmpty, contains}
 use Rattle.geom.specs.Rect16.{rectOf, noRect16, Small}
 use Rattle.geom.proofs.basics.Tests.{or-right}

@@ -8,7 +8,7 @@ use mathlib.Core.Option.{Option}
 use lib.Dec.{ltb}
 use lib.Seq.{set-getD}
 use borrow.Author.Tests.{ltb-true, lt-ltb, le-ltb}
-use Rattle.geom.specs.declared.rect16.Rect16.{Rect16}
+use Rattle.geom.specs.declared.inner.rect16.Rect16.{Rect16}
 use Rattle.geom.proofs.basics.Tests.{fst, snd, lt-or-le}
 use Rattle.window.specs.declared.Window.{Window}
 use Rattle.window.specs.declared.damage.Damage.{Damage}

@@ -10,7 +10,7 @@ use lib.Dec.{ltb}
 use lib.ListN.{take}
 use borrow.Author.Tests.{ltb-true, lt-ltb}
 use Rattle.geom.specs.declared.Rect.{Rect}
-use Rattle.geom.specs.declared.rect16.Rect16.{Rect16}
+use Rattle.geom.specs.declared.inner.rect16.Rect16.{Rect16}
 use Rattle.geom.specs.Geom.{rect, left, top, width, height, isEmpty, meets, common}
 use Rattle.geom.specs.Inner.{Fits, Within}
 use Rattle.geom.specs.Rect16.{Small}

@@ -12,7 +12,7 @@ use lib.ListN.{length, getD, set, take, length-set}
 use lib.Seq.{take-take, take-suc-set, getD-set-other}
 use borrow.Author.Tests.{eqb-true, eqb-false, ne-eqb}
 use Rattle.geom.specs.declared.Rect.{Rect}
-use Rattle.geom.specs.declared.rect16.Rect16.{Rect16}
+use Rattle.geom.specs.declared.inner.rect16.Rect16.{Rect16}
 use Rattle.geom.specs.Geom.{meets}
 use Rattle.geom.specs.Rect16.{rectOf}
 use Rattle.geom.proofs.basics.Tests.{clash, is-false, fst, nor, nor-fst, nor-snd, on-cond, or-right}

@@ -17,7 +17,7 @@ use crate::inner::frames::frames;
 use crate::inner::one::slot;
 use crate::inner::store::taken;
 use display::dims::fits;
-use geom::rect16::Rect16;
+use geom::inner::rect16::Rect16;
 use winbuf::inner::resize::resize_store;
 use window::Window;
 use window::ids::WinId;

@@ -1,7 +1,7 @@
 // Where the windows of a session are, and which ids are in use.
 ghost use Rattle.windows.specs.Frames.{Framed};
 use crate::Session;
-use geom::rect16::Rect16;
+use geom::inner::rect16::Rect16;
 use order::frames::Frames;
 
 // The windows are read at places that are known when this is compiled: an index that is not known would have the session copied.

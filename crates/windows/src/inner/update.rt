@@ -20,7 +20,7 @@ use crate::inner::store::taken;
 use display::dims::Moves;
 use display::dims::all_fit;
 use display::dims::resize_all;
-use geom::rect16::Rect16;
+use geom::inner::rect16::Rect16;
 use window::Window;
 use window::ids::WinId;
 

@@ -5,7 +5,7 @@ use native.Mathlib.Omega.{arith}
 use lib.Dec.{ltb}
 use lib.ListN.{getD}
 use borrow.Author.Tests.{leb-true}
-use Rattle.geom.specs.declared.rect16.Rect16.{Rect16}
+use Rattle.geom.specs.declared.inner.rect16.Rect16.{Rect16}
 use Rattle.geom.specs.Rect16.{Small, rectOf, noRect16}
 use Rattle.windows.specs.View.{windowAt}
 use Rattle.windows.proofs.laws.Dims.{no-store, no-window, too-large, takes-it, old-fits, pixels-in, base-low}

@@ -1,7 +1,7 @@
 -- Of the window the cursor and the flags stay.
 use mathlib.Core.Path.{_≡_, refl}
 use mathlib.Core.List.{[], _∷_}
-use Rattle.geom.specs.declared.rect16.Rect16.{Rect16}
+use Rattle.geom.specs.declared.inner.rect16.Rect16.{Rect16}
 use Rattle.geom.specs.Geom.{rect}
 use Rattle.geom.specs.Rect16.{rectOf, Small}
 use Rattle.window.specs.declared.Window.{Window}

@@ -1,7 +1,7 @@
 -- Questions 1 and 6; then the pixels of all that take a display are resized.
 use mathlib.Core.Path.{sym, subst}
 use borrow.Author.Tests.{not-true, not-false}
-use Rattle.geom.specs.declared.rect16.Rect16.{Rect16}
+use Rattle.geom.specs.declared.inner.rect16.Rect16.{Rect16}
 use Rattle.geom.specs.Rect16.{Small, rectOf}
 use Rattle.windows.proofs.laws.Planned.{no-store, too-large, plans, roomy}
 use borrow.Author.Needs.{needs}

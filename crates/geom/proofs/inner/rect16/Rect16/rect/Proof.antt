@@ -1,8 +1,8 @@
 -- The position and the size have the area's numbers.
 use Rattle.geom.proofs.geometry.Sides.{placed-sized}
 use borrow.Author.Needs.{needs}
-use Rattle.geom.proofs.rect16.Rect16.rect.Statement.{statement}
-use Rattle.geom.proofs.rect16.Rect16.rect.Tie as tie
+use Rattle.geom.proofs.inner.rect16.Rect16.rect.Statement.{statement}
+use Rattle.geom.proofs.inner.rect16.Rect16.rect.Tie as tie
 
 cast-new : tie.Need-cast-new
 cast-new c = search needs
