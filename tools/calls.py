@@ -72,8 +72,8 @@ def wrong_given(ghosts):
         yield f"`Given` is not the one of {GIVEN[1]}"
 
 
-def tables(text):
-    """The rows of the tables whose first column is headed `call`, each with its line and the heads of its table."""
+def tables(text, head="call"):
+    """The rows of the tables whose first column is headed so, each with its line and the heads of its table."""
     heads = None
     for number, line in enumerate(text.splitlines(), 1):
         cells = [cell.strip() for cell in line.strip().strip("|").split("|")]
@@ -81,7 +81,7 @@ def tables(text):
             heads = None
         elif heads is None:
             heads = cells
-        elif heads[0] == "call" and not set(line) <= set("|-"):
+        elif heads[0] == head and not set(line) <= set("|-"):
             yield number, heads, cells
 
 
