@@ -1,4 +1,2 @@
--- The bands of what is seen of a window under others.
-pub mod Above
-pub mod Sort
-pub mod Scan
+-- Nothing that anybody must believe.
+pub mod inner

@@ -1,10 +1,10 @@
 // The sheet of what is seen of a window under others: document 02, N6.
 ghost use Prim.Native.Nat.{_≤_};
 ghost use Rattle.geom.specs.Rect16.{Small};
-ghost use Rattle.sheet.specs.Writer.{Writes};
+ghost use Rattle.sheet.specs.inner.Writer.{Writes};
 ghost use Rattle.rules.specs.Visible.{rectsOf};
-ghost use Rattle.rules.specs.Lent.{Lent};
-ghost use Rattle.bands.specs.Scan.{seenUnder};
+ghost use Rattle.rules.specs.inner.Lent.{Lent};
+ghost use Rattle.bands.specs.inner.Scan.{seenUnder};
 
 pub mod rects;
 pub mod row;

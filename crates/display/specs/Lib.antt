@@ -1,3 +1,3 @@
--- How the displays are held; then what our own functions say of windows that go to them.
+-- How the displays are held.
 pub mod Held
-pub mod Dims
+pub mod inner

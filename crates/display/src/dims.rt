@@ -6,7 +6,7 @@ ghost use Rattle.geom.specs.Displays.{answered};
 ghost use Rattle.geom.specs.Rect16.{Small, rectOf};
 ghost use Rattle.rules.specs.Displays as rule;
 ghost use Rattle.display.specs.Held.{regions, RepDisplays, locatedOf};
-ghost use Rattle.display.specs.Dims.{place, MovesTo, allFit, Roomy, allResized};
+ghost use Rattle.display.specs.inner.Dims.{place, MovesTo, allFit, Roomy, allResized};
 use crate::Displays;
 use crate::Located;
 use geom::Pos;

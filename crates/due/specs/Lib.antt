@@ -1,2 +1,2 @@
--- What our own functions say of what is due.
-pub mod Due
+-- Nothing that anybody must believe.
+pub mod inner

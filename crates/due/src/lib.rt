@@ -3,7 +3,7 @@ ghost use mathlib.Core.Path.{_≡_};
 ghost use mathlib.Core.Bool.{_&&_, _||_};
 ghost use Prim.Native.Nat.{_<_};
 ghost use lib.Dec.{leb};
-ghost use Rattle.due.specs.Due.{noWalk, settled, owing, begun, further};
+ghost use Rattle.due.specs.inner.Due.{noWalk, settled, owing, begun, further};
 use geom::inner::bools::either;
 use window::ids::Place;
 

@@ -1,4 +1,4 @@
--- What everybody must believe of rectangles; then what our own functions say, and the limits.
+-- What everybody must believe of rectangles, and the limits.
 pub mod Questions
 pub mod Geom
 pub mod Rect16
@@ -7,5 +7,5 @@ pub mod Areas
 pub mod Nearest
 pub mod Displays
 pub mod Bare
-pub mod Inner
 pub mod Limits
+pub mod inner

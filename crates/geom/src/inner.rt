@@ -4,7 +4,7 @@ ghost use mathlib.Core.Bool.{true, false};
 ghost use Prim.Native.Nat.{_≤_, min, max};
 ghost use Rattle.geom.specs.Geom as rule;
 ghost use Rattle.geom.specs.Nearest.{nearestX, nearestY, apart, distance²};
-ghost use Rattle.geom.specs.Inner.{Fits};
+ghost use Rattle.geom.specs.inner.Fits.{Fits};
 ghost use Rattle.geom.specs.Bare.{edgesFit, bothFit};
 
 pub mod bools;

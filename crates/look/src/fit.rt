@@ -2,7 +2,7 @@
 ghost use mathlib.Core.Path.{_≡_};
 ghost use Prim.Native.Nat.{_≤_};
 ghost use Rattle.look.specs.Quarters.{fitsBoth, fitQuarters, fittedOf};
-ghost use Rattle.look.specs.Inner.{Countable};
+ghost use Rattle.look.specs.inner.Steps.{Countable};
 use crate::Sizes;
 use crate::Steps;
 use crate::quarters::step_of;

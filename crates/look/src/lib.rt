@@ -8,7 +8,7 @@ ghost use mathlib.Core.Path.{_≡_};
 ghost use Prim.Native.Nat.{_+_, _*_, _≤_};
 ghost use lib.ListN.{length};
 ghost use Rattle.look.specs.View.{isSide, targetFits};
-ghost use Rattle.look.specs.Inner.{Looks};
+ghost use Rattle.look.specs.inner.Steps.{Looks};
 use rows::look_rows;
 use whole::Whole;
 use whole::whole_of;

@@ -5,7 +5,7 @@ ghost use lib.ListN.{length};
 ghost use lib.Seq.{sets};
 ghost use Rattle.look.specs.Quarters.{placeQuarters};
 ghost use Rattle.look.specs.View.{line, shown};
-ghost use Rattle.look.specs.Inner.{Columns, Along, Stepping, stepped, lookRow};
+ghost use Rattle.look.specs.inner.Steps.{Columns, Along, Stepping, stepped, lookRow};
 use crate::Steps;
 use scanline::row::copy_part;
 use scanline::row::fill_part;

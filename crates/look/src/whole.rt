@@ -1,6 +1,6 @@
 // A look in whole quarters.
 ghost use mathlib.Core.Path.{_≡_};
-ghost use Rattle.look.specs.Inner.{Countable, joinedOf, wholeOf};
+ghost use Rattle.look.specs.inner.Steps.{Countable, joinedOf, wholeOf};
 use crate::Look;
 use crate::Sizes;
 use crate::Steps;

@@ -1,6 +1,3 @@
--- The ids of an order; then what our own functions say of it, of a window that joins it, of where the windows are, and of rectangles held as numbers.
+-- The ids of an order.
 pub mod Ids
-pub mod Order
-pub mod Layers
-pub mod Frames
-pub mod Rects
+pub mod inner

@@ -1,5 +1,5 @@
 // Where the windows are by their numbers, and which numbers are in use.
-ghost use Rattle.order.specs.Frames.{FirstFree};
+ghost use Rattle.order.specs.inner.Frames.{FirstFree};
 use geom::inner::rect16::Rect16;
 
 pub struct Frames {

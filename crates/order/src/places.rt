@@ -2,7 +2,7 @@
 ghost use mathlib.Core.Path.{_≡_};
 ghost use Prim.Native.Nat.{_<_};
 ghost use lib.ListN.{getD, set};
-ghost use Rattle.window.specs.Ids.{noId};
+ghost use Rattle.window.specs.inner.Ids.{noId};
 use window::ids::Place;
 use window::ids::WinId;
 

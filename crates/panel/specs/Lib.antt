@@ -1,2 +1,2 @@
--- What the program asks of an event.
-pub mod Press
+-- Nothing that anybody must believe.
+pub mod inner

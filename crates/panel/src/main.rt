@@ -3,7 +3,7 @@
 // `check::expect` requires that its argument is true: each check below is proved, from the contracts of the calls alone.
 ghost use mathlib.Core.Path.{_≡_};
 ghost use Rattle.windows.specs.View.{eventIn};
-ghost use Rattle.panel.specs.Press.{isPress};
+ghost use Rattle.panel.specs.inner.Press.{isPress};
 use geom::Dims;
 use geom::Rect;
 use window::Event;

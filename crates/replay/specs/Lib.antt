@@ -2,5 +2,5 @@
 pub mod Called
 pub mod Ready
 pub mod Looks
-pub mod Sheets
 pub mod Played
+pub mod inner

@@ -6,7 +6,7 @@ ghost use Rattle.script.specs.Kind as Kind;
 ghost use Rattle.windows.specs.View.{group, Given};
 ghost use Rattle.bare.specs.Numbers.{num, idOf, Sound};
 ghost use Rattle.replay.specs.Ready.{Ready, Next, unlisted, unsheeted};
-ghost use Rattle.replay.specs.Sheets.{ReadsPart, sheetLen, PrintsPart};
+ghost use Rattle.replay.specs.inner.Sheets.{ReadsPart, sheetLen, PrintsPart};
 use crate::lend;
 use crate::player::Player;
 use bare::numbers;

@@ -10,11 +10,11 @@ use lib.ListN.{length, take, drop, getD, length-drop}
 use lib.Seq.{sets, drop-cons, drop-drop, getD-drop, take-all}
 use Rattle.geom.specs.declared.Rect.{Rect}
 use Rattle.geom.specs.Geom.{rect}
-use Rattle.geom.specs.Inner.{Fits}
+use Rattle.geom.specs.inner.Fits.{Fits}
 use Rattle.geom.specs.Lists.{numbers, rectAt}
 use Rattle.scanline.proofs.rows.Rows.{sets-on, sets-off}
 use Rattle.rules.specs.Visible.{rectsOf}
-use Rattle.rules.specs.Lent.{AllFit, Lent}
+use Rattle.rules.specs.inner.Lent.{AllFit, Lent}
 
 -- The one at a place -------------------------------------------------------------------------------------------------
 

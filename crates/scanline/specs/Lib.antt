@@ -1,4 +1,4 @@
--- What everybody must believe of pixels; then what our own functions say.
+-- What everybody must believe of pixels.
 pub mod Altered
 pub mod Pixels
-pub mod Rows
+pub mod inner

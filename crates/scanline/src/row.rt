@@ -5,7 +5,7 @@ ghost use lib.ListN.{length, replicate};
 ghost use lib.Seq.{sets};
 ghost use Rattle.scanline.specs.Altered.{differs};
 ghost use Rattle.scanline.specs.Pixels.{part};
-ghost use Rattle.scanline.specs.Rows.{Counted};
+ghost use Rattle.scanline.specs.inner.Rows.{Counted};
 
 // n pixels of `src` from `from` on go to `at` on.
 pub fn copy_part(px: &mut [u32], at: usize, src: &[u32], from: usize, n: u16)

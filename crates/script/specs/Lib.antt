@@ -3,5 +3,5 @@ pub mod Text
 pub mod Kind
 pub mod Script
 pub mod Examples
-pub mod Table
 pub mod Machine
+pub mod inner

@@ -3,7 +3,7 @@ ghost use mathlib.Core.Path.{_≡_};
 ghost use mathlib.Core.Option.{some};
 ghost use Prim.Native.Nat.{_≤_, _<_};
 ghost use Rattle.script.specs.Script.{countedBy, counted};
-ghost use Rattle.script.specs.Table.{words, rowAt, follows, Rows};
+ghost use Rattle.script.specs.inner.Table.{words, rowAt, follows, Rows};
 use crate::kind::LAST;
 use crate::kind::ROW;
 use crate::kind::ROWS;

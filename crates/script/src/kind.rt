@@ -3,7 +3,7 @@ ghost use mathlib.Core.Path.{_≡_};
 ghost use Prim.Native.Nat.{_<_};
 ghost use lib.ListN.{take};
 ghost use Rattle.script.specs.Script.{kindOf, sameWord};
-ghost use Rattle.script.specs.Table.{words, rowAt, Rows};
+ghost use Rattle.script.specs.inner.Table.{words, rowAt, Rows};
 
 // Empty, or begins with `#`: nothing is written.
 pub const PASSED: u8 = 0;

@@ -1,3 +1,3 @@
--- What everybody must believe of dimming; then what our own functions say.
+-- What everybody must believe of dimming.
 pub mod Shade
-pub mod Table
+pub mod inner

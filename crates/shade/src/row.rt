@@ -7,7 +7,7 @@ ghost use lib.ListN.{length, replicate, getD};
 ghost use lib.Seq.{sets};
 ghost use Rattle.scanline.specs.Pixels.{part};
 ghost use Rattle.shade.specs.Shade as Shade;
-ghost use Rattle.shade.specs.Table.{Entries};
+ghost use Rattle.shade.specs.inner.Table.{Entries};
 use scanline::row::fill_part;
 
 // Entry i is (i * i + 127) / 255. Who lends it builds it anew: so it is lent once for all rows of an area.

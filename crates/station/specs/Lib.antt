@@ -4,5 +4,4 @@ pub mod Events
 pub mod Looks
 pub mod Parts
 pub mod Rects
-pub mod Inner
-pub mod Redraw
+pub mod inner

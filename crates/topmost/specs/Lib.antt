@@ -1,3 +1,2 @@
--- What our own functions say of the topmost window at a point, and at many.
-pub mod Topmost
-pub mod Hits
+-- Nothing that anybody must believe.
+pub mod inner

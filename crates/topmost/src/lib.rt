@@ -2,8 +2,8 @@
 ghost use mathlib.Core.Path.{_≡_};
 ghost use mathlib.Core.Option.{none};
 ghost use Rattle.order.specs.Ids.{ids};
-ghost use Rattle.order.specs.Frames.{frameAt, Shown};
-ghost use Rattle.topmost.specs.Topmost.{hitOf, topmostAt};
+ghost use Rattle.order.specs.inner.Frames.{frameAt, Shown};
+ghost use Rattle.topmost.specs.inner.Topmost.{hitOf, topmostAt};
 
 pub mod hits;
 pub mod points;

@@ -1,3 +1,2 @@
--- What the functions of this crate say beside the rules.
-pub mod Seen
-pub mod Outside
+-- Nothing that anybody must believe.
+pub mod inner

@@ -2,7 +2,7 @@
 ghost use mathlib.Core.Path.{_≡_};
 ghost use Prim.Native.Nat.{_≤_};
 ghost use Rattle.geom.specs.Geom.{left, top, meets};
-ghost use Rattle.geom.specs.Inner.{Fits};
+ghost use Rattle.geom.specs.inner.Fits.{Fits};
 ghost use Rattle.geom.specs.Lists as rule;
 use geom::Rect;
 use geom::inner;

@@ -2,10 +2,10 @@
 ghost use mathlib.Core.Path.{_≡_};
 ghost use mathlib.Core.Bool.{cond};
 ghost use Prim.Native.Nat.{_≤_};
-ghost use Rattle.geom.specs.Inner.{Within};
+ghost use Rattle.geom.specs.inner.Fits.{Within};
 ghost use Rattle.geom.specs.Rect16.{Small};
 ghost use Rattle.rules.specs.Redraw.{drawRegion};
-ghost use Rattle.visible.specs.Seen.{Drawable, viewOf, own};
+ghost use Rattle.visible.specs.inner.Seen.{Drawable, viewOf, own};
 use geom::Rect;
 use geom::inner;
 use shade::area::draw_area;

@@ -1,5 +1,4 @@
--- What everybody must believe of one window; then what our own functions say.
+-- What everybody must believe of one window.
 pub mod Window
 pub mod Held
-pub mod Ids
-pub mod Inner
+pub mod inner

@@ -1,8 +1,8 @@
-// An event in a queue: `slotOf` (specs/Inner.antt) and `eventOf` (specs/Held.antt) in code.
+// An event in a queue: `slotOf` (specs/inner/Changes.antt) and `eventOf` (specs/Held.antt) in code.
 ghost use mathlib.Core.Path.{_≡_};
 ghost use Prim.Native.Nat.{_≤_};
 ghost use Rattle.window.specs.Held.{eventOf};
-ghost use Rattle.window.specs.Inner.{Queued, slot, slotOf};
+ghost use Rattle.window.specs.inner.Changes.{Queued, slot, slotOf};
 use crate::Event;
 
 // An event as plain numbers: a queue holds no enum, so that C and Rust can own the session that holds the queue.

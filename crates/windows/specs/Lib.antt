@@ -1,16 +1,8 @@
 -- How a session holds a group and what its calls promise; of the program demand 3, demand 1, two panels, and panels
--- that stay on top; then what our own functions say.
+-- that stay on top.
 pub mod View
 pub mod Run
 pub mod Demand1
 pub mod Panels
 pub mod Layers
-pub mod One
-pub mod Frames
-pub mod Drawing
-pub mod Walk
-pub mod Pixels
-pub mod Dims
-pub mod Drag
-pub mod Events
-pub mod Aimed
+pub mod inner

@@ -3,7 +3,7 @@ ghost use mathlib.Core.Path.{_≡_};
 ghost use mathlib.Core.Option.{some};
 ghost use Rattle.windows.specs.View.{group, Given, Prints};
 ghost use Rattle.order.specs.Ids.{ids};
-ghost use Rattle.order.specs.Order.{renderIdx};
+ghost use Rattle.order.specs.inner.Order.{renderIdx};
 use crate::Session;
 use crate::inner::frames::frames;
 use order::RenderIdx;

@@ -11,11 +11,11 @@ use Rattle.geom.specs.Geom.{left, right, bottom, width}
 use Rattle.geom.specs.Lists.{anyHas}
 use Rattle.geom.proofs.basics.Tests.{lt-or-le}
 use Rattle.sheet.specs.Sheet.{Span, inSpans, Apart}
-use Rattle.sheet.specs.Numbers.{spansIn}
-use Rattle.sheet.specs.Checks.{Decides}
+use Rattle.sheet.specs.inner.Numbers.{spansIn}
+use Rattle.sheet.specs.inner.Checks.{Decides}
 use Rattle.sheet.proofs.laws.Numbers.{spansIn-ext}
-use Rattle.bands.specs.Above.{NextRow, Alike, RunRows}
-use Rattle.bands.specs.Scan.{seenIn, RowMade, IsRow, Kept}
+use Rattle.bands.specs.inner.Above.{NextRow, Alike, RunRows}
+use Rattle.bands.specs.inner.Scan.{seenIn, RowMade, IsRow, Kept}
 
 -- rows that are covered alike are seen alike
 pub seen-alike : (at : Rect) (bs : List Rect) (z y : ℕ) → Alike bs (left at) (right at) z y → (c : ℕ) → seenIn at bs z c ≡ seenIn at bs y c

@@ -15,13 +15,13 @@ use Rattle.geom.specs.Lists.{rectAt, anyHas}
 use Rattle.geom.proofs.basics.Tests.{nor, or-left, lt-or-le, clash}
 use Rattle.geom.proofs.geometry.Facts.{In, says-in, not-in}
 use Rattle.sheet.specs.Sheet.{Span, inSpans, Apart}
-use Rattle.sheet.specs.Numbers.{spansIn}
+use Rattle.sheet.specs.inner.Numbers.{spansIn}
 use Rattle.sheet.proofs.laws.Numbers.{spansIn-ext, spansIn-more}
 use Rattle.sheet.proofs.laws.Snoc.{after, after-more, apart-more, in-more}
 use Rattle.rules.specs.Visible.{rectsOf}
 use Rattle.rules.proofs.Lent.{length-rects, rects-next}
-use Rattle.bands.specs.Sort.{NoneBefore, Sorted}
-use Rattle.bands.specs.Scan.{seenIn, RowMade}
+use Rattle.bands.specs.inner.Sort.{NoneBefore, Sorted}
+use Rattle.bands.specs.inner.Scan.{seenIn, RowMade}
 use Rattle.bands.proofs.laws.Lent.{rects-end}
 use Rattle.bands.proofs.laws.Sorts.{sorted-drop, none-has}
 

@@ -10,13 +10,13 @@ use lib.ListN.{length, getD, drop}
 use Rattle.geom.specs.declared.Rect.{Rect}
 use Rattle.geom.proofs.basics.Tests.{lt-or-le}
 use Rattle.sheet.specs.Sheet.{Span, inSpans, Apart}
-use Rattle.sheet.specs.Numbers.{spansIn}
-use Rattle.sheet.specs.Checks.{Decides}
+use Rattle.sheet.specs.inner.Numbers.{spansIn}
+use Rattle.sheet.specs.inner.Checks.{Decides}
 use Rattle.sheet.proofs.laws.Numbers.{length-spansIn, spansIn-ext}
 use Rattle.sheet.proofs.laws.Pixels.{says-cols}
 use Rattle.sheet.proofs.laws.Reading.{says-yes, says-no}
 use Rattle.sheet.proofs.laws.Unique.{spans-unique}
-use Rattle.bands.specs.Scan.{seenIn, RowMade, IsRow, Kept}
+use Rattle.bands.specs.inner.Scan.{seenIn, RowMade, IsRow, Kept}
 
 -- Number by number ---------------------------------------------------------------------------------------------------
 

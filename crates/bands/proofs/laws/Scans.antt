@@ -16,9 +16,9 @@ use Rattle.geom.specs.Rect16.{Small}
 use Rattle.geom.proofs.basics.Tests.{lt-or-le, fst, or-left, or-right}
 use Rattle.bands.specs.declared.scan.Made.{Made}
 use Rattle.sheet.specs.Sheet.{Span, Band, Sheet, inSpans, has, Apart, Proper, Bands, nothing, SpansFit, BandsFit}
-use Rattle.bands.specs.Above.{Alike, RunRows}
-use Rattle.sheet.specs.Numbers.{spansIn, countIn, bandIn, past, bandsIn, endIn}
-use Rattle.bands.specs.Scan.{uncovered, seenUnder, seenIn, RowMade, Scanned}
+use Rattle.bands.specs.inner.Above.{Alike, RunRows}
+use Rattle.sheet.specs.inner.Numbers.{spansIn, countIn, bandIn, past, bandsIn, endIn}
+use Rattle.bands.specs.inner.Scan.{uncovered, seenUnder, seenIn, RowMade, Scanned}
 use Rattle.bands.proofs.laws.Down.{seen-alike, alike-seen}
 use Rattle.sheet.proofs.laws.Edges.{edges, edges-most, edges-less, edges-fall}
 use Rattle.sheet.proofs.laws.Numbers.{length-spansIn, length-bandsIn, spansIn-ext, bandsIn-more, endIn-more, bands-kept, end-kept}

@@ -1,7 +1,7 @@
 -- What was scanned is the one sheet of the pixels seen, so that its bits are the answer.
 use mathlib.Core.Path.{subst, _∙_}
 use Rattle.sheet.specs.Sheet.{Sheet}
-use Rattle.sheet.specs.Writer.{Writes}
+use Rattle.sheet.specs.inner.Writer.{Writes}
 use Rattle.rules.specs.Visible.{rectsOf}
 use Rattle.bands.proofs.laws.Scans.{scanned-sheet, same-seen}
 use borrow.Author.Needs.{needs}

@@ -15,7 +15,7 @@ use Rattle.geom.proofs.basics.Lists.{set-in}
 use Rattle.rules.specs.Displays.{updatedAt, takenStore, fits, everyById}
 use Rattle.rules.proofs.store.Resize.{length-resized}
 use Rattle.display.specs.declared.dims.Moves.{Moves}
-use Rattle.display.specs.Dims.{place, takes, MovesTo, allFit, resizedOne, allResized}
+use Rattle.display.specs.inner.Dims.{place, takes, MovesTo, allFit, resizedOne, allResized}
 
 -- Where each goes ------------------------------------------------------------------------------------------------------
 

@@ -8,7 +8,7 @@ use lib.ListN.{length, take, drop, getD, length-map, List·getD-map}
 use lib.Seq.{length-take-le, getD-take, drop-cons, drop-length, take-suc, take-length}
 use Rattle.geom.specs.declared.Rect.{Rect}
 use Rattle.geom.specs.Geom.{isEmpty}
-use Rattle.geom.specs.Inner.{Fits}
+use Rattle.geom.specs.inner.Fits.{Fits}
 use Rattle.geom.specs.Displays.{answered, displayFor}
 use Rattle.geom.specs.Rect16.{Small, rectOf, noRect16}
 use Rattle.geom.proofs.basics.Tests.{is-false}

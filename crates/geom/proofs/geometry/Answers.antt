@@ -13,7 +13,7 @@ use Rattle.geom.specs.declared.NotIntersect.{NotIntersect}
 use Rattle.geom.specs.declared.Intersection.{Intersection}
 use Rattle.geom.specs.declared.Intersection.the-variants.{Common, Apart, Refused}
 use Rattle.geom.specs.Geom.{rect, contains, containsRect, meets, common, intersect, union, pieces}
-use Rattle.geom.specs.Inner.{Fits}
+use Rattle.geom.specs.inner.Fits.{Fits}
 use Rattle.geom.specs.Bare.{Holds, bothFit, tested, bareContains, bareContainsRect, bareUnion, Met, met, bareIntersect, barePieces, BareNotIntersect}
 use Rattle.geom.proofs.basics.Tests.{says-and}
 use Rattle.geom.proofs.geometry.Facts.{says-fits}

@@ -8,7 +8,7 @@ use Rattle.geom.specs.declared.Rect.{Rect}
 use Rattle.geom.specs.Geom.{contains, common, ifAny, pieceAbove, pieceLeft, pieceRight, pieceBelow, around, pieces}
 use Rattle.geom.specs.Lists.{outside, outsideAll, anyHas, Disjoint}
 use Rattle.geom.proofs.basics.Tests.{is-true, holds, fst, or-left, or-right, or-cases, by-test}
-use Rattle.geom.specs.Inner.{Within}
+use Rattle.geom.specs.inner.Fits.{Within}
 use Rattle.geom.proofs.geometry.Facts.{In, says-meet, says-empty, common-within}
 use Rattle.geom.proofs.geometry.Cover.{says-ifAny, anyHas-append, pieces-has, outside-has}
 

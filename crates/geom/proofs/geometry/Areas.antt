@@ -11,7 +11,7 @@ use Rattle.geom.specs.declared.Rect.{Rect}
 use Rattle.geom.specs.Geom.{left, top, right, bottom, width, height, contains}
 use Rattle.geom.specs.Lists.{outsideAll, relative, anyHas, Disjoint}
 use Rattle.geom.specs.Areas.{along, pixels, areas}
-use Rattle.geom.specs.Inner.{Within}
+use Rattle.geom.specs.inner.Fits.{Within}
 use Rattle.geom.proofs.basics.Tests.{holds}
 use Rattle.geom.proofs.basics.Lists.{All}
 use Rattle.geom.proofs.geometry.Pieces.{left-within}

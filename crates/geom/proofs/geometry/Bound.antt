@@ -15,7 +15,7 @@ use Rattle.geom.specs.Lists.{outside, outsideAll, anyHas, Disjoint, most
 use Rattle.geom.proofs.basics.Tests.{Says, by-test, says, says-and, says-le, decided, is-false, holds, or-left, or-right, lt-or-le}
 use Rattle.geom.proofs.basics.Lists.{All}
 use Rattle.geom.proofs.basics.Counting.{Among, one, count, total, one-hit, one-small, one-bound, count-append, total-add, total-most, total-term}
-use Rattle.geom.specs.Inner.{Within}
+use Rattle.geom.specs.inner.Fits.{Within}
 use Rattle.geom.proofs.geometry.Facts.{Solid, says-in, says-meet, says-empty, common-within}
 use Rattle.geom.proofs.geometry.Apart.{outside-disjoint}
 use Rattle.geom.proofs.geometry.Pieces.{Piece, outside-all}

@@ -9,7 +9,7 @@ use Rattle.geom.specs.declared.Rect.{Rect}
 use Rattle.geom.specs.Geom.{left, top, right, bottom, contains, common, ifAny, pieceAbove, pieceLeft, pieceRight, pieceBelow, around, pieces}
 use Rattle.geom.specs.Lists.{outside, outsideAll, meetsOf, listIntersect, anyHas}
 use Rattle.geom.proofs.basics.Tests.{Says, by-test, says-and, says-or, says-not, same, lt-or-le, and-not-and, and-not-or}
-use Rattle.geom.specs.Inner.{Within}
+use Rattle.geom.specs.inner.Fits.{Within}
 use Rattle.geom.proofs.geometry.Facts.{In, says-in, says-meet, says-empty, not-in, common-has, common-within, unmet-has}
 
 -- the pixels of two lists

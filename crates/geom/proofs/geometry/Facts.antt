@@ -10,7 +10,7 @@ use lib.Dec.{eqb}
 use borrow.Author.Tests.{leb-true, le-leb, eqb-false}
 use Rattle.geom.specs.declared.Rect.{Rect}
 use Rattle.geom.specs.Geom.{left, top, width, height, right, bottom, isEmpty, contains, within, meets, common}
-use Rattle.geom.specs.Inner.{Fits, Within}
+use Rattle.geom.specs.inner.Fits.{Fits, Within}
 use Rattle.geom.specs.Bare.{edgesFit}
 use Rattle.geom.specs.Lists.{anyHas}
 use Rattle.geom.specs.Rect16.{Small}

@@ -8,7 +8,7 @@ use lib.ListN.{length, set, replicate, length-append}
 use Rattle.geom.specs.declared.Rect.{Rect}
 use Rattle.geom.specs.declared.Pieces.{Pieces}
 use Rattle.geom.specs.Geom.{rect, left, top, width, height, right, bottom, isEmpty, meets, common, ifAny, pieceAbove, pieceLeft, pieceRight, pieceBelow, around, pieces}
-use Rattle.geom.specs.Inner.{Added}
+use Rattle.geom.specs.inner.Fits.{Added}
 use Rattle.geom.specs.Bare.{Holds}
 
 -- an empty piece is left out

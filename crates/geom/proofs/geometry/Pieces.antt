@@ -9,7 +9,7 @@ use Rattle.geom.specs.Geom.{top, height, bottom, common, ifAny, pieceAbo
 use Rattle.geom.specs.Lists.{outside, outsideAll}
 use Rattle.geom.proofs.basics.Tests.{by-test, lt-or-le}
 use Rattle.geom.proofs.basics.Lists.{All, all-append, all-imp}
-use Rattle.geom.specs.Inner.{Within}
+use Rattle.geom.specs.inner.Fits.{Within}
 use Rattle.geom.proofs.geometry.Facts.{Meet, Solid, says-meet, says-empty}
 
 -- p is one of the pieces of a outside b

@@ -11,7 +11,7 @@ use Rattle.geom.specs.Geom.{left, top, width, height, contains}
 use Rattle.geom.specs.Lists.{outsideAll, relative, anyHas, Disjoint, most}
 use Rattle.geom.proofs.basics.Tests.{says-and, says-le, same}
 use Rattle.geom.proofs.basics.Lists.{All}
-use Rattle.geom.specs.Inner.{Within}
+use Rattle.geom.specs.inner.Fits.{Within}
 use Rattle.geom.proofs.geometry.Facts.{says-in}
 use Rattle.geom.proofs.geometry.Cover.{outsideAll-has}
 use Rattle.geom.proofs.geometry.Apart.{outsideAll-disjoint}

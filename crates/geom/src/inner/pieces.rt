@@ -2,7 +2,7 @@
 ghost use mathlib.Core.List.{[]};
 ghost use Prim.Native.Nat.{_<_};
 ghost use Rattle.geom.specs.Geom as rule;
-ghost use Rattle.geom.specs.Inner.{Fits, Within, Added};
+ghost use Rattle.geom.specs.inner.Fits.{Fits, Within, Added};
 ghost use Rattle.geom.specs.Bare.{Holds};
 use crate::Pieces;
 use crate::Rect;

@@ -19,7 +19,7 @@ use Rattle.look.specs.Floats.{allowed}
 use Rattle.look.specs.View.{windowPixel, shown, takenOf, place, view, isSide, targetFits}
 use Rattle.look.specs.Quarters.{stepsOf, placeQuarters}
 use Rattle.look.specs.Agree.{Small, across, downward, EachPixel}
-use Rattle.look.specs.Inner.{pickWhole, wholeOf, Stepping, Looks}
+use Rattle.look.specs.inner.Steps.{pickWhole, wholeOf, Stepping, Looks}
 use Rattle.look.proofs.laws.Agree.{same, agree}
 use Rattle.look.proofs.laws.Picture.{length-picture, getD-picture, picture-ext}
 

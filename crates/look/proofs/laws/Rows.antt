@@ -13,7 +13,7 @@ use Rattle.scanline.specs.Pixels.{part}
 use Rattle.scanline.proofs.rows.Runs.{sets-append}
 use Rattle.look.specs.View.{line, windowPixel}
 use Rattle.look.specs.Quarters.{placeQuarters}
-use Rattle.look.specs.Inner.{Columns, stepped, lookRow}
+use Rattle.look.specs.inner.Steps.{Columns, stepped, lookRow}
 use Rattle.look.proofs.laws.Picture.{length-line, line-ext, line-cut, line-part, painted, painted-more}
 
 -- with the factor 1, where a step is 4 quarters, the pixels lie side by side

@@ -13,7 +13,7 @@ use Rattle.look.specs.Floats.{allowed}
 use Rattle.look.specs.View.{shown, targetFits}
 use Rattle.look.specs.Quarters.{stepsOf, placeQuarters}
 use Rattle.look.specs.Agree.{Small}
-use Rattle.look.specs.Inner.{Stepping, Looks}
+use Rattle.look.specs.inner.Steps.{Stepping, Looks}
 use Rattle.look.proofs.laws.Ends.{taken, wrong, fitting, stepping, quarters-view, says-22, says-23, says-0}
 use Rattle.look.proofs.look_window.Statement.{statement}
 use Rattle.look.proofs.look_window.Tie as tie

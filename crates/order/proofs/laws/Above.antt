@@ -14,10 +14,10 @@ use Rattle.geom.specs.Rect16.{rectOf, noRect16, Small}
 use Rattle.window.specs.declared.damage.Damage.{Damage}
 use Rattle.window.specs.declared.ids.WinId.{WinId}
 use Rattle.window.specs.Held.{rects, Low, RepDamage}
-use Rattle.window.specs.Ids.{noId}
+use Rattle.window.specs.inner.Ids.{noId}
 use Rattle.rules.specs.Redraw.{none?}
 use Rattle.order.specs.Ids.{ids}
-use Rattle.order.specs.Frames.{frameAt}
+use Rattle.order.specs.inner.Frames.{frameAt}
 use Rattle.order.proofs.laws.Order.{ids-length, ids-at}
 use Rattle.order.proofs.laws.Rects.{Added, Filling, fill-none, fill-next}
 

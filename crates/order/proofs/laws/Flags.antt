@@ -11,11 +11,11 @@ use borrow.Author.Tests.{eq-eqb, ne-eqb}
 use Rattle.geom.proofs.basics.Tests.{or-right}
 use Rattle.geom.proofs.basics.Lists.{set-in}
 use Rattle.window.specs.declared.ids.WinId.{WinId}
-use Rattle.window.specs.Ids.{noId}
+use Rattle.window.specs.inner.Ids.{noId}
 use Rattle.rules.specs.Order.{isIn}
 use Rattle.rules.proofs.group.Order.{isIn-append}
 use Rattle.order.specs.Ids.{ids}
-use Rattle.order.specs.Order.{Marks}
+use Rattle.order.specs.inner.Order.{Marks}
 use Rattle.order.proofs.laws.Order.{ids-snoc}
 
 none-set : (n i : ℕ) → getD (replicate n false) i false ≡ false

@@ -14,13 +14,13 @@ use lib.Seq.{drop-cons, getD-take, length-take-le, take-take, take-suc, take-suc
 use borrow.Author.Tests.{eq-eqb}
 use Rattle.geom.proofs.basics.Tests.{clash, lt-or-le, or-right}
 use Rattle.window.specs.declared.ids.WinId.{WinId}
-use Rattle.window.specs.Ids.{noId}
+use Rattle.window.specs.inner.Ids.{noId}
 use Rattle.rules.specs.Order.{isIn, placeOf, without}
 use Rattle.rules.proofs.group.Order.{isIn-here}
 use Rattle.rules.proofs.group.Room.{shown-place, hidden-place}
 use Rattle.order.specs.Ids.{num, ids}
-use Rattle.order.specs.Order.{renderIdx, Closed}
-use Rattle.order.specs.Layers.{firstOf}
+use Rattle.order.specs.inner.Order.{renderIdx, Closed}
+use Rattle.order.specs.inner.Layers.{firstOf}
 
 pub ids-length : (n : ℕ) (l : List WinId) → n ≤ length l → length (ids n l) ≡ n
 ids-length n l h = length-map (take n l) num ∙ length-take-le n l h

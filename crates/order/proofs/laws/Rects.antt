@@ -7,12 +7,12 @@ use lib.ListN.{length, getD, take, length-append}
 use lib.Seq.{length-sets, take-suc, take-all}
 use Rattle.geom.specs.declared.Rect.{Rect}
 use Rattle.geom.specs.Lists.{numbers}
-use Rattle.geom.specs.Inner.{Fits}
+use Rattle.geom.specs.inner.Fits.{Fits}
 use Rattle.window.specs.Held.{Low}
-use Rattle.rules.specs.Lent.{AllFit, Lent}
+use Rattle.rules.specs.inner.Lent.{AllFit, Lent}
 use Rattle.rules.proofs.Lent.{stored, rects-put}
 use Rattle.order.specs.declared.rects.Rects.{Rects}
-use Rattle.order.specs.Rects.{Holds, listed, fullRect}
+use Rattle.order.specs.inner.Rects.{Holds, listed, fullRect}
 
 -- One more -----------------------------------------------------------------------------------------------------------
 

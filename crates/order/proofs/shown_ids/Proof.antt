@@ -3,9 +3,9 @@ use Prim.Native.Nat.{ℕ, _-_, _≤_, _<_}
 use mathlib.Core.Path.{_≡_, refl, subst}
 use native.Mathlib.Omega.{arith}
 use lib.ListN.{getD}
-use Rattle.window.specs.Ids.{noId}
+use Rattle.window.specs.inner.Ids.{noId}
 use Rattle.order.specs.Ids.{ids}
-use Rattle.order.specs.Order.{Marks}
+use Rattle.order.specs.inner.Order.{Marks}
 use Rattle.order.proofs.laws.Flags.{mark-none, mark-next}
 use borrow.Author.Needs.{needs}
 use Rattle.order.proofs.shown_ids.Statement.{statement}

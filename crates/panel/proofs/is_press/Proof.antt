@@ -12,7 +12,7 @@ use Rattle.window.specs.declared.Event.the-variants.{Resize, KeyDown, KeyUp, Ke
 use Rattle.window.proofs.Event.{the-type}
 use Rattle.windows.specs.declared.NextEvent.{NextEvent}
 use Rattle.windows.specs.View.{eventIn}
-use Rattle.panel.specs.Press.{isPress}
+use Rattle.panel.specs.inner.Press.{isPress}
 use borrow.Author.Needs.{needs}
 use borrow.Author.Tests.{eq-eqb, ne-eqb}
 use Rattle.panel.proofs.is_press.Statement.{statement}

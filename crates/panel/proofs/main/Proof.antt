@@ -13,7 +13,7 @@ use Rattle.window.specs.declared.Event.the-variants.{MouseDown}
 use Rattle.rules.specs.Calls.{Create, Show, Mark, Pop, Resize, Fill, Redraw}
 use Rattle.windows.specs.View.{done, eventIn}
 use Rattle.windows.proofs.demand.Runs.{by-meets, by-store, by-screen}
-use Rattle.panel.specs.Press.{isPress}
+use Rattle.panel.specs.inner.Press.{isPress}
 use Rattle.panel.proofs.laws.Calls as calls
 use Rattle.panel.proofs.laws.Calls.{Next, next, begun, stored, counted, drawn, told, computed, picture, store}
 use Rattle.panel.proofs.main.Statement.{statement}

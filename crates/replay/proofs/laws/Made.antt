@@ -23,7 +23,7 @@ use Rattle.replay.specs.Played.{Pixels, Makes, Begins, MeetsPart, DrawsP
 use Rattle.replay.specs.Called.{Picked, sizeAt}
 use Rattle.bare.specs.Numbers.{num, idOf}
 use Rattle.replay.specs.Looks.{lookOf, LooksPart}
-use Rattle.replay.specs.Sheets.{ReadsPart, PrintsPart}
+use Rattle.replay.specs.inner.Sheets.{ReadsPart, PrintsPart}
 use Rattle.replay.proofs.laws.Sizes.{counted, hits-room, read-room, print-room}
 use Rattle.replay.proofs.laws.Picked.{picked-so}
 use Rattle.replay.specs.Played.{unread, beyond, starts, creates, plain, stores, pops, redraws, lists, asks-hits, asks-focus, lends, lends-screen, lends-list, asks-busiest, asks-share, asks-display, asks-look, lends-target, reads-sheet, asks-sheet, lends-sheet, shows}

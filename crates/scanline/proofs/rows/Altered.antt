@@ -10,7 +10,7 @@ use lib.ListN.{length, drop, getD, set}
 use lib.Seq.{sets, drop-drop, length-sets}
 use borrow.Author.Tests.{eq-eqb}
 use Rattle.scanline.specs.Altered.{differs, altered}
-use Rattle.scanline.specs.Rows.{Counted}
+use Rattle.scanline.specs.inner.Rows.{Counted}
 use Rattle.scanline.proofs.rows.Runs.{drop-sets}
 
 differs-same : (x : ℕ) → differs x x ≡ 0

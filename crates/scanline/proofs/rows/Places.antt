@@ -5,7 +5,7 @@ use Prim.Native.Nat.{ℕ, _+_, _*_, _≤_, _<_}
 use native.Mathlib.Omega.{arith}
 use native.Mathlib.Nat.{add-mul}
 use Rattle.scanline.specs.Pixels.{writeRows}
-use Rattle.scanline.specs.Rows.{Fit, Inside}
+use Rattle.scanline.specs.inner.Rows.{Fit, Inside}
 use Rattle.scanline.proofs.rows.Written.{rows-same, rows-at}
 use Rattle.scanline.proofs.rows.Rows.{row-end}
 

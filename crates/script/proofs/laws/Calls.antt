@@ -17,7 +17,7 @@ use Rattle.script.proofs.laws.Bytes.{bytes-at}
 use Rattle.script.specs.declared.Reading.{Reading}
 use Rattle.script.specs.declared.shape.Line.{Line}
 use Rattle.script.specs.Kind as Kind
-use Rattle.script.specs.Table.{rowAt, byte, follows, Held}
+use Rattle.script.specs.inner.Table.{rowAt, byte, follows, Held}
 use Rattle.script.specs.Script.{malformed, call, begun, Row, table, rowIn, countedBy, counted, ranged, nameFits, accepts, complete, heardOf, Shaped, kindOf}
 use Rattle.script.specs.Machine.{spaces, spoiled, ends, standing, stateOf, noCall, Checked, Ended}
 

@@ -13,7 +13,7 @@ use borrow.Author.Tests.{eqb-true, eq-eqb, ne-eqb, leb-true}
 use Rattle.geom.proofs.basics.Tests.{fst, snd, both, clash, is-false}
 use Rattle.script.specs.Kind as Kind
 use Rattle.script.specs.Script.{Row, table, sameWord, kindIn, kindOf, rowIn}
-use Rattle.script.specs.Table.{words, noRow, rowAt, letters, byte, wordIn, follows, Held, Rows}
+use Rattle.script.specs.inner.Table.{words, noRow, rowAt, letters, byte, wordIn, follows, Held, Rows}
 use Rattle.geom.proofs.basics.Tables.{every, at}
 
 -- Words that are the same ----------------------------------------------------------------------------------------------

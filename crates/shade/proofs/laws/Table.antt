@@ -9,7 +9,7 @@ use lib.ListN.{length}
 use borrow.Author.Tests.{eqb-true}
 use Rattle.geom.proofs.basics.Tables.{every, at}
 use Rattle.shade.specs.Shade.{entry}
-use Rattle.shade.specs.Table.{Entries}
+use Rattle.shade.specs.inner.Table.{Entries}
 
 -- the entry at place i is x
 abbrev pub right : ℕ → ℕ → Bool

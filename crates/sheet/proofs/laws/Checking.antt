@@ -10,9 +10,9 @@ use lib.Seq.{ext-getD}
 use Rattle.geom.proofs.basics.Tests.{clash, lt-or-le}
 use Rattle.sheet.specs.Sheet.{Span, Band, Sheet, Apart, Proper, Follows, Bands, nothing, Valid, bandRects, rects}
 use Rattle.sheet.specs.Bytes.{bits, number, bytesFrom, pack, encode}
-use Rattle.sheet.specs.Cursor.{bitAt, Field, spansAt, countAt, bandAt, behind, bandsAt, endAt, sheetAt, endOf}
+use Rattle.sheet.specs.inner.Cursor.{bitAt, Field, spansAt, countAt, bandAt, behind, bandsAt, endAt, sheetAt, endOf}
 use Rattle.sheet.specs.Reader.{IsSheet}
-use Rattle.sheet.specs.Checks.{Decides, before, Checked}
+use Rattle.sheet.specs.inner.Checks.{Decides, before, Checked}
 use Rattle.sheet.proofs.laws.Bits.{number-ext, number-zero, zero-number, number-below}
 use Rattle.sheet.proofs.laws.Fields.{length-spansAt, sheet-shown, bands-fit, length-bandsAt, length-bits}
 use Rattle.sheet.proofs.laws.Packing.{at, bits-binary, bit-binary, byte-number, length-bytes, getD-bytes, packed-bit, decoded}

@@ -12,9 +12,9 @@ use Rattle.geom.specs.Lists.{numbers}
 use Rattle.geom.proofs.geometry.Numbers.{length-numbers, written-append}
 use Rattle.sheet.specs.declared.inner.valid.Counted.{Counted}
 use Rattle.sheet.specs.Sheet.{Sheet, bandRects, rects}
-use Rattle.sheet.specs.Cursor.{bitAt, Field, spansAt, bandsAt, sheetAt}
+use Rattle.sheet.specs.inner.Cursor.{bitAt, Field, spansAt, bandsAt, sheetAt}
 use Rattle.sheet.specs.Reader.{Reads, broken, short, whole, answered}
-use Rattle.sheet.specs.Checks.{Checked}
+use Rattle.sheet.specs.inner.Checks.{Checked}
 use Rattle.sheet.proofs.laws.Fields.{length-spansAt}
 use Rattle.sheet.proofs.laws.Checking.{bands-end, bands-next, length-bandRects}
 

@@ -9,7 +9,7 @@ use lib.ListN.{length, getD, List·getD-eq-default}
 use Rattle.geom.proofs.basics.Tests.{lt-or-le}
 use Rattle.sheet.specs.Sheet.{Span, Sheet, Valid}
 use Rattle.sheet.specs.Bytes.{bitsOf, spanBits, bandBits, bits, number, bytesFrom, pack, encode}
-use Rattle.sheet.specs.Cursor.{bitAt, Field, sheetAt}
+use Rattle.sheet.specs.inner.Cursor.{bitAt, Field, sheetAt}
 use Rattle.sheet.proofs.laws.Bits.{Binary, length-bitsOf, getD-bitsOf, Shows, read-number, number-bit, number-below, number-split, number-inside}
 use Rattle.sheet.proofs.laws.Fields.{sheet-read}
 

@@ -12,7 +12,7 @@ use lib.ListN.{length, drop, getD, set, length-append, length-set, length-drop, 
 use lib.Seq.{getD-append-add, getD-set-same, getD-set-other, ext-getD, getD-drop}
 use Rattle.geom.proofs.basics.Tests.{lt-or-le}
 use Rattle.sheet.specs.Bytes.{number, bitsOf, bytesFrom, pack}
-use Rattle.sheet.specs.Writer.{Holding, Put}
+use Rattle.sheet.specs.inner.Writer.{Holding, Put}
 use Rattle.sheet.proofs.laws.Bits.{Binary, length-bitsOf, read-low, number-ext, number-split, number-high, number-low, number-inside, zero-number}
 use Rattle.sheet.proofs.laws.Packing.{at, bits-append, bits-bitsOf, length-bytes, getD-bytes, enough}
 

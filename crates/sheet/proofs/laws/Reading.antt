@@ -13,8 +13,8 @@ use Rattle.geom.proofs.basics.Tests.{clash}
 use Rattle.geom.proofs.geometry.Numbers.{written-append}
 use Rattle.sheet.specs.Sheet.{Span, Apart, bandRects}
 use Rattle.sheet.specs.Bytes.{number}
-use Rattle.sheet.specs.Cursor.{bitAt, Field, spansAt}
-use Rattle.sheet.specs.Checks.{Decides}
+use Rattle.sheet.specs.inner.Cursor.{bitAt, Field, spansAt}
+use Rattle.sheet.specs.inner.Checks.{Decides}
 
 -- a test that says yes or no of a fact
 pub says-yes : {P : Type 0} → P → Decides true P

@@ -10,9 +10,9 @@ use native.Mathlib.Nat.{zero-add, suc-add}
 use lib.ListN.{length, getD, length-append}
 use Rattle.sheet.specs.Sheet.{Span, Band, Sheet}
 use Rattle.sheet.specs.Bytes.{bitsOf, spanBits, bandBits, bits, pack, encode}
-use Rattle.sheet.specs.Numbers.{spansIn, countIn, bandIn, past, bandsIn, endIn}
+use Rattle.sheet.specs.inner.Numbers.{spansIn, countIn, bandIn, past, bandsIn, endIn}
 use Rattle.sheet.specs.Reader.{answered}
-use Rattle.sheet.specs.Writer.{Put, Writes}
+use Rattle.sheet.specs.inner.Writer.{Put, Writes}
 use Rattle.sheet.proofs.laws.Bits.{length-bitsOf}
 use Rattle.sheet.proofs.laws.Fields.{length-spanBits}
 use Rattle.sheet.proofs.laws.Packing.{length-bytes, enough}

@@ -1,7 +1,7 @@
 // Numbers read at a bit cursor.
 ghost use mathlib.Core.Path.{_≡_};
 ghost use Prim.Native.Nat.{_*_, _^_, _%_, _≤_};
-ghost use Rattle.sheet.specs.Cursor.{Field};
+ghost use Rattle.sheet.specs.inner.Cursor.{Field};
 
 // The last n bits of v.
 pub fn low(v: usize, n: usize) -> usize

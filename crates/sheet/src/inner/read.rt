@@ -6,7 +6,7 @@ ghost use lib.Seq.{sets};
 ghost use Rattle.geom.specs.Lists.{numbers};
 ghost use Rattle.geom.specs.Geom.{rect};
 ghost use Rattle.sheet.specs.Sheet.{bandRects, rects};
-ghost use Rattle.sheet.specs.Cursor.{bitAt, spansAt, sheetAt};
+ghost use Rattle.sheet.specs.inner.Cursor.{bitAt, spansAt, sheetAt};
 use crate::inner::bits::read;
 use geom::Rect;
 use geom::inner::numbers::put;

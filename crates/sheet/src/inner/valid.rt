@@ -2,8 +2,8 @@
 ghost use mathlib.Core.Path.{_≡_};
 ghost use Prim.Native.Nat.{_+_, _*_, _≤_};
 ghost use Rattle.sheet.specs.Sheet.{Apart, Follows, Proper};
-ghost use Rattle.sheet.specs.Cursor.{bitAt, spansAt, bandAt};
-ghost use Rattle.sheet.specs.Checks.{Decides, before, Checked};
+ghost use Rattle.sheet.specs.inner.Cursor.{bitAt, spansAt, bandAt};
+ghost use Rattle.sheet.specs.inner.Checks.{Decides, before, Checked};
 use crate::inner::bits::read;
 
 // "Intervals are not empty, go rightward and never touch": do the n at a place? The next may begin at column `from`.

@@ -4,8 +4,8 @@ ghost use mathlib.Core.Path.{_≡_};
 ghost use Prim.Native.Nat.{_+_, _-_, _*_, _^_, _/_, _%_, _≤_, _<_};
 ghost use lib.ListN.{length};
 ghost use Rattle.sheet.specs.Bytes.{bitsOf, spanBits, bandBits, bits};
-ghost use Rattle.sheet.specs.Numbers.{spansIn, countIn, bandIn, bandsIn, endIn};
-ghost use Rattle.sheet.specs.Writer.{Put, Writes};
+ghost use Rattle.sheet.specs.inner.Numbers.{spansIn, countIn, bandIn, bandsIn, endIn};
+ghost use Rattle.sheet.specs.inner.Writer.{Put, Writes};
 use crate::Count;
 use crate::inner::bits::low;
 

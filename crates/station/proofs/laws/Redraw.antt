@@ -24,7 +24,7 @@ use Rattle.window.specs.declared.damage.Damage.{Damage}
 use Rattle.window.specs.declared.ids.WinId.{WinId}
 use Rattle.window.specs.Window.{Win}
 use Rattle.window.specs.Held.{rects, RepDamage}
-use Rattle.window.specs.Ids.{noId}
+use Rattle.window.specs.inner.Ids.{noId}
 use Rattle.rules.specs.Group.{win, setWin}
 use Rattle.rules.specs.Order.{above}
 use Rattle.rules.specs.Visible.{rectsOf}
@@ -32,12 +32,12 @@ use Rattle.rules.specs.Redraw.{isDrawn, drawRegions, drawWindow, clean, cleanAl
 use Rattle.rules.specs.Redraw as Draw
 use Rattle.rules.specs.Store.{whole}
 use Rattle.rules.specs.Calls.{Redraw, does}
-use Rattle.rules.specs.Lent.{Lent}
+use Rattle.rules.specs.inner.Lent.{Lent}
 use Rattle.due.specs.declared.Due.{Due}
-use Rattle.order.specs.Rects.{dirtyOf}
+use Rattle.order.specs.inner.Rects.{dirtyOf}
 use Rattle.windows.specs.declared.Session.{Session}
 use Rattle.windows.specs.View.{group, blank, windowAt, done, Rep, Given, MeetsScreen}
-use Rattle.windows.specs.Walk.{noted, sharing, wiped}
+use Rattle.windows.specs.inner.Walk.{noted, sharing, wiped}
 use Rattle.windows.proofs.laws.Session.{win-at, putWindow, put-group, put-rep, is-whole, isnt-whole, refuses}
 use Rattle.windows.proofs.laws.One.{put-back}
 use Rattle.windows.proofs.laws.Places.{order-length, id-at, id-low, is-used, win-there, above-there}
@@ -47,7 +47,7 @@ use Rattle.windows.proofs.laws.Drawn.{in-store, base-fits, all-lent, window-dra
 use Rattle.station.specs.declared.redraw.Layout.{Layout}
 use Rattle.station.specs.declared.redraw.RedrawPlan.{RedrawPlan}
 use Rattle.station.specs.declared.redraw.Cleared.{Cleared}
-use Rattle.station.specs.Redraw.{paintedAt, Flagged, LaidOut, Fitting, Refused, PlansRedraw, OnTurn, SomeTurn, DrawsTurn, free}
+use Rattle.station.specs.inner.Redraw.{paintedAt, Flagged, LaidOut, Fitting, Refused, PlansRedraw, OnTurn, SomeTurn, DrawsTurn, free}
 
 -- The flags -----------------------------------------------------------------------------------------------------------
 

@@ -18,7 +18,7 @@ use Rattle.due.proofs.Due as Due
 use Rattle.due.proofs.Due.Laws as Due′
 use Rattle.windows.proofs.Shared as Shared
 use Rattle.windows.proofs.Shared.Laws as Shared′
-use Rattle.windows.specs.Walk.{noted}
+use Rattle.windows.specs.inner.Walk.{noted}
 use Rattle.station.proofs.redraw.Order as Order
 use Rattle.station.proofs.redraw.Order.Laws as Order′
 use Rattle.station.proofs.redraw.Layout as Layout

@@ -13,11 +13,11 @@ use Rattle.geom.specs.declared.Rect.{Rect}
 use Rattle.geom.specs.Geom.{left, top, contains}
 use Rattle.geom.proofs.basics.Tests.{on-cond}
 use Rattle.window.specs.declared.ids.WinId.{WinId}
-use Rattle.window.specs.Ids.{noId}
+use Rattle.window.specs.inner.Ids.{noId}
 use Rattle.rules.specs.Hits.{hitBy, eachPoint}
 use Rattle.order.specs.Ids.{ids}
-use Rattle.topmost.specs.Topmost.{topmostAt}
-use Rattle.topmost.specs.Hits.{three, atPoint, Written, toNobody, answered, hitIn}
+use Rattle.topmost.specs.inner.Topmost.{topmostAt}
+use Rattle.topmost.specs.inner.Hits.{three, atPoint, Written, toNobody, answered, hitIn}
 use Rattle.order.proofs.laws.Order.{ids-length, ids-at, ids-from}
 use Rattle.topmost.proofs.laws.Written.{three-kept, written-next, not-yet, written-over, written-all}
 

@@ -9,9 +9,9 @@ use lib.ListN.{length, getD}
 use Rattle.geom.specs.declared.Rect.{Rect}
 use Rattle.geom.specs.Geom.{contains}
 use Rattle.window.specs.declared.ids.WinId.{WinId}
-use Rattle.window.specs.Ids.{noId}
+use Rattle.window.specs.inner.Ids.{noId}
 use Rattle.order.specs.Ids.{ids}
-use Rattle.topmost.specs.Topmost.{topmostAt}
+use Rattle.topmost.specs.inner.Topmost.{topmostAt}
 use Rattle.order.proofs.laws.Order.{ids-snoc}
 
 last-snoc : (frame : ℕ → Rect) (x y : ℕ) (os : List ℕ) (i : ℕ) (best : Option ℕ)

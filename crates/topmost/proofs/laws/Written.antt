@@ -9,7 +9,7 @@ use lib.Seq.{sets, length-sets, set-getD, getD-drop, drop-drop, ext-getD}
 use Rattle.geom.proofs.basics.Tests.{lt-or-le}
 use Rattle.scanline.proofs.rows.Rows.{sets-on, sets-off}
 use Rattle.rules.specs.Hits.{eachPoint}
-use Rattle.topmost.specs.Hits.{three, atPoint, Written}
+use Rattle.topmost.specs.inner.Hits.{three, atPoint, Written}
 
 -- One point ----------------------------------------------------------------------------------------------------------
 

@@ -5,11 +5,11 @@ use native.Mathlib.Omega.{arith}
 use lib.ListN.{getD}
 use Rattle.geom.specs.declared.Rect.{Rect}
 use Rattle.geom.specs.Geom.{contains}
-use Rattle.geom.specs.Inner.{Fits}
+use Rattle.geom.specs.inner.Fits.{Fits}
 use Rattle.geom.proofs.geometry.Answers.{contains-is}
 use Rattle.geom.proofs.geometry.Facts.{small-fits}
-use Rattle.window.specs.Ids.{noId}
-use Rattle.order.specs.Frames.{frameAt}
+use Rattle.window.specs.inner.Ids.{noId}
+use Rattle.order.specs.inner.Frames.{frameAt}
 use Rattle.topmost.proofs.laws.Topmost.{Seeking, seek, gone, hit, miss}
 use borrow.Author.Needs.{needs}
 use Rattle.topmost.proofs.topmost.Statement.{statement}

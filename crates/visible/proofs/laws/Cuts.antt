@@ -12,7 +12,7 @@ use Rattle.geom.specs.Lists.{rectAt}
 use Rattle.geom.proofs.basics.Tests.{is-false}
 use Rattle.geom.proofs.geometry.Facts.{says-meet, says-empty}
 use Rattle.geom.proofs.geometry.Sides.{fromSides, common-sides}
-use Rattle.visible.specs.Seen.{Missed}
+use Rattle.visible.specs.inner.Seen.{Missed}
 use Rattle.visible.proofs.laws.Split.{Splits}
 use Rattle.visible.proofs.laws.Piece.{piece-none}
 

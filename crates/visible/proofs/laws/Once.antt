@@ -9,7 +9,7 @@ use lib.ListN.{length, take}
 use lib.Seq.{take-suc, take-all}
 use Rattle.geom.specs.declared.Rect.{Rect}
 use Rattle.geom.specs.Geom.{rect, left, top, contains}
-use Rattle.geom.specs.Inner.{Fits, Within}
+use Rattle.geom.specs.inner.Fits.{Fits, Within}
 use Rattle.geom.specs.Lists.{outside, meetsOf, listIntersect, rectAt, anyHas}
 use Rattle.geom.proofs.basics.Tests.{clash, or-right, or-left}
 use Rattle.geom.proofs.basics.Lists.{all-append}
@@ -19,7 +19,7 @@ use Rattle.geom.proofs.geometry.Cover.{anyHas-append, outside-has, listIntersec
 use Rattle.rules.specs.Visible.{rectsOf}
 use Rattle.rules.proofs.Lent.{length-rects, rects-at}
 use Rattle.visible.specs.declared.region.View.{View}
-use Rattle.visible.specs.Seen.{Drawable, own, drawn}
+use Rattle.visible.specs.inner.Seen.{Drawable, own, drawn}
 use Rattle.visible.proofs.laws.Parts.{within-trans}
 use Rattle.visible.proofs.laws.Regions.{drawn-append, drawn-none}
 use Rattle.visible.proofs.laws.Pixels.{same-drawn}

@@ -9,14 +9,14 @@ use lib.ListN.{length, take, drop, getD, length-take, drop-of-length-le}
 use lib.Seq.{drop-cons, getD-take}
 use Rattle.geom.specs.declared.Rect.{Rect}
 use Rattle.geom.specs.Geom.{rect, left, top, width, height, bottom, meets, common, ifAny, pieceAbove, pieceLeft, pieceRight, pieceBelow, around, pieces}
-use Rattle.geom.specs.Inner.{Within}
+use Rattle.geom.specs.inner.Fits.{Within}
 use Rattle.geom.specs.Lists.{outside, meetsOf}
 use Rattle.geom.proofs.basics.Tests.{is-false, by-test}
 use Rattle.geom.proofs.geometry.Facts.{says-meet, says-empty, common-within}
 use Rattle.rules.specs.Redraw.{drawRegion}
 use Rattle.visible.specs.declared.region.View.{View}
-use Rattle.visible.specs.Seen.{drawn}
-use Rattle.visible.specs.Outside.{four, holeOf}
+use Rattle.visible.specs.inner.Seen.{drawn}
+use Rattle.visible.specs.inner.Outside.{four, holeOf}
 use Rattle.visible.proofs.laws.Parts.{above-within, left-within, right-within, below-within}
 use Rattle.visible.proofs.laws.Regions.{drawn-none}
 use Rattle.visible.proofs.laws.Shown.{placed, screenRect, region-off}

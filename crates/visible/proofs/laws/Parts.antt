@@ -2,7 +2,7 @@
 use Rattle.geom.specs.declared.Rect.{Rect}
 use native.Mathlib.Omega.{arith}
 use Rattle.geom.specs.Geom.{pieceAbove, pieceLeft, pieceRight, pieceBelow}
-use Rattle.geom.specs.Inner.{Fits, Within}
+use Rattle.geom.specs.inner.Fits.{Fits, Within}
 
 pub within-fits : (a r : Rect) → Fits a → Within a r → Fits r
 within-fits a r f w = omega arith

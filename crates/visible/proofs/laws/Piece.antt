@@ -9,7 +9,7 @@ use Rattle.geom.specs.declared.Rect.{Rect}
 use Rattle.geom.specs.Geom.{isEmpty, ifAny}
 use Rattle.geom.specs.Lists.{outsideAll}
 use Rattle.visible.specs.declared.region.View.{View}
-use Rattle.visible.specs.Seen.{seen, amount, regions, drawn}
+use Rattle.visible.specs.inner.Seen.{seen, amount, regions, drawn}
 use Rattle.visible.proofs.laws.Depth.{outsideAll-none}
 use Rattle.visible.proofs.laws.Regions.{seen-none, regions-none, drawn-none}
 use Rattle.visible.proofs.laws.Turns.{Written, written-none}

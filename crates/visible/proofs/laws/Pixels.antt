@@ -10,7 +10,7 @@ use lib.ListN.{length, getD, length-map, List·getD-map}
 use lib.Seq.{ext-getD}
 use Rattle.geom.specs.declared.Rect.{Rect}
 use Rattle.geom.specs.Geom.{rect, left, top, width, height, right, contains, meets, common}
-use Rattle.geom.specs.Inner.{Within}
+use Rattle.geom.specs.inner.Fits.{Within}
 use Rattle.geom.specs.Lists.{anyHas}
 use Rattle.geom.proofs.basics.Tests.{clash, or-left, or-right, on-cond, by-test, lt-or-le}
 use Rattle.geom.proofs.basics.Lists.{All}
@@ -22,7 +22,7 @@ use Rattle.scanline.proofs.rows.Paint.{length-part, getD-part, paint-in, paint-
 use Rattle.rules.specs.Demand.{pixelAt}
 use Rattle.rules.specs.Redraw.{onto, drawRegion}
 use Rattle.visible.specs.declared.region.View.{View}
-use Rattle.visible.specs.Seen.{Drawable, own, drawn}
+use Rattle.visible.specs.inner.Seen.{Drawable, own, drawn}
 use Rattle.visible.proofs.laws.Shown.{drawable-kept}
 
 -- One rectangle -------------------------------------------------------------------------------------------------------

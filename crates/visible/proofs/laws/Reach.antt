@@ -7,7 +7,7 @@ use native.Mathlib.Omega.{arith}
 use lib.Dec.{leb}
 use Rattle.geom.specs.declared.Rect.{Rect}
 use Rattle.geom.specs.Geom.{rect, left, top, width, height, isEmpty, contains, meets, common}
-use Rattle.geom.specs.Inner.{Fits, Within}
+use Rattle.geom.specs.inner.Fits.{Fits, Within}
 use Rattle.geom.specs.Lists.{outsideAll, relative, meetsOf, listIntersect, rectAt, anyHas}
 use Rattle.geom.proofs.basics.Tests.{clash, fst, snd, by-test, says-and, says-le, same}
 use Rattle.geom.proofs.basics.Lists.{All, all-append, all-imp}
@@ -16,10 +16,10 @@ use Rattle.geom.proofs.geometry.Pieces.{left-within}
 use Rattle.geom.proofs.geometry.Cover.{outsideAll-has, listIntersect-has}
 use Rattle.rules.specs.Redraw.{onto}
 use Rattle.rules.specs.Visible.{rectsOf}
-use Rattle.rules.specs.Lent.{Lent}
+use Rattle.rules.specs.inner.Lent.{Lent}
 use Rattle.rules.proofs.Lent.{fits-at}
 use Rattle.visible.specs.declared.region.View.{View}
-use Rattle.visible.specs.Seen.{Drawable, Bounds, Reach, own, seen, regions, drawn}
+use Rattle.visible.specs.inner.Seen.{Drawable, Bounds, Reach, own, seen, regions, drawn}
 use Rattle.visible.proofs.laws.Parts.{within-refl, within-trans}
 use Rattle.visible.proofs.laws.Regions.{drawn-none}
 use Rattle.visible.proofs.laws.Shown.{placed, screenRect}

@@ -7,7 +7,7 @@ use Rattle.geom.specs.declared.Rect.{Rect}
 use Rattle.geom.specs.Lists.{outsideAll, relative, meetsOf, listIntersect}
 use Rattle.rules.specs.Redraw.{drawRegion}
 use Rattle.visible.specs.declared.region.View.{View}
-use Rattle.visible.specs.Seen.{seen, regions, drawn}
+use Rattle.visible.specs.inner.Seen.{seen, regions, drawn}
 use Rattle.visible.proofs.laws.Depth.{outsideAll-append, outsideAll-none, outsideAll-end}
 
 -- The visible list ---------------------------------------------------------------------------------------------------

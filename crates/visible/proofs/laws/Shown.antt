@@ -8,17 +8,17 @@ use native.Mathlib.Nat.{mul-le-mul-right, mul-comm}
 use lib.ListN.{length}
 use Rattle.geom.specs.declared.Rect.{Rect}
 use Rattle.geom.specs.Geom.{rect, left, top, width, height, bottom, meets, common}
-use Rattle.geom.specs.Inner.{Fits, Within}
+use Rattle.geom.specs.inner.Fits.{Fits, Within}
 use Rattle.geom.specs.Lists.{relative, meetsOf}
 use Rattle.geom.proofs.basics.Tests.{cond-yes, cond-no}
 use Rattle.geom.proofs.geometry.Facts.{says-meet, common-within}
 use Rattle.scanline.specs.Pixels.{writeRows, part}
-use Rattle.scanline.specs.Rows.{Inside}
+use Rattle.scanline.specs.inner.Rows.{Inside}
 use Rattle.shade.specs.Shade.{tone}
 use Rattle.scanline.proofs.rows.Written.{rows-same}
 use Rattle.rules.specs.Redraw.{drawRegion}
 use Rattle.visible.specs.declared.region.View.{View}
-use Rattle.visible.specs.Seen.{Drawable, own, drawn, regions}
+use Rattle.visible.specs.inner.Seen.{Drawable, own, drawn, regions}
 use Rattle.visible.proofs.laws.Parts.{within-trans}
 use Rattle.visible.proofs.laws.Regions.{regions-end}
 

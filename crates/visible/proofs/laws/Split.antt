@@ -8,13 +8,13 @@ use lib.ListN.{length, drop, drop-of-length-le}
 use lib.Seq.{sets}
 use Rattle.geom.specs.declared.Rect.{Rect}
 use Rattle.geom.specs.Geom.{meets, common, ifAny, pieceAbove, pieceLeft, pieceRight, pieceBelow, around}
-use Rattle.geom.specs.Inner.{Within}
+use Rattle.geom.specs.inner.Fits.{Within}
 use Rattle.geom.specs.Lists.{outsideAll, relative, numbers, rectAt}
 use Rattle.geom.proofs.geometry.Facts.{says-meet, common-within}
 use Rattle.rules.specs.Visible.{rectsOf}
 use Rattle.rules.proofs.Lent.{length-rects, rects-next}
 use Rattle.visible.specs.declared.region.View.{View}
-use Rattle.visible.specs.Seen.{Missed, seen, amount, regions, drawn}
+use Rattle.visible.specs.inner.Seen.{Missed, seen, amount, regions, drawn}
 use Rattle.visible.proofs.laws.Depth.{outsideAll-append, outsideAll-end, outsideAll-miss, outsideAll-met, four}
 use Rattle.visible.proofs.laws.Parts.{above-within, left-within, right-within, below-within}
 use Rattle.visible.proofs.laws.Regions.{seen-append, seen-end, regions-same, regions-append}

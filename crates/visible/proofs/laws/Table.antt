@@ -10,7 +10,7 @@ use lib.ListN.{length, drop, drop-of-length-le}
 use lib.Seq.{sets, length-sets}
 use Rattle.geom.specs.declared.Rect.{Rect}
 use Rattle.geom.specs.Geom.{isEmpty, meets, pieces}
-use Rattle.geom.specs.Inner.{Fits, Within}
+use Rattle.geom.specs.inner.Fits.{Fits, Within}
 use Rattle.geom.specs.Lists.{outside, outsideAll, numbers, rectAt}
 use Rattle.geom.proofs.basics.Tests.{is-false, clash, on-test₂, lt-or-le}
 use Rattle.geom.proofs.basics.Lists.{All}
@@ -18,7 +18,7 @@ use Rattle.geom.proofs.geometry.Facts.{says-meet, says-empty}
 use Rattle.geom.proofs.geometry.Pieces.{left-within}
 use Rattle.rules.specs.Visible.{rectsOf}
 use Rattle.rules.proofs.Lent.{length-rects, rects-next, stored, put-other, put-same, rects-put}
-use Rattle.visible.specs.Seen.{Gathered}
+use Rattle.visible.specs.inner.Seen.{Gathered}
 
 -- One that is left out ------------------------------------------------------------------------------------------------
 

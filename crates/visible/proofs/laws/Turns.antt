@@ -10,7 +10,7 @@ use lib.ListN.{length, drop, length-append, length-drop}
 use lib.Seq.{sets, length-sets}
 use Rattle.geom.specs.declared.Rect.{Rect}
 use Rattle.geom.specs.Geom.{width, height}
-use Rattle.geom.specs.Inner.{Fits}
+use Rattle.geom.specs.inner.Fits.{Fits}
 use Rattle.geom.specs.Areas.{areas}
 use Rattle.geom.specs.Lists.{outsideAll, numbers, most}
 use Rattle.geom.proofs.basics.Tests.{says-le, passes, same}
@@ -20,7 +20,7 @@ use Rattle.geom.proofs.geometry.Numbers.{written-append}
 use Rattle.rules.specs.Visible.{rectsOf}
 use Rattle.rules.proofs.Lent.{length-rects}
 use Rattle.visible.specs.declared.region.View.{View}
-use Rattle.visible.specs.Seen.{amount, drawn}
+use Rattle.visible.specs.inner.Seen.{amount, drawn}
 use Rattle.visible.proofs.laws.Regions.{drawn-append}
 
 -- at most 561 parts are seen under 16 rectangles

@@ -10,7 +10,7 @@ use Rattle.geom.specs.declared.Rect.{Rect}
 use Rattle.geom.specs.Lists.{outsideAll, relative, numbers, rectAt}
 use Rattle.geom.proofs.geometry.Numbers.{length-numbers}
 use Rattle.rules.specs.Visible.{rectsOf}
-use Rattle.visible.specs.Seen.{Gathered, seen}
+use Rattle.visible.specs.inner.Seen.{Gathered, seen}
 use Rattle.visible.proofs.laws.Regions.{length-seen}
 
 room-list : (at : Rect) (bs : List Rect) (room : ℕ) → 4 * length (outsideAll (at ∷ []) bs) ≤ room

@@ -20,8 +20,8 @@ use Rattle.scanline.specs.Pixels.{part}
 use Rattle.winbuf.specs.Pixels.{Write, lineStart, lineLength, smallLine, onLine, inSlice, noPart, scanlineRange, scanline, lineWritten}
 use Rattle.scanline.specs.Altered.{altered}
 use Rattle.winbuf.specs.Bare.{Gives, Hands}
-use Rattle.scanline.specs.Rows.{Counted}
-use Rattle.winbuf.specs.Places.{linePlace}
+use Rattle.scanline.specs.inner.Rows.{Counted}
+use Rattle.winbuf.specs.inner.Places.{linePlace}
 use Rattle.scanline.proofs.rows.Altered.{altered-same}
 use Rattle.scanline.proofs.rows.Paint.{length-part}
 

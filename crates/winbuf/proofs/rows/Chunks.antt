@@ -8,7 +8,7 @@ use native.Mathlib.Nat.{add-zero, add-suc, mul-div-le, lt-div-mul-add}
 use lib.ListN.{length, take, drop, length-drop, drop-of-length-le}
 use lib.Seq.{sets, take-nil}
 use Rattle.scanline.specs.Pixels.{writeRows, part}
-use Rattle.scanline.specs.Rows.{Counted}
+use Rattle.scanline.specs.inner.Rows.{Counted}
 use Rattle.geom.proofs.basics.Tests.{lt-or-le}
 use Rattle.scanline.proofs.rows.Altered.{Along}
 use Rattle.scanline.proofs.rows.Rows.{row-end, rows-room, length-writeRows}

@@ -7,7 +7,7 @@ use native.Mathlib.Nat.{add-zero, not-suc-le-zero}
 use lib.ListN.{length, take, drop, set, replicate, length-set, length-take, length-replicate}
 use lib.Seq.{sets, set-comm, set-set, take-take, drop-drop}
 use Rattle.scanline.specs.Pixels.{writeRows, part, resizedAt}
-use Rattle.winbuf.specs.Rows.{resized}
+use Rattle.winbuf.specs.inner.Rows.{resized}
 use Rattle.scanline.proofs.rows.Runs.{full-part}
 use Rattle.scanline.proofs.rows.Written.{rows-same}
 use Rattle.scanline.proofs.rows.Rows.{row-end, length-writeRows, rows-room}

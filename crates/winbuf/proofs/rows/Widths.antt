@@ -14,7 +14,7 @@ use Rattle.winbuf.proofs.rows.Flat.{finish}
 use Prim.Native.Nat.{ℕ, zero, suc, _+_, _-_, _*_, _≤_, _<_, min}
 use lib.ListN.{length, take, drop, replicate, length-take, length-append, length-replicate}
 use lib.Seq.{sets}
-use Rattle.winbuf.specs.Rows.{resized}
+use Rattle.winbuf.specs.inner.Rows.{resized}
 
 -- Narrow -------------------------------------------------------------------------------------------------------------
 

@@ -10,7 +10,7 @@ use Rattle.winbuf.specs.declared.Altered.{Altered}
 use Rattle.winbuf.specs.declared.inner.place.Place.{Place}
 use Rattle.winbuf.specs.declared.inner.place.Place.the-variants.{Large, Beside, Outside, Found}
 use Rattle.winbuf.specs.Pixels.{setScanline}
-use Rattle.scanline.specs.Rows.{Counted}
+use Rattle.scanline.specs.inner.Rows.{Counted}
 use Rattle.winbuf.specs.Bare.{Gives}
 use Rattle.scanline.proofs.rows.Runs.{take-cut}
 use Rattle.winbuf.proofs.bare.Scanlines.{put, found-lies, gives, counted}

@@ -3,7 +3,7 @@ ghost use mathlib.Core.Path.{_≡_};
 ghost use Prim.Native.Nat.{_+_, _*_, _/_, _≤_, min};
 ghost use lib.ListN.{length, take, replicate};
 ghost use Rattle.scanline.specs.Pixels.{writeRows, part};
-ghost use Rattle.scanline.specs.Rows.{Fit, Inside, Counted};
+ghost use Rattle.scanline.specs.inner.Rows.{Fit, Inside, Counted};
 use super::least;
 use scanline::row::fill_part;
 use scanline::row::set_part;

@@ -1,7 +1,7 @@
 // Where a scanline lies in lent pixels, or what keeps it from lying there.
 ghost use mathlib.Core.Path.{_≡_};
 ghost use Rattle.winbuf.specs.Pixels.{smallLine, onLine};
-ghost use Rattle.winbuf.specs.Places.{linePlace};
+ghost use Rattle.winbuf.specs.inner.Places.{linePlace};
 use super::least;
 use geom::inner::small::MOST;
 

@@ -4,7 +4,7 @@ ghost use mathlib.Core.List.{_++_};
 ghost use Prim.Native.Nat.{_+_, _-_, _*_, _≤_, min};
 ghost use lib.ListN.{length, replicate};
 ghost use Rattle.scanline.specs.Pixels.{writeRows, part, resizedAt};
-ghost use Rattle.winbuf.specs.Rows.{resized};
+ghost use Rattle.winbuf.specs.inner.Rows.{resized};
 use super::least;
 use scanline::row::fill_all;
 use scanline::row::fill_part;

@@ -12,7 +12,7 @@ use borrow.Author.Tests.{le-leb, lt-leb}
 use Rattle.geom.specs.declared.Rect.{Rect}
 use Rattle.geom.specs.declared.inner.rect16.Rect16.{Rect16}
 use Rattle.geom.specs.Geom.{rect, isEmpty, containsRect, union}
-use Rattle.geom.specs.Inner.{Fits}
+use Rattle.geom.specs.inner.Fits.{Fits}
 use Rattle.geom.specs.Rect16.{Small, rectOf, noRect16, rect16Of}
 use Rattle.geom.proofs.basics.Tests.{clash}
 use Rattle.geom.proofs.basics.Lists.{set-in, set-case, map-set}
@@ -20,7 +20,7 @@ use Rattle.window.specs.declared.damage.Damage.{Damage}
 use Rattle.window.specs.declared.damage.Merged.{Merged}
 use Rattle.window.specs.Window.{anyContains, merges, mergeOrAppend, addDirty}
 use Rattle.window.specs.Held.{Low, rects, RepDamage, withEntries}
-use Rattle.window.specs.Inner.{PastAs, MergedInto, atMost16, JoinedTo, Dirtied}
+use Rattle.window.specs.inner.Changes.{PastAs, MergedInto, atMost16, JoinedTo, Dirtied}
 
 -- Rectangles in 16 bits ----------------------------------------------------------------------------------------------
 

@@ -28,7 +28,7 @@ use Rattle.window.specs.declared.slots.Slot.{Slot}
 use Rattle.window.specs.declared.queue.Queue.{Queue}
 use Rattle.window.specs.Window.{pushed}
 use Rattle.window.specs.Held.{eventOf, place, noSlot, ring, events, RepQueue}
-use Rattle.window.specs.Inner.{Queued, slotOf, PushedTo, PoppedFrom}
+use Rattle.window.specs.inner.Changes.{Queued, slotOf, PushedTo, PoppedFrom}
 
 -- what a queue can hold comes out of its slot again
 pub event-again : (e : Event) → Queued e → eventOf (slotOf e) ≡ e

@@ -7,12 +7,12 @@ use lib.ListN.{drop}
 use Rattle.geom.specs.declared.Rect.{Rect}
 use Rattle.rules.specs.Group.{win}
 use Rattle.order.specs.declared.frames.Frames.{Frames}
-use Rattle.order.specs.Frames.{frameAt}
+use Rattle.order.specs.inner.Frames.{frameAt}
 use Rattle.order.proofs.laws.Order.{drop-map}
 use Rattle.order.proofs.laws.Above.{framesFrom}
 use Rattle.windows.specs.declared.Session.{Session}
 use Rattle.windows.specs.View.{group, Given}
-use Rattle.windows.specs.Frames.{Framed}
+use Rattle.windows.specs.inner.Frames.{Framed}
 use Rattle.windows.proofs.laws.Frames.{agrees-map, frames-agree}
 
 abbrev pub higher : Session → ℕ → List Rect

@@ -22,7 +22,7 @@ use Rattle.rules.specs.Order.{shown}
 use Rattle.geom.specs.Nearest.{nearestX, nearestY}
 use Rattle.rules.specs.Calls.{Route, does}
 use Rattle.order.specs.Ids.{heldOf}
-use Rattle.order.specs.Frames.{frameAt}
+use Rattle.order.specs.inner.Frames.{frameAt}
 use Rattle.windows.specs.declared.Session.{Session}
 use Rattle.windows.specs.declared.Shared.{Shared}
 use Rattle.windows.specs.declared.Changed.{Changed}
@@ -30,9 +30,9 @@ use Rattle.windows.specs.declared.inner.events.Target.the-variants.{Poin
 use Rattle.windows.specs.declared.Done.{Done}
 use Rattle.windows.specs.declared.inner.events.Aim.{Aim}
 use Rattle.windows.specs.View.{group, windowAt, Given, Meets, done}
-use Rattle.windows.specs.One.{put}
-use Rattle.windows.specs.Events.{targetOf, atPoint, heldAfter, Tellable, ToldTo}
-use Rattle.windows.specs.Aimed.{toNobody, toWindow, remembered, Heard, Aims}
+use Rattle.windows.specs.inner.One.{put}
+use Rattle.windows.specs.inner.Events.{targetOf, atPoint, heldAfter, Tellable, ToldTo}
+use Rattle.windows.specs.inner.Aimed.{toNobody, toWindow, remembered, Heard, Aims}
 use Rattle.windows.proofs.laws.Session.{win-at, given-ok}
 use Rattle.windows.proofs.laws.One.{put-back}
 use Rattle.windows.proofs.laws.Frames.{Found}

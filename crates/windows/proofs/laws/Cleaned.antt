@@ -22,10 +22,10 @@ use Rattle.rules.specs.Order.{isIn, shown}
 use Rattle.rules.specs.Redraw.{clean, cleanAll, isDrawn}
 use Rattle.rules.proofs.group.Invariant.{used-small}
 use Rattle.order.specs.Ids.{ids}
-use Rattle.order.specs.Order.{Marks}
+use Rattle.order.specs.inner.Order.{Marks}
 use Rattle.windows.specs.declared.Session.{Session}
 use Rattle.windows.specs.View.{cell, group, blank, windowAt, Rep, Given}
-use Rattle.windows.specs.Walk.{wiped}
+use Rattle.windows.specs.inner.Walk.{wiped}
 use Rattle.windows.proofs.laws.Session.{cell-at, is-cell, win-at, used-at, putWindow, put-rep, given-ok}
 
 -- The rule, window by window ------------------------------------------------------------------------------------------

@@ -12,16 +12,16 @@ use Rattle.window.specs.declared.Window.{Window}
 use Rattle.window.specs.Window.{Win, newWin, cursorAtOrigin}
 use Rattle.window.specs.Held.{winOf, RepWindow}
 use Rattle.order.specs.declared.frames.Frames.{Frames}
-use Rattle.order.specs.Frames.{FirstFree}
+use Rattle.order.specs.inner.Frames.{FirstFree}
 use Rattle.rules.specs.Group as Group
 use Rattle.rules.specs.Group.{winAt, firstFree, setWin}
 use Rattle.rules.specs.Calls.{Create, does}
 use Rattle.windows.specs.declared.Session.{Session}
 use Rattle.windows.specs.declared.NewId.the-variants.{Id, Absent}
 use Rattle.windows.specs.View.{cell, group, windowAt, Given, MeetsId}
-use Rattle.windows.specs.One.{Free}
-use Rattle.windows.specs.Walk.{layering, flagged, sharing}
-use Rattle.windows.specs.Frames.{Framed}
+use Rattle.windows.specs.inner.One.{Free}
+use Rattle.windows.specs.inner.Walk.{layering, flagged, sharing}
+use Rattle.windows.specs.inner.Frames.{Framed}
 use Rattle.windows.proofs.laws.Session.{cell-at, is-cell, no-cell, putWindow, put-group, put-rep, refuses, gives}
 use Rattle.windows.proofs.laws.Shared.{layers-shared, flag-shared, then-shared}
 

@@ -24,17 +24,17 @@ use Rattle.rules.proofs.group.Refused.{refused-store}
 use Rattle.rules.proofs.group.Invariant.{used-small}
 use Rattle.display.specs.declared.Added.{Added}
 use Rattle.display.specs.Held.{regions, Adds}
-use Rattle.display.specs.Dims.{place}
+use Rattle.display.specs.inner.Dims.{place}
 use Rattle.windows.specs.declared.Session.{Session}
 use Rattle.windows.specs.declared.Shared.{Shared}
 use Rattle.windows.specs.declared.Changed.{Changed}
 use Rattle.windows.specs.declared.Done.{Done}
 use Rattle.windows.specs.declared.inner.dims.Taking.{Taking}
 use Rattle.windows.specs.View.{group, windowAt, Rep, Given, Meets, MeetsStore, done}
-use Rattle.windows.specs.One.{At, put}
-use Rattle.windows.specs.Walk.{flagged, indebted}
-use Rattle.windows.specs.Pixels.{Becomes}
-use Rattle.windows.specs.Dims.{TakesDisplay, Took}
+use Rattle.windows.specs.inner.One.{At, put}
+use Rattle.windows.specs.inner.Walk.{flagged, indebted}
+use Rattle.windows.specs.inner.Pixels.{Becomes}
+use Rattle.windows.specs.inner.Dims.{TakesDisplay, Took}
 use Rattle.windows.proofs.laws.Session.{used-at, win-at, is-whole, isnt-whole, putWindow, put-group, put-rep, given-ok, refuses, gives}
 use Rattle.windows.proofs.laws.Shared.{flag-debt}
 use Rattle.windows.proofs.laws.One.{put-back, own, asks-used}

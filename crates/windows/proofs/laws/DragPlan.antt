@@ -21,14 +21,14 @@ use Rattle.rules.specs.Drag.{below}
 use Rattle.rules.proofs.group.Drag.{below-shown}
 use Rattle.order.specs.Ids.{ids}
 use Rattle.order.specs.declared.frames.Frames.{Frames}
-use Rattle.order.specs.Frames.{frameAt}
+use Rattle.order.specs.inner.Frames.{frameAt}
 use Rattle.windows.specs.declared.Session.{Session}
 use Rattle.windows.specs.declared.inner.drag.Turns.{Turns}
 use Rattle.windows.specs.declared.inner.drag.DragPlan.{DragPlan}
 use Rattle.windows.specs.View.{group, windowAt, Given}
-use Rattle.windows.specs.One.{At}
-use Rattle.windows.specs.Frames.{Framed}
-use Rattle.windows.specs.Drag.{turnsOf, TurnsIn, PlansDrag}
+use Rattle.windows.specs.inner.One.{At}
+use Rattle.windows.specs.inner.Frames.{Framed}
+use Rattle.windows.specs.inner.Drag.{turnsOf, TurnsIn, PlansDrag}
 use Rattle.windows.proofs.laws.Session.{used-at, win-at}
 use Rattle.windows.proofs.laws.One.{asks-used, own}
 use Rattle.windows.proofs.laws.Raised.{pending-is}

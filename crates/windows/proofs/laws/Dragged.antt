@@ -24,7 +24,7 @@ use Rattle.geom.proofs.basics.Lists.{set-in}
 use Rattle.window.specs.declared.Window.{Window}
 use Rattle.window.specs.Window.{Win}
 use Rattle.window.specs.Held.{winOf}
-use Rattle.window.specs.Ids.{noId}
+use Rattle.window.specs.inner.Ids.{noId}
 use Rattle.rules.specs.Group.{Group, win, winAt, withWindows, setMaximised, movedTo, moved, owing}
 use Rattle.rules.specs.Order.{isIn, shown}
 use Rattle.rules.specs.Displays.{eachById}
@@ -43,10 +43,10 @@ use Rattle.windows.specs.declared.Session.{Session}
 use Rattle.windows.specs.declared.inner.drag.Dragging.{Dragging}
 use Rattle.windows.specs.declared.inner.drag.DragPlan.{DragPlan}
 use Rattle.windows.specs.View.{cell, group, blank, windowAt, done, Rep, Given, Meets}
-use Rattle.windows.specs.One.{put}
-use Rattle.windows.specs.Pixels.{Becomes}
-use Rattle.windows.specs.Walk.{flagging, sharing}
-use Rattle.windows.specs.Drag.{turnsOf, Drags, PlansDrag, draggedWin, uncoveredWin, turned, OnTurn, settled, settledBy}
+use Rattle.windows.specs.inner.One.{put}
+use Rattle.windows.specs.inner.Pixels.{Becomes}
+use Rattle.windows.specs.inner.Walk.{flagging, sharing}
+use Rattle.windows.specs.inner.Drag.{turnsOf, Drags, PlansDrag, draggedWin, uncoveredWin, turned, OnTurn, settled, settledBy}
 use Rattle.windows.proofs.laws.Session.{cell-at, is-cell, no-cell, used-at, win-at, put-rep, given-ok, refuses, gives}
 use Rattle.windows.proofs.laws.Shared.{debt-shared}
 use Rattle.windows.proofs.laws.One.{own}

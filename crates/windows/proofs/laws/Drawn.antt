@@ -16,24 +16,24 @@ use Rattle.geom.proofs.basics.Tests.{fst, snd}
 use Rattle.window.specs.declared.ids.WinId.{WinId}
 use Rattle.window.specs.Window.{Win}
 use Rattle.window.specs.Held.{winOf, rects}
-use Rattle.window.specs.Ids.{noId}
+use Rattle.window.specs.inner.Ids.{noId}
 use Rattle.rules.specs.Group.{Group, win}
 use Rattle.rules.specs.Visible.{visible, rectsOf}
 use Rattle.rules.specs.Redraw.{none?, regions, isDrawn, drawWindow, drawAll, paid, screenFits}
 use Rattle.rules.specs.Redraw as Draw
 use Rattle.rules.specs.Store.{whole}
 use Rattle.rules.specs.Calls.{Redraw, does}
-use Rattle.rules.specs.Lent.{Lent}
+use Rattle.rules.specs.inner.Lent.{Lent}
 use Rattle.rules.proofs.group.Invariant.{WinOk}
 use Rattle.rules.proofs.Lent.{behind, rects-split, rest-lent}
 use Rattle.windows.specs.declared.Session.{Session}
 use Rattle.order.specs.declared.rects.Rects.{Rects}
 use Rattle.windows.specs.View.{walkOf, group, windowAt, Rep, Given, Meets, MeetsScreen, done}
-use Rattle.windows.specs.Walk.{noted, sharing}
-use Rattle.due.specs.Due.{walkAt}
+use Rattle.windows.specs.inner.Walk.{noted, sharing}
+use Rattle.due.specs.inner.Due.{walkAt}
 use Rattle.windows.specs.declared.inner.redraw.Drawn.{Drawn}
-use Rattle.windows.specs.Drawing.{painted, Draws}
-use Rattle.order.specs.Rects.{Holds}
+use Rattle.windows.specs.inner.Drawing.{painted, Draws}
+use Rattle.order.specs.inner.Rects.{Holds}
 use Rattle.windows.proofs.laws.Session.{given-ok, refuses, gives}
 use Rattle.windows.proofs.laws.Places.{order-length, id-at, shown-at, id-low, is-used, win-there, above-there}
 use Rattle.order.proofs.laws.Order.{drop-map}

@@ -17,7 +17,7 @@ use Rattle.geom.proofs.basics.Tests.{or-right}
 use Rattle.geom.proofs.basics.Lists.{set-in}
 use Rattle.geom.proofs.geometry.Facts.{In, Solid, says-in, solid}
 use Rattle.window.specs.Window.{Win}
-use Rattle.window.specs.Ids.{noId}
+use Rattle.window.specs.inner.Ids.{noId}
 use Rattle.rules.specs.Group.{Group, win}
 use Rattle.rules.specs.Order.{isIn, shown}
 use Rattle.rules.specs.Events.{topmostOf, topmost, holder}
@@ -27,11 +27,11 @@ use Rattle.rules.proofs.group.Topmost.{topmost-tops}
 use Rattle.rules.proofs.group.Steps.{holder-held}
 use Rattle.order.specs.declared.frames.Frames.{Frames}
 use Rattle.order.specs.Ids.{ids}
-use Rattle.order.specs.Frames.{frameAt, Shown}
-use Rattle.topmost.specs.Topmost.{topmostAt, takerAt}
+use Rattle.order.specs.inner.Frames.{frameAt, Shown}
+use Rattle.topmost.specs.inner.Topmost.{topmostAt, takerAt}
 use Rattle.windows.specs.declared.Session.{Session}
 use Rattle.windows.specs.View.{group, windowAt, Given}
-use Rattle.windows.specs.Frames.{Framed}
+use Rattle.windows.specs.inner.Frames.{Framed}
 use Rattle.windows.proofs.laws.Session.{used-at, win-at, given-ok}
 use Rattle.windows.proofs.laws.Places.{id-low}
 

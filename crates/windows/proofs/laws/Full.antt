@@ -6,7 +6,7 @@ use mathlib.Core.List.{List, [], _∷_, map}
 use native.Mathlib.Omega.{arith}
 use Rattle.geom.specs.declared.Rect.{Rect}
 use Rattle.geom.specs.Geom.{rect, left, top, width, height, right, bottom, meets, common}
-use Rattle.geom.specs.Inner.{Fits, Within}
+use Rattle.geom.specs.inner.Fits.{Fits, Within}
 use Rattle.geom.specs.Lists.{outsideAll, relative, meetsOf, listIntersect}
 use Rattle.geom.specs.Rect16.{Small, rectOf}
 use Rattle.geom.proofs.basics.Tests.{is-false, clash, cond-no}
@@ -16,12 +16,12 @@ use Rattle.geom.proofs.geometry.Pieces.{left-within}
 use Rattle.window.specs.declared.Window.{Window}
 use Rattle.window.specs.Held.{rects}
 use Rattle.rules.specs.Redraw.{none?, drawRegion, drawRegions}
-use Rattle.rules.specs.Lent.{AllFit}
+use Rattle.rules.specs.inner.Lent.{AllFit}
 use Rattle.visible.specs.declared.region.View.{View}
-use Rattle.visible.specs.Seen.{drawn}
+use Rattle.visible.specs.inner.Seen.{drawn}
 use Rattle.visible.proofs.laws.Regions.{drawn-append}
-use Rattle.windows.specs.Drawing.{painted}
-use Rattle.order.specs.Rects.{fullRect, dirtyOf}
+use Rattle.windows.specs.inner.Drawing.{painted}
+use Rattle.order.specs.inner.Rects.{fullRect, dirtyOf}
 
 -- One region ---------------------------------------------------------------------------------------------------------
 

@@ -13,9 +13,9 @@ use Rattle.rules.specs.Order.{shown, without, nextFocus, forget, hidden}
 use Rattle.windows.specs.declared.Session.{Session}
 use Rattle.windows.specs.View.{group, Rep, Given}
 use Rattle.order.specs.Ids.{ids, heldOf}
-use Rattle.order.specs.Order.{renderIdx, Closed}
+use Rattle.order.specs.inner.Order.{renderIdx, Closed}
 use Rattle.order.proofs.laws.Order.{ids-closed}
-use Rattle.windows.specs.Walk.{ordered, holding, sharing, indebted}
+use Rattle.windows.specs.inner.Walk.{ordered, holding, sharing, indebted}
 use Rattle.windows.proofs.laws.Shared.{debt-shared}
 use Rattle.windows.proofs.laws.Places.{has-place, is-shown, in-order, isnt-shown}
 

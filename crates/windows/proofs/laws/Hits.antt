@@ -18,12 +18,12 @@ use Rattle.rules.specs.Hits.{hitBy, hitAt, eachPoint, allSmall, fit, hits}
 use Rattle.rules.proofs.demand.Hits.{hit-three, each-long}
 use Rattle.order.specs.declared.frames.Frames.{Frames}
 use Rattle.order.specs.Ids.{ids}
-use Rattle.order.specs.Frames.{frameAt}
-use Rattle.topmost.specs.Topmost.{topmostAt}
-use Rattle.topmost.specs.Hits.{hitIn}
+use Rattle.order.specs.inner.Frames.{frameAt}
+use Rattle.topmost.specs.inner.Topmost.{topmostAt}
+use Rattle.topmost.specs.inner.Hits.{hitIn}
 use Rattle.windows.specs.declared.Session.{Session}
 use Rattle.windows.specs.View.{group, Given, Hits}
-use Rattle.windows.specs.Frames.{Framed}
+use Rattle.windows.specs.inner.Frames.{Framed}
 use Rattle.windows.proofs.laws.Session.{win-at}
 use Rattle.windows.proofs.laws.Frames.{found, none-found}
 

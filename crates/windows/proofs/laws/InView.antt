@@ -23,7 +23,7 @@ use Rattle.windows.specs.declared.Session.{Session}
 use Rattle.windows.specs.declared.InView.{InView}
 use Rattle.windows.specs.View.{group, windowAt, Given, Shares}
 use Rattle.order.specs.Ids.{ids}
-use Rattle.order.specs.Order.{renderIdx}
+use Rattle.order.specs.inner.Order.{renderIdx}
 use Rattle.windows.proofs.laws.Session.{used-at, win-at, given-ok}
 use Rattle.windows.proofs.laws.Places.{is-shown, isnt-shown}
 use Rattle.windows.proofs.laws.Above.{higher}

@@ -11,11 +11,11 @@ use Rattle.window.specs.declared.ids.WinId.{WinId}
 use Rattle.rules.specs.Group.{Group, layer, giveLayer, withOrder, owing}
 use Rattle.rules.specs.Order.{shown, toTop}
 use Rattle.order.specs.Ids.{ids}
-use Rattle.order.specs.Order.{renderIdx}
-use Rattle.order.specs.Layers.{Raised}
+use Rattle.order.specs.inner.Order.{renderIdx}
+use Rattle.order.specs.inner.Layers.{Raised}
 use Rattle.windows.specs.declared.Session.{Session}
 use Rattle.windows.specs.View.{group, Rep, Given}
-use Rattle.windows.specs.Walk.{ordered, layering, sharing, indebted}
+use Rattle.windows.specs.inner.Walk.{ordered, layering, sharing, indebted}
 use Rattle.windows.proofs.laws.Shared.{layers-shared, debt-shared}
 use Rattle.windows.proofs.laws.Places.{isnt-shown, is-shown}
 

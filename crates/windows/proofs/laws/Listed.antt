@@ -9,7 +9,7 @@ use lib.Dec.{leb}
 use lib.ListN.{length, drop, length-map}
 use borrow.Author.Tests.{le-leb}
 use Rattle.geom.specs.declared.Rect.{Rect}
-use Rattle.geom.specs.Inner.{Fits}
+use Rattle.geom.specs.inner.Fits.{Fits}
 use Rattle.geom.specs.Lists.{outsideAll, relative, numbers}
 use Rattle.geom.specs.Rect16.{rectOf, Small}
 use Rattle.window.specs.Window.{Win}
@@ -21,7 +21,7 @@ use Rattle.windows.specs.declared.Session.{Session}
 use Rattle.windows.specs.declared.Listing.{Listing}
 use Rattle.windows.specs.View.{group, windowAt, Given, Lists}
 use Rattle.order.specs.Ids.{ids}
-use Rattle.order.specs.Order.{renderIdx}
+use Rattle.order.specs.inner.Order.{renderIdx}
 use Rattle.windows.proofs.laws.Session.{used-at, win-at, given-ok}
 use Rattle.windows.proofs.laws.Places.{has-place, is-shown, isnt-shown, above-place}
 use Rattle.windows.proofs.laws.Above.{higher}

@@ -14,7 +14,7 @@ use Rattle.geom.specs.Rect16.{rectOf}
 use Rattle.look.specs.declared.Look.{Look}
 use Rattle.look.specs.declared.Sizes.{Sizes}
 use Rattle.look.specs.View.{view}
-use Rattle.look.specs.Inner as Inner
+use Rattle.look.specs.inner.Steps as Steps
 use Rattle.window.specs.Window.{Win}
 use Rattle.rules.specs.Group.{used, win}
 use Rattle.rules.specs.Look.{sizesOf, look}
@@ -51,7 +51,7 @@ module _ (s : Session) (id : ℕ) (l : Look) (store target : List ℕ) (tw th : 
       sizes = ap (λ (r : Rect). record { w = width r; h = height r; tw = tw; th = th }) win-is
 
       pub looked : (n : ℕ) (after : List ℕ)
-          → Inner.Looks l (record { w = a .w; h = a .h; tw = tw; th = th }) (id * s .shared .c) store target n after
+          → Steps.Looks l (record { w = a .w; h = a .h; tw = tw; th = th }) (id * s .shared .c) store target n after
           → Looks (group s) id l store target tw th n after
       unfolding look group
       looked n after r =

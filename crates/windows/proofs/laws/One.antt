@@ -14,7 +14,7 @@ use Rattle.window.specs.declared.Window.{Window}
 use Rattle.window.specs.declared.damage.Damage.{Damage}
 use Rattle.window.specs.Held.{winOf, RepWindow}
 use Rattle.order.specs.Ids.{ids}
-use Rattle.order.specs.Order.{renderIdx}
+use Rattle.order.specs.inner.Order.{renderIdx}
 use Rattle.rules.specs.Group.{used}
 use Rattle.rules.specs.Calls.{Call}
 use Rattle.rules.specs.Panels.{Write}
@@ -25,8 +25,8 @@ use Rattle.windows.specs.declared.Done.{Done}
 use Rattle.windows.specs.declared.Written.{Written}
 use Rattle.windows.specs.declared.inner.store.Painted.{Painted}
 use Rattle.windows.specs.View.{blank, group, windowAt, holding, ruled, rewritten, done, written, Given, Meets, MeetsStore, MeetsAltered, MeetsMark}
-use Rattle.windows.specs.One.{At, Holds, Held, HeldAs, put, MeetsAt, MeetsStoreAt, MeetsAlteredAs, MeetsMarkAt}
-use Rattle.windows.specs.Pixels.{setDamage}
+use Rattle.windows.specs.inner.One.{At, Holds, Held, HeldAs, put, MeetsAt, MeetsStoreAt, MeetsAlteredAs, MeetsMarkAt}
+use Rattle.windows.specs.inner.Pixels.{setDamage}
 use Rattle.windows.proofs.laws.Session.{used-at, used-past}
 
 -- Parts of a session ---------------------------------------------------------------------------------------------------

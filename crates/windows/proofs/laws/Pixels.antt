@@ -12,22 +12,22 @@ use borrow.Author.Tests.{ltb-true, lt-ltb}
 use Rattle.geom.specs.declared.Rect.{Rect}
 use Rattle.geom.specs.declared.inner.rect16.Rect16.{Rect16}
 use Rattle.geom.specs.Geom.{rect, left, top, width, height, isEmpty, meets, common}
-use Rattle.geom.specs.Inner.{Fits, Within}
+use Rattle.geom.specs.inner.Fits.{Fits, Within}
 use Rattle.geom.specs.Rect16.{Small}
 use Rattle.geom.proofs.basics.Tests.{clash, on-cond, lt-or-le}
 use Rattle.geom.proofs.geometry.Facts.{Meet, says-meet, solid, common-within}
 use Rattle.scanline.specs.Pixels.{writeRows, part}
-use Rattle.scanline.specs.Rows.{Inside, Counted}
+use Rattle.scanline.specs.inner.Rows.{Inside, Counted}
 use Rattle.scanline.proofs.rows.Altered.{altered-same}
 use Rattle.window.specs.declared.Window.{Window}
 use Rattle.window.specs.declared.damage.Damage.{Damage}
 use Rattle.window.specs.Window.{Win}
 use Rattle.window.specs.Held.{winOf, RepWindow, withEntries}
-use Rattle.window.specs.Inner.{PastAs, Dirtied}
+use Rattle.window.specs.inner.Changes.{PastAs, Dirtied}
 use Rattle.window.proofs.laws.Entries.{all-of}
 use Rattle.rules.specs.Store.{withDamage, dirtied, bounds, filledPart, filledAt, blitRows, blitAt}
 use Rattle.windows.specs.View.{filledWin, blitWin, holding}
-use Rattle.windows.specs.Pixels.{Becomes, RowsIn, setDamage, Paints, PaintsAs, BlitsAs}
+use Rattle.windows.specs.inner.Pixels.{Becomes, RowsIn, setDamage, Paints, PaintsAs, BlitsAs}
 use Rattle.windows.specs.declared.inner.store.Painted.{Painted}
 use Rattle.windows.proofs.laws.One.{fields, by-fields}
 

@@ -12,7 +12,7 @@ use borrow.Author.Tests.{eqb-true, eq-eqb}
 use Rattle.geom.proofs.basics.Tests.{clash, is-false}
 use Rattle.window.specs.declared.ids.WinId.{WinId}
 use Rattle.window.specs.Held.{winOf}
-use Rattle.window.specs.Ids.{noId}
+use Rattle.window.specs.inner.Ids.{noId}
 use Rattle.rules.specs.Group.{used, win}
 use Rattle.rules.specs.Order.{isIn, placeOf, above, shown}
 use Rattle.rules.proofs.group.Order.{Distinct}
@@ -20,8 +20,8 @@ use Rattle.rules.proofs.group.Invariant.{used-small}
 use Rattle.windows.specs.declared.Session.{Session}
 use Rattle.windows.specs.View.{group, windowAt, Given}
 use Rattle.order.specs.Ids.{num, ids}
-use Rattle.order.specs.Order.{renderIdx}
-use Rattle.order.specs.Layers.{Low}
+use Rattle.order.specs.inner.Order.{renderIdx}
+use Rattle.order.specs.inner.Layers.{Low}
 use Rattle.windows.proofs.laws.Session.{used-at, win-at, given-ok}
 use Rattle.order.proofs.laws.Order.{ids-length, ids-at, is-in-at, is-at, is-nowhere, place-low}
 

@@ -19,7 +19,7 @@ use Rattle.geom.proofs.basics.Lists.{set-in}
 use Rattle.window.specs.declared.ids.WinId.{WinId}
 use Rattle.window.specs.Window.{Win}
 use Rattle.window.specs.Held.{winOf}
-use Rattle.window.specs.Ids.{noId}
+use Rattle.window.specs.inner.Ids.{noId}
 use Rattle.rules.specs.Group.{Group, winAt, isMaximised}
 use Rattle.rules.specs.Displays as Rule
 use Rattle.rules.specs.Displays.{updatedAt, takenStore, fits, everyById, updateFits, updateStore, updateStores, everyFits}
@@ -28,13 +28,13 @@ use Rattle.rules.proofs.group.Refused.{refused-store}
 use Rattle.rules.proofs.group.Displays.{fits-at}
 use Rattle.display.specs.declared.dims.Moves.{Moves}
 use Rattle.display.specs.Held.{regions}
-use Rattle.display.specs.Dims.{place, takes, MovesTo, allFit, Roomy, resizedOne, allResized}
+use Rattle.display.specs.inner.Dims.{place, takes, MovesTo, allFit, Roomy, resizedOne, allResized}
 use Rattle.order.specs.declared.frames.Frames.{Frames}
 use Rattle.windows.specs.declared.Session.{Session}
 use Rattle.windows.specs.declared.inner.update.DimsPlan.{DimsPlan}
 use Rattle.windows.specs.View.{cell, group, windowAt, Given}
-use Rattle.windows.specs.Frames.{Framed}
-use Rattle.windows.specs.Dims.{MovesOf, StaysAt, Stays, Collects, Plans}
+use Rattle.windows.specs.inner.Frames.{Framed}
+use Rattle.windows.specs.inner.Dims.{MovesOf, StaysAt, Stays, Collects, Plans}
 use Rattle.windows.proofs.laws.Session.{cell-at, is-cell, no-cell, win-at, is-whole, isnt-whole, given-ok}
 
 -- Two lists by number -------------------------------------------------------------------------------------------------

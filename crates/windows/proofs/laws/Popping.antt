@@ -16,7 +16,7 @@ use Rattle.window.specs.declared.queue.Queue as Held
 use Rattle.window.specs.declared.queue.Popped as Queue
 use Rattle.window.specs.Window.{Win, moveOf, cursorRead}
 use Rattle.window.specs.Held.{eventOf, place, winOf, RepCursor, RepWindow}
-use Rattle.window.specs.Inner.{PoppedFrom}
+use Rattle.window.specs.inner.Changes.{PoppedFrom}
 use Rattle.window.proofs.laws.Events.{pops}
 use Rattle.rules.specs.Group.{used, win, setWin}
 use Rattle.rules.specs.Events as Rule
@@ -28,8 +28,8 @@ use Rattle.windows.specs.declared.inner.events.Front.{Front}
 use Rattle.windows.specs.declared.NextEvent as Next
 use Rattle.windows.specs.declared.NextEvent.the-variants as NextEvent
 use Rattle.windows.specs.View.{group, windowAt, Given, MeetsEvent}
-use Rattle.windows.specs.One.{At, Holds, put}
-use Rattle.windows.specs.Aimed.{PopsAt, AtFront, popped}
+use Rattle.windows.specs.inner.One.{At, Holds, put}
+use Rattle.windows.specs.inner.Aimed.{PopsAt, AtFront, popped}
 use Rattle.windows.proofs.laws.Session.{used-at, win-at, putWindow, refuses, puts}
 use Rattle.windows.proofs.laws.One.{stays, changes, asks-used}
 use Rattle.windows.proofs.laws.Parts.{setQueue, setCursor, queue-rep, cursor-rep, no-events}

@@ -13,20 +13,20 @@ use Rattle.window.specs.declared.Window.{Window}
 use Rattle.window.specs.declared.ids.WinId.{WinId}
 use Rattle.window.specs.Window.{Win}
 use Rattle.window.specs.Held.{RepWindow}
-use Rattle.window.specs.Ids.{noId}
+use Rattle.window.specs.inner.Ids.{noId}
 use Rattle.rules.specs.Group.{win, setWin, settle}
 use Rattle.rules.specs.Visible.{rectsOf}
 use Rattle.rules.specs.Redraw.{isDrawn, clean, cleanAll, drawWindow, screenFits}
 use Rattle.rules.specs.Walk as Rule
 use Rattle.rules.specs.Store.{whole}
 use Rattle.rules.specs.Calls.{Call, Begin, Portion, does}
-use Rattle.rules.specs.Lent.{Lent}
+use Rattle.rules.specs.inner.Lent.{Lent}
 use Rattle.rules.proofs.group.Invariant.{WalkOk}
 use Rattle.order.specs.declared.rects.Rects.{Rects}
 use Rattle.order.specs.declared.frames.Frames.{Frames}
-use Rattle.order.specs.Rects.{Holds}
+use Rattle.order.specs.inner.Rects.{Holds}
 use Rattle.due.specs.declared.Walk.{Walk}
-use Rattle.due.specs.Due.{walkAt, begun}
+use Rattle.due.specs.inner.Due.{walkAt, begun}
 use Rattle.order.proofs.laws.Above.{framesFrom}
 use Rattle.order.proofs.laws.Rects.{lends}
 use Rattle.windows.specs.declared.Session.{Session}
@@ -34,10 +34,10 @@ use Rattle.windows.specs.declared.Shared.{Shared}
 use Rattle.windows.specs.declared.inner.portion.Next.{Next}
 use Rattle.windows.specs.declared.inner.portion.Turn.{Turn}
 use Rattle.windows.specs.View.{walkOf, group, windowAt, Rep, Given, Meets, MeetsScreen, done}
-use Rattle.windows.specs.One.{put}
-use Rattle.windows.specs.Drawing.{painted}
-use Rattle.windows.specs.Frames.{Framed}
-use Rattle.windows.specs.Walk.{noted, sharing, onward, wiped, cleanedIf, IsNext, Turns, OnTurn, Turned, TreatsAt}
+use Rattle.windows.specs.inner.One.{put}
+use Rattle.windows.specs.inner.Drawing.{painted}
+use Rattle.windows.specs.inner.Frames.{Framed}
+use Rattle.windows.specs.inner.Walk.{noted, sharing, onward, wiped, cleanedIf, IsNext, Turns, OnTurn, Turned, TreatsAt}
 use Rattle.windows.proofs.laws.Session.{putWindow, put-group, put-rep, is-whole, isnt-whole, given-ok, refuses, gives}
 use Rattle.windows.proofs.laws.Shared.{settled-group, settled-rep}
 use Rattle.windows.proofs.laws.One.{put-back}

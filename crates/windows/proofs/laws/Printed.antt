@@ -12,18 +12,18 @@ use Rattle.geom.specs.Rect16.{rectOf, Small}
 use Rattle.sheet.specs.declared.Count.{Count}
 use Rattle.sheet.specs.Sheet.{Sheet}
 use Rattle.sheet.specs.Bytes.{encode}
-use Rattle.sheet.specs.Writer.{Writes}
+use Rattle.sheet.specs.inner.Writer.{Writes}
 use Rattle.window.specs.Window.{Win}
 use Rattle.rules.specs.Group.{Group, used, win}
 use Rattle.rules.specs.Order.{shown, above}
 use Rattle.rules.specs.Visible.{rectsOf}
 use Rattle.rules.specs.Sheets.{region, sheet}
 use Rattle.rules.proofs.Lent.{length-rects}
-use Rattle.bands.specs.Scan.{uncovered, seenUnder}
+use Rattle.bands.specs.inner.Scan.{uncovered, seenUnder}
 use Rattle.windows.specs.declared.Session.{Session}
 use Rattle.windows.specs.View.{group, windowAt, Given, Prints}
 use Rattle.order.specs.Ids.{ids}
-use Rattle.order.specs.Order.{renderIdx}
+use Rattle.order.specs.inner.Order.{renderIdx}
 use Rattle.windows.proofs.laws.Session.{used-at, win-at}
 use Rattle.windows.proofs.laws.Places.{order-length, is-shown, isnt-shown}
 use Rattle.windows.proofs.laws.Above.{higher}

@@ -18,15 +18,15 @@ use Rattle.rules.specs.Repair.{pending, whollyRepaired, atTop, toFront, sameOrd
 use Rattle.rules.specs.Calls.{Show, Raise, does}
 use Rattle.rules.proofs.group.Repair.{raise-hidden, raised-same, raised-owing, raised-repaired, same-by-next}
 use Rattle.order.specs.Ids.{ids}
-use Rattle.order.specs.Order.{renderIdx}
-use Rattle.order.specs.Layers.{Raised}
+use Rattle.order.specs.inner.Order.{renderIdx}
+use Rattle.order.specs.inner.Layers.{Raised}
 use Rattle.windows.specs.declared.Shared.{Shared}
 use Rattle.windows.specs.declared.Session.{Session}
 use Rattle.windows.specs.declared.Done.{Done}
 use Rattle.windows.specs.View.{walkOf, group, windowAt, Rep, Given, Meets, done}
-use Rattle.windows.specs.One.{Holds, put}
-use Rattle.windows.specs.Pixels.{Becomes}
-use Rattle.windows.specs.Walk.{ordered, sharing, indebted}
+use Rattle.windows.specs.inner.One.{Holds, put}
+use Rattle.windows.specs.inner.Pixels.{Becomes}
+use Rattle.windows.specs.inner.Walk.{ordered, sharing, indebted}
 use Rattle.windows.proofs.laws.Session.{used-at, win-at, putWindow, put-group, put-rep, given-ok, gives}
 use Rattle.windows.proofs.laws.Shared.{debt-shared}
 use Rattle.windows.proofs.laws.One.{asks-used, same-place}

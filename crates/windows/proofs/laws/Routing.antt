@@ -18,14 +18,14 @@ use Rattle.rules.specs.Events as Rule
 use Rattle.rules.specs.Events.{topmost, holder}
 use Rattle.rules.specs.Calls.{Route, does}
 use Rattle.order.specs.Ids.{heldOf}
-use Rattle.topmost.specs.Topmost as Topmost
+use Rattle.topmost.specs.inner.Topmost as Topmost
 use Rattle.windows.specs.declared.Session.{Session}
 use Rattle.windows.specs.declared.inner.events.Target.{Target}
 use Rattle.windows.specs.declared.inner.events.Target.the-variants.{Nobody, Focus, Point}
 use Rattle.windows.specs.View.{group, windowAt, Given, Meets, done}
-use Rattle.windows.specs.One.{put}
-use Rattle.windows.specs.Events.{targetOf, atPoint, heldAfter, Tellable, takes, told, ToldTo}
-use Rattle.windows.specs.Aimed.{remembered}
+use Rattle.windows.specs.inner.One.{put}
+use Rattle.windows.specs.inner.Events.{targetOf, atPoint, heldAfter, Tellable, takes, told, ToldTo}
+use Rattle.windows.specs.inner.Aimed.{remembered}
 use Rattle.windows.proofs.laws.Session.{refuses, gives}
 use Rattle.windows.proofs.laws.Telling.{tells}
 

@@ -9,12 +9,12 @@ use lib.Dec.{leb}
 use Rattle.rules.specs.Group.{Group, withLayers, setMaximised, note, isOver, settle, sentBack, owing}
 use Rattle.due.specs.declared.Walk.{Walk}
 use Rattle.order.specs.Ids.{ids}
-use Rattle.due.specs.Due.{walkAt, noWalk, settled}
+use Rattle.due.specs.inner.Due.{walkAt, noWalk, settled}
 use Rattle.order.proofs.laws.Order.{ids-length}
 use Rattle.windows.specs.declared.Shared.{Shared}
 use Rattle.windows.specs.declared.Session.{Session}
 use Rattle.windows.specs.View.{walkOf, group, Rep}
-use Rattle.windows.specs.Walk.{noted, layering, flagged, sharing, indebted}
+use Rattle.windows.specs.inner.Walk.{noted, layering, flagged, sharing, indebted}
 
 -- where what the windows share changes by K, the group changes by G
 pub record Shares (K : Shared → Shared) (G : Group → Group) : Type 0 where

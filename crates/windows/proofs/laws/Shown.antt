@@ -14,9 +14,9 @@ use Rattle.rules.proofs.group.Room.{room}
 use Rattle.windows.specs.declared.Session.{Session}
 use Rattle.windows.specs.View.{group, windowAt, Rep, Given, Meets, done}
 use Rattle.order.specs.Ids.{ids}
-use Rattle.order.specs.Order.{renderIdx}
-use Rattle.order.specs.Layers.{Inserted}
-use Rattle.windows.specs.Walk.{ordered, sharing, indebted}
+use Rattle.order.specs.inner.Order.{renderIdx}
+use Rattle.order.specs.inner.Layers.{Inserted}
+use Rattle.windows.specs.inner.Walk.{ordered, sharing, indebted}
 use Rattle.windows.proofs.laws.Shared.{debt-shared}
 use Rattle.windows.proofs.laws.Session.{used-at, given-ok, refuses, gives}
 use Rattle.windows.proofs.laws.Places.{order-length, isnt-shown}

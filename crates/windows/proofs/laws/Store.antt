@@ -33,8 +33,8 @@ use Rattle.windows.specs.declared.Shared.{Shared}
 use Rattle.windows.specs.declared.Session.{Session}
 use Rattle.windows.specs.declared.inner.store.Painted.{Painted}
 use Rattle.windows.specs.View.{group, windowAt, holding, ruled, Given, MeetsStore, MeetsAltered, done, written}
-use Rattle.windows.specs.One.{Holds, Held, HeldAs, put, MeetsStoreAt, MeetsAlteredAt, MeetsAlteredAs}
-use Rattle.windows.specs.Pixels.{Becomes, RowsIn, PaintsAs, setDamage}
+use Rattle.windows.specs.inner.One.{Holds, Held, HeldAs, put, MeetsStoreAt, MeetsAlteredAt, MeetsAlteredAs}
+use Rattle.windows.specs.inner.Pixels.{Becomes, RowsIn, PaintsAs, setDamage}
 use Rattle.windows.proofs.laws.Session.{used-at, win-at, putWindow, put-group, put-rep, given-ok, refuses, gives}
 use Rattle.windows.proofs.laws.Shared.{Shares, same-shared}
 use Rattle.windows.proofs.laws.One.{fields, by-fields, sized, by-c, stays, changes, rewrites, asks-used}

@@ -24,7 +24,7 @@ use Rattle.window.specs.declared.queue.Queue.{Queue}
 use Rattle.window.specs.declared.ids.WinId.{WinId}
 use Rattle.window.specs.Window.{Win, pushed, cursorTo}
 use Rattle.window.specs.Held.{place, noSlot, winOf, events, RepCursor, RepWindow}
-use Rattle.window.specs.Inner.{Queued, slotOf, PushedTo}
+use Rattle.window.specs.inner.Changes.{Queued, slotOf, PushedTo}
 use Rattle.window.proofs.Event.{the-type}
 use Rattle.window.proofs.laws.Events.{events-count}
 use Rattle.window.proofs.laws.Events as Queue
@@ -37,10 +37,10 @@ use Rattle.windows.specs.declared.Session.{Session}
 use Rattle.windows.specs.declared.inner.events.Told.{Told}
 use Rattle.windows.specs.declared.inner.events.Message.{Message}
 use Rattle.windows.specs.View.{group, blank, windowAt, Rep, Given, Meets, done}
-use Rattle.windows.specs.One.{put}
-use Rattle.windows.specs.Walk.{holding}
-use Rattle.windows.specs.Events.{moveOr, Tellable, takes, told, ToldTo}
-use Rattle.windows.specs.Aimed.{remembered, Heard, AtBack, toldBack}
+use Rattle.windows.specs.inner.One.{put}
+use Rattle.windows.specs.inner.Walk.{holding}
+use Rattle.windows.specs.inner.Events.{moveOr, Tellable, takes, told, ToldTo}
+use Rattle.windows.specs.inner.Aimed.{remembered, Heard, AtBack, toldBack}
 use Rattle.windows.proofs.laws.Session.{win-at, put-group, put-rep, putWindow, refuses, gives}
 use Rattle.windows.proofs.laws.One.{put-back}
 use Rattle.windows.proofs.laws.Parts.{setQueue, setCursor, queue-rep, cursor-rep}

@@ -17,18 +17,18 @@ use Rattle.geom.specs.Geom.{meets}
 use Rattle.geom.specs.Rect16.{rectOf}
 use Rattle.geom.proofs.basics.Tests.{clash, is-false, fst, nor, nor-fst, nor-snd, on-cond, or-right}
 use Rattle.window.specs.declared.ids.WinId.{WinId}
-use Rattle.window.specs.Ids.{noId}
+use Rattle.window.specs.inner.Ids.{noId}
 use Rattle.rules.specs.Order.{isIn, placeOf}
 use Rattle.rules.specs.Drag.{below}
 use Rattle.rules.proofs.group.Order.{Distinct, isIn-here, isIn-append}
 use Rattle.rules.proofs.group.Drag.{below-take}
 use Rattle.due.specs.declared.Due.{Due}
 use Rattle.order.specs.Ids.{num, ids}
-use Rattle.order.specs.Order.{renderIdx}
-use Rattle.order.specs.Frames.{frameAt, Shown}
+use Rattle.order.specs.inner.Order.{renderIdx}
+use Rattle.order.specs.inner.Frames.{frameAt, Shown}
 use Rattle.order.proofs.laws.Order.{ids-length, ids-at, ids-snoc, ids-take, is-in-at, is-at, place-low}
 use Rattle.windows.specs.declared.inner.drag.Turns.{Turns}
-use Rattle.windows.specs.Drag.{meeting, turnsOf, InTurn, TurnsOf, TurnsIn}
+use Rattle.windows.specs.inner.Drag.{meeting, turnsOf, InTurn, TurnsOf, TurnsIn}
 
 -- Those that meet a rectangle -----------------------------------------------------------------------------------------
 

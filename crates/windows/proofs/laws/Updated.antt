@@ -17,7 +17,7 @@ use Rattle.geom.proofs.basics.Lists.{set-in}
 use Rattle.window.specs.declared.Window.{Window}
 use Rattle.window.specs.Window.{Win}
 use Rattle.window.specs.Held.{winOf, RepWindow}
-use Rattle.window.specs.Ids.{noId}
+use Rattle.window.specs.inner.Ids.{noId}
 use Rattle.rules.specs.Group.{winAt, isMaximised, withWindows, owing}
 use Rattle.rules.specs.Displays as Rule
 use Rattle.rules.specs.Displays.{withAt, updatedAt, updatedWin, allUpdated}
@@ -25,14 +25,14 @@ use Rattle.rules.specs.Calls.{UpdateDims, does}
 use Rattle.rules.proofs.group.Displays.{length-each, window-at}
 use Rattle.display.specs.declared.dims.Moves.{Moves}
 use Rattle.display.specs.Held.{regions}
-use Rattle.display.specs.Dims.{place, takes}
+use Rattle.display.specs.inner.Dims.{place, takes}
 use Rattle.windows.specs.declared.Shared.{Shared}
 use Rattle.windows.specs.declared.Session.{Session}
 use Rattle.windows.specs.declared.inner.update.DimsPlan.{DimsPlan}
 use Rattle.windows.specs.View.{cell, group, blank, windowAt, done, Rep, Given, Meets, MeetsStore}
-use Rattle.windows.specs.One.{put}
-use Rattle.windows.specs.Walk.{indebted, sharing}
-use Rattle.windows.specs.Dims.{goes, MovesOf, Stays, Collects, Plans, Movable, Moved}
+use Rattle.windows.specs.inner.One.{put}
+use Rattle.windows.specs.inner.Walk.{indebted, sharing}
+use Rattle.windows.specs.inner.Dims.{goes, MovesOf, Stays, Collects, Plans, Movable, Moved}
 use Rattle.windows.proofs.laws.Session.{cell-at, is-cell, no-cell, put-rep, given-ok, refuses, gives}
 use Rattle.windows.proofs.laws.Shared.{debt-shared}
 

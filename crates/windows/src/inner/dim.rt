@@ -2,7 +2,7 @@
 ghost use mathlib.Core.Path.{_≡_};
 ghost use Rattle.rules.specs.Calls.{Call};
 ghost use Rattle.rules.specs.Dim.{same};
-ghost use Rattle.windows.specs.One.{MeetsShared};
+ghost use Rattle.windows.specs.inner.One.{MeetsShared};
 use crate::Shared;
 use crate::SharedDone;
 

@@ -1,5 +1,5 @@
 // Where the windows of a session are, and which ids are in use.
-ghost use Rattle.windows.specs.Frames.{Framed};
+ghost use Rattle.windows.specs.inner.Frames.{Framed};
 use crate::Session;
 use geom::inner::rect16::Rect16;
 use order::frames::Frames;

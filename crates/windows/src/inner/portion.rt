@@ -3,8 +3,8 @@
 ghost use mathlib.Core.Path.{_≡_};
 ghost use Rattle.rules.specs.Calls.{Call};
 ghost use Rattle.windows.specs.View.{Given};
-ghost use Rattle.windows.specs.One.{MeetsShared};
-ghost use Rattle.windows.specs.Walk.{indebted, cleanedIf, Turns, Turned, TreatsAt};
+ghost use Rattle.windows.specs.inner.One.{MeetsShared};
+ghost use Rattle.windows.specs.inner.Walk.{indebted, cleanedIf, Turns, Turned, TreatsAt};
 use crate::Changed;
 use crate::Session;
 use crate::Shared;

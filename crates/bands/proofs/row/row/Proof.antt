@@ -5,7 +5,7 @@ use Prim.Native.Nat.{_-_}
 use native.Mathlib.Omega.{arith}
 use lib.ListN.{length, length-set}
 use borrow.Author.Needs.{needs}
-use Rattle.geom.specs.Inner.{Fits}
+use Rattle.geom.specs.inner.Fits.{Fits}
 use Rattle.geom.proofs.geometry.Answers.{contains-is}
 use Rattle.geom.proofs.geometry.Facts.{small-fits}
 use Rattle.rules.proofs.Lent.{fits-at}

@@ -7,11 +7,11 @@ use borrow.Author.Tests.{not-true, not-false}
 use Rattle.geom.specs.declared.Rect.{Rect}
 use Rattle.geom.specs.Geom.{left, right}
 use Rattle.geom.proofs.geometry.Facts.{small-fits}
-use Rattle.sheet.specs.Checks.{Decides}
+use Rattle.sheet.specs.inner.Checks.{Decides}
 use Rattle.rules.specs.Visible.{rectsOf}
 use Rattle.rules.proofs.Lent.{length-rects}
-use Rattle.bands.specs.Above.{Alike}
-use Rattle.bands.specs.Scan.{Kept}
+use Rattle.bands.specs.inner.Above.{Alike}
+use Rattle.bands.specs.inner.Scan.{Kept}
 use Rattle.bands.proofs.laws.Down.{kept-none, kept-both, still-apart, row-alike, Rowing, rowing-first, rows-turn, rowing-next, rows-end}
 use Rattle.bands.proofs.scan.run_rows.Statement.{statement}
 use Rattle.bands.proofs.scan.run_rows.Tie as tie

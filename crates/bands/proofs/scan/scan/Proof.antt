@@ -9,7 +9,7 @@ use Rattle.geom.specs.Geom.{bottom}
 use Rattle.geom.proofs.geometry.Facts.{small-fits}
 use Rattle.rules.specs.Visible.{rectsOf}
 use Rattle.rules.proofs.Lent.{length-rects}
-use Rattle.bands.specs.Scan.{RowMade}
+use Rattle.bands.specs.inner.Scan.{RowMade}
 use Rattle.bands.proofs.laws.Down.{row-stands, row-kept}
 use Rattle.bands.proofs.laws.Scans.{Scan, scan-none, scan-room, scan-empty, scan-band, scan-all}
 use Rattle.bands.proofs.scan.scan.Statement.{statement}

@@ -2,7 +2,7 @@
 use Prim.Native.Nat.{_-_, _≤_}
 use native.Mathlib.Omega.{arith}
 use Rattle.display.specs.Held.{regions}
-use Rattle.display.specs.Dims.{MovesTo}
+use Rattle.display.specs.inner.Dims.{MovesTo}
 use Rattle.display.proofs.laws.Dims.{moves-none, moves-more, moves-all}
 use borrow.Author.Needs.{needs}
 use Rattle.display.proofs.Displays.moves.Statement.{statement}

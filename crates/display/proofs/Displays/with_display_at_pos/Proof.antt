@@ -5,7 +5,7 @@ use mathlib.Core.Option.{some}
 use native.Mathlib.Omega.{arith}
 use Rattle.geom.specs.declared.Rect.{Rect}
 use Rattle.geom.specs.Geom.{contains}
-use Rattle.geom.specs.Inner.{Fits}
+use Rattle.geom.specs.inner.Fits.{Fits}
 use Rattle.geom.proofs.geometry.Answers.{contains-is}
 use Rattle.display.proofs.laws.Regions.{region, screen-fits}
 use Rattle.display.proofs.laws.Search.{Passed, hit, miss, gone}

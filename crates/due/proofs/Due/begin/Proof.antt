@@ -1,7 +1,7 @@
 -- The walk that is settled is one from the bottom.
 use mathlib.Core.Bool.{Bool, true}
 use mathlib.Core.Path.{ap, _∙_}
-use Rattle.due.specs.Due.{walkAt, settled}
+use Rattle.due.specs.inner.Due.{walkAt, settled}
 use borrow.Author.Needs.{needs}
 use Rattle.due.proofs.Due.begin.Statement.{statement}
 use Rattle.due.proofs.Due.begin.Tie as tie

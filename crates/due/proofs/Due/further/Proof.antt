@@ -1,7 +1,7 @@
 -- The walk that is settled has the next place.
 use Prim.Native.Nat.{ℕ}
 use mathlib.Core.Path.{ap, _∙_}
-use Rattle.due.specs.Due.{walkAt, settled}
+use Rattle.due.specs.inner.Due.{walkAt, settled}
 use borrow.Author.Needs.{needs}
 use Rattle.due.proofs.Due.further.Statement.{statement}
 use Rattle.due.proofs.Due.further.Tie as tie

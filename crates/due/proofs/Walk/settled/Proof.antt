@@ -1,7 +1,7 @@
 -- Over, or as it is.
 use mathlib.Core.Path.{sym, _∙_}
 use borrow.Author.Needs.{needs}
-use Rattle.due.specs.Due.{settled}
+use Rattle.due.specs.inner.Due.{settled}
 use Rattle.due.proofs.Walk.settled.Statement.{statement}
 use Rattle.due.proofs.Walk.settled.Tie as tie
 

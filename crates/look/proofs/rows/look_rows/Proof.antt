@@ -10,7 +10,7 @@ use lib.ListN.{length, replicate}
 use Rattle.look.specs.declared.Steps.{Steps}
 use Rattle.look.specs.View.{line, windowPixel}
 use Rattle.look.specs.Quarters.{placeQuarters}
-use Rattle.look.specs.Inner.{lookRow}
+use Rattle.look.specs.inner.Steps.{lookRow}
 use Rattle.look.proofs.laws.Picture.{painted, painted-none, painted-all}
 use Rattle.look.proofs.laws.Rows.{in-window, below-window, row-in, row-more}
 use Rattle.look.proofs.rows.look_rows.Statement.{statement}

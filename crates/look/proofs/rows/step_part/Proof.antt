@@ -7,7 +7,7 @@ use native.Mathlib.Omega.{arith}
 use lib.ListN.{length, getD, set, length-set}
 use lib.Seq.{sets}
 use Rattle.look.specs.View.{line}
-use Rattle.look.specs.Inner.{stepped}
+use Rattle.look.specs.inner.Steps.{stepped}
 use Rattle.look.proofs.laws.Picture.{line-more}
 use Rattle.look.proofs.rows.step_part.Statement.{statement}
 use Rattle.look.proofs.rows.step_part.Tie as tie

@@ -8,7 +8,7 @@ use lib.ListN.{length}
 use lib.Seq.{sets}
 use Rattle.scanline.specs.Pixels.{part}
 use Rattle.look.specs.View.{line}
-use Rattle.look.specs.Inner.{Along, stepped}
+use Rattle.look.specs.inner.Steps.{Along, stepped}
 use Rattle.look.proofs.laws.Rows.{beside}
 use Rattle.look.proofs.rows.take_part.Statement.{statement}
 use Rattle.look.proofs.rows.take_part.Tie as tie

@@ -4,7 +4,7 @@ use Prim.Native.Nat.{ℕ}
 use borrow.Author.Needs.{needs}
 use borrow.Author.Tests.{eq-eqb, ne-eqb}
 use Rattle.look.specs.Quarters.{stepOf}
-use Rattle.look.specs.Inner.{joinedOf}
+use Rattle.look.specs.inner.Steps.{joinedOf}
 use Rattle.look.specs.declared.quarters.Quarters.{Quarters}
 use Rattle.look.specs.declared.quarters.Quarters.the-variants.{Of}
 use Rattle.look.specs.declared.whole.Whole.{Whole}

@@ -7,7 +7,7 @@ use lib.Ieee.{Float}
 use Rattle.geom.proofs.basics.Tests.{clash, is-false}
 use Rattle.look.specs.Floats.{isFactor, isCorner, allowed}
 use Rattle.look.specs.Quarters.{quarters, pick, quartersOf, stepOf, fittedOf}
-use Rattle.look.specs.Inner.{pickWhole, joinedOf, wholeOf}
+use Rattle.look.specs.inner.Steps.{pickWhole, joinedOf, wholeOf}
 use Rattle.look.specs.declared.Look.{Look}
 use Rattle.look.specs.declared.Sizes.{Sizes}
 use Rattle.look.specs.declared.Steps.{Steps}

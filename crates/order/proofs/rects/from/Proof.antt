@@ -3,7 +3,7 @@ use Prim.Native.Nat.{_+_, _-_, _<_}
 use mathlib.Core.Path.{_≡_, refl}
 use native.Mathlib.Omega.{arith}
 use lib.ListN.{getD}
-use Rattle.window.specs.Ids.{noId}
+use Rattle.window.specs.inner.Ids.{noId}
 use Rattle.order.proofs.laws.Rects.{Filling, fill-end}
 use Rattle.order.proofs.laws.Above.{framesFrom, tall, above-none, above-next}
 use borrow.Author.Needs.{needs}

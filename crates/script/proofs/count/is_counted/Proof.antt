@@ -1,6 +1,6 @@
 -- A kind that no row has, or the row of the kind.
 use Rattle.script.specs.Script.{table}
-use Rattle.script.specs.Table.{follows}
+use Rattle.script.specs.inner.Table.{follows}
 use Rattle.script.proofs.laws.Kinds.{held}
 use Rattle.script.proofs.laws.Calls.{no-count, row-count}
 use native.Mathlib.Omega.{arith}

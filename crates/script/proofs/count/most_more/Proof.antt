@@ -1,7 +1,7 @@
 -- One byte after the other.
 use native.Mathlib.Omega.{arith}
 use borrow.Author.Tests.{ne-eqb}
-use Rattle.script.specs.Table.{follows}
+use Rattle.script.specs.inner.Table.{follows}
 use Rattle.script.proofs.count.most_more.Statement.{statement}
 use Rattle.script.proofs.count.most_more.Tie as tie
 

@@ -1,6 +1,6 @@
 -- The word of the row, letter by letter.
 use Rattle.script.specs.Script.{sameWord}
-use Rattle.script.specs.Table.{letters}
+use Rattle.script.specs.inner.Table.{letters}
 use lib.ListN.{take, drop}
 use Prim.Native.Nat.{ℕ, _+_, _*_, _-_}
 use native.Mathlib.Omega.{arith}

@@ -1,6 +1,6 @@
 -- The bytes hold the rows.
 use Rattle.script.specs.Script.{table}
-use Rattle.script.specs.Table.{follows}
+use Rattle.script.specs.inner.Table.{follows}
 use Rattle.script.proofs.laws.Kinds.{held}
 use mathlib.Core.Path.{refl}
 use borrow.Author.Needs.{needs}

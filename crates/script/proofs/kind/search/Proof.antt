@@ -1,6 +1,6 @@
 -- None of the words passed is the word.
 use Prim.Native.Nat.{_-_}
-use Rattle.script.specs.Table.{words}
+use Rattle.script.specs.inner.Table.{words}
 use native.Mathlib.Omega.{arith}
 use Rattle.script.proofs.laws.Kinds.{Sought, search-starts, search-hit, search-miss, search-ends}
 use Rattle.script.proofs.kind.search.Statement.{statement}

@@ -7,9 +7,9 @@ use mathlib.Core.Path.{refl}
 use Prim.Native.Nat.{_<_}
 use native.Mathlib.Omega.{arith}
 use Rattle.windows.specs.View.{Given}
-use Rattle.windows.specs.One.{Free}
+use Rattle.windows.specs.inner.One.{Free}
 use Rattle.station.specs.Answers.{Creates}
-use Rattle.station.specs.Inner.{MakesAt}
+use Rattle.station.specs.inner.One.{MakesAt}
 use Rattle.windows.proofs.inner.one.free_slot.Symbol as find
 use Rattle.windows.proofs.inner.one.free_slot.Met as find′
 use Rattle.station.proofs.values.create.Symbol as value

@@ -7,7 +7,7 @@ use denote.Triple.Table.{entered}
 use Rattle.rules.specs.Calls.{Dim}
 use Rattle.windows.specs.View.{Given, Meets}
 use Rattle.windows.specs.View as View
-use Rattle.windows.specs.One.{MeetsShared}
+use Rattle.windows.specs.inner.One.{MeetsShared}
 use Rattle.windows.proofs.inner.dim.dim as g
 use Rattle.windows.proofs.inner.dim.dim.Symbol as value
 use Rattle.windows.proofs.inner.dim.dim.Met as value′

@@ -7,12 +7,12 @@ use contract.Running.{tables}
 use denote.Triple.Spec.{tripleOf}
 use denote.Triple.Table.{entered}
 use Rattle.window.specs.Held.{winOf}
-use Rattle.window.specs.Ids.{noId}
+use Rattle.window.specs.inner.Ids.{noId}
 use Rattle.rules.specs.Calls.{Drag}
 use Rattle.windows.specs.View.{Given, Meets}
 use Rattle.windows.specs.View as View
-use Rattle.windows.specs.Pixels.{Becomes}
-use Rattle.windows.specs.Drag.{PlansDrag, OnTurn, turned, settledBy}
+use Rattle.windows.specs.inner.Pixels.{Becomes}
+use Rattle.windows.specs.inner.Drag.{PlansDrag, OnTurn, turned, settledBy}
 use Rattle.windows.proofs.laws.Dragged.{BeforeTurn, begins, asks, inside, some-turn, goes-on, ends}
 use Rattle.windows.proofs.inner.drag.plan.Symbol as plan
 use Rattle.windows.proofs.inner.drag.plan.Met as plan′

@@ -8,7 +8,7 @@ use denote.Triple.Table.{entered}
 use Rattle.rules.specs.Panels.{fill}
 use Rattle.windows.specs.View.{Given, MeetsAltered, windowAt}
 use Rattle.windows.specs.View as View
-use Rattle.windows.specs.One.{At, HeldAs, MeetsAlteredAs}
+use Rattle.windows.specs.inner.One.{At, HeldAs, MeetsAlteredAs}
 use Rattle.windows.proofs.laws.One.{own, held-as}
 use Rattle.windows.proofs.inner.one.slot.Symbol as find
 use Rattle.windows.proofs.inner.one.slot.Met as find′

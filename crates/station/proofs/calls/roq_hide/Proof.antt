@@ -6,7 +6,7 @@ use denote.Triple.Table.{entered}
 use Rattle.rules.specs.Calls.{Hide}
 use Rattle.windows.specs.View.{Given, Meets}
 use Rattle.windows.specs.View as View
-use Rattle.windows.specs.One.{At, Held, MeetsAt}
+use Rattle.windows.specs.inner.One.{At, Held, MeetsAt}
 use Rattle.windows.proofs.laws.One.{own, held}
 use Rattle.windows.proofs.inner.one.slot.Symbol as find
 use Rattle.windows.proofs.inner.one.slot.Met as find′

@@ -5,7 +5,7 @@ use denote.Triple.Spec.{tripleOf}
 use denote.Triple.Table.{entered}
 use Rattle.windows.specs.View.{Given, MeetsMark}
 use Rattle.windows.specs.View as View
-use Rattle.windows.specs.One.{At, Held, MeetsMarkAt}
+use Rattle.windows.specs.inner.One.{At, Held, MeetsMarkAt}
 use Rattle.windows.proofs.laws.One.{own, held}
 use Rattle.windows.proofs.inner.one.slot.Symbol as find
 use Rattle.windows.proofs.inner.one.slot.Met as find′

@@ -11,7 +11,7 @@ use Rattle.window.specs.Held.{RepWindow}
 use Rattle.rules.specs.Calls.{Maximise}
 use Rattle.windows.specs.View.{Given, MeetsStore}
 use Rattle.windows.specs.View as View
-use Rattle.windows.specs.Dims.{TakesDisplay, Took}
+use Rattle.windows.specs.inner.Dims.{TakesDisplay, Took}
 use Rattle.windows.proofs.laws.Dims.{accepted-low, maximises}
 use Rattle.windows.proofs.inner.dims.plan_take.Symbol as find
 use Rattle.windows.proofs.inner.dims.plan_take.Met as find′

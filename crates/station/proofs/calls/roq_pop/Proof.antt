@@ -7,9 +7,9 @@ use denote.Triple.Spec.{tripleOf}
 use denote.Triple.Table.{entered}
 use Rattle.window.specs.Held.{RepCursor, noSlot}
 use Rattle.windows.specs.View.{Given, windowAt}
-use Rattle.windows.specs.One.{At}
+use Rattle.windows.specs.inner.One.{At}
 use Rattle.station.specs.Answers.{Pops}
-use Rattle.station.specs.Inner.{TakesFront}
+use Rattle.station.specs.inner.One.{TakesFront}
 use Rattle.windows.proofs.inner.one.slot.Symbol as find
 use Rattle.windows.proofs.inner.one.slot.Met as find′
 use Rattle.window.proofs.queue.front.Symbol as front

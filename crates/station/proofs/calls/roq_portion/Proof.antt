@@ -7,7 +7,7 @@ use denote.Triple.Table.{entered}
 use Rattle.rules.specs.Calls.{Portion}
 use Rattle.windows.specs.View.{Given, MeetsScreen}
 use Rattle.windows.specs.View as View
-use Rattle.windows.specs.Walk.{Turns, Turned, TreatsAt}
+use Rattle.windows.specs.inner.Walk.{Turns, Turned, TreatsAt}
 use Rattle.windows.proofs.laws.Portions.{own-turn, turned}
 use Rattle.windows.proofs.inner.portion.whose_turn.Symbol as find
 use Rattle.windows.proofs.inner.portion.whose_turn.Met as find′

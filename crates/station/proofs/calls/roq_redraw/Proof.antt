@@ -8,11 +8,11 @@ use contract.Running.{tables}
 use denote.Ref.{now}
 use denote.Triple.Spec.{tripleOf}
 use denote.Triple.Table.{entered}
-use Rattle.window.specs.Ids.{noId}
+use Rattle.window.specs.inner.Ids.{noId}
 use Rattle.rules.specs.Calls.{Redraw}
 use Rattle.windows.specs.View.{Given, MeetsScreen}
 use Rattle.windows.specs.View as View
-use Rattle.station.specs.Redraw.{PlansRedraw, SomeTurn, DrawsTurn, free}
+use Rattle.station.specs.inner.Redraw.{PlansRedraw, SomeTurn, DrawsTurn, free}
 use Rattle.station.proofs.laws.Redraw.{Redrawing, begins, asks, inside, some-turn, goes-on, ends}
 use Rattle.station.proofs.redraw.plan.Symbol as plan
 use Rattle.station.proofs.redraw.plan.Met as plan′

@@ -7,7 +7,7 @@ use denote.Triple.Table.{entered}
 use Rattle.rules.specs.Calls.{Resize}
 use Rattle.windows.specs.View.{Given, MeetsStore}
 use Rattle.windows.specs.View as View
-use Rattle.windows.specs.One.{At, Held, MeetsStoreAt}
+use Rattle.windows.specs.inner.One.{At, Held, MeetsStoreAt}
 use Rattle.windows.proofs.laws.One.{own, held}
 use Rattle.windows.proofs.inner.one.slot.Symbol as find
 use Rattle.windows.proofs.inner.one.slot.Met as find′

@@ -12,10 +12,10 @@ use Rattle.windows.specs.declared.Session.{Session}
 use Rattle.windows.specs.declared.inner.events.Aim.{Aim}
 use Rattle.windows.specs.declared.inner.events.Told.{Told}
 use Rattle.windows.specs.View.{Given, windowAt, done}
-use Rattle.windows.specs.One.{put}
-use Rattle.windows.specs.Walk.{holding}
-use Rattle.windows.specs.Events.{Tellable}
-use Rattle.windows.specs.Aimed.{Hears, Aims, toldBack}
+use Rattle.windows.specs.inner.One.{put}
+use Rattle.windows.specs.inner.Walk.{holding}
+use Rattle.windows.specs.inner.Events.{Tellable}
+use Rattle.windows.specs.inner.Aimed.{Hears, Aims, toldBack}
 use Rattle.windows.proofs.laws.Aimed.{told-there}
 use Rattle.station.specs.declared.events.RoqEvent.{RoqEvent}
 use Rattle.station.specs.Events.{eventOf, Routes}

@@ -9,12 +9,12 @@ use contract.Running.{tables}
 use denote.Ref.{now}
 use denote.Triple.Spec.{tripleOf}
 use denote.Triple.Table.{entered}
-use Rattle.window.specs.Ids.{noId}
+use Rattle.window.specs.inner.Ids.{noId}
 use Rattle.rules.specs.Calls.{UpdateDims}
 use Rattle.windows.specs.View.{Given, MeetsStore}
 use Rattle.windows.specs.View as View
-use Rattle.windows.specs.Walk.{indebted}
-use Rattle.windows.specs.Dims.{Plans, Movable, Moved}
+use Rattle.windows.specs.inner.Walk.{indebted}
+use Rattle.windows.specs.inner.Dims.{Plans, Movable, Moved}
 use Rattle.windows.proofs.laws.Updated.{Updating, begins, asks, inside, movable, goes-on, ends}
 use Rattle.windows.proofs.inner.update.plan_moves.Symbol as plan
 use Rattle.windows.proofs.inner.update.plan_moves.Met as plan′

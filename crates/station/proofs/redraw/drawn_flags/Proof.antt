@@ -3,7 +3,7 @@ use Prim.Native.Nat.{_≤_, _-_}
 use mathlib.Core.Path.{refl}
 use native.Mathlib.Omega.{arith}
 use native.Mathlib.Nat.{not-suc-le-zero}
-use Rattle.station.specs.Redraw.{Flagged}
+use Rattle.station.specs.inner.Redraw.{Flagged}
 use Rattle.station.proofs.laws.Redraw.{flag-more}
 use borrow.Author.Needs.{needs}
 use Rattle.station.proofs.redraw.drawn_flags.Statement.{statement}

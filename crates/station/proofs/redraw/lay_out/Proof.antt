@@ -1,7 +1,7 @@
 -- The arrays are those of the frames and of the flags, and the rectangles those from the lowest place on.
 use mathlib.Core.Path.{refl, subst}
 use native.Mathlib.Omega.{arith}
-use Rattle.order.specs.Rects.{Holds}
+use Rattle.order.specs.inner.Rects.{Holds}
 use Rattle.windows.proofs.laws.Frames.{order-lies}
 use Rattle.windows.proofs.laws.Above.{frames-higher}
 use borrow.Author.Needs.{needs}

@@ -3,7 +3,7 @@ use Prim.Native.Nat.{suc}
 use mathlib.Core.Path.{_≡_, refl, sym, subst, _∙_}
 use mathlib.Core.Bool.{Bool, _||_}
 use native.Mathlib.Nat.{suc-ne-zero}
-use Rattle.station.specs.Redraw.{LaidOut}
+use Rattle.station.specs.inner.Redraw.{LaidOut}
 use Rattle.station.proofs.laws.Redraw.{no-screen, no-store}
 use borrow.Author.Needs.{needs}
 use Rattle.station.proofs.redraw.plan.Statement.{statement}

@@ -3,7 +3,7 @@ use mathlib.Core.Path.{_∙_, sym, ap, subst, refl}
 use mathlib.Core.Option.{Option}
 use Rattle.window.specs.declared.Event.{Event}
 use Rattle.windows.specs.View.{eventIn}
-use Rattle.windows.specs.Aimed.{toNobody, Aims}
+use Rattle.windows.specs.inner.Aimed.{toNobody, Aims}
 use Rattle.windows.proofs.laws.Aimed.{aims-nobody}
 use Rattle.station.specs.Events.{Routes}
 use borrow.Author.Needs.{needs}

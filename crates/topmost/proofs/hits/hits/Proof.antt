@@ -1,9 +1,9 @@
 -- The windows from place `left` on have answered; each turn asks the highest of those that are left.
 use mathlib.Core.Path.{refl, sym, subst}
 use native.Mathlib.Omega.{arith}
-use Rattle.geom.specs.Inner.{Fits}
+use Rattle.geom.specs.inner.Fits.{Fits}
 use Rattle.geom.proofs.geometry.Facts.{small-fits}
-use Rattle.order.specs.Frames.{frameAt}
+use Rattle.order.specs.inner.Frames.{frameAt}
 use Rattle.topmost.proofs.laws.Hits.{Passed, pass-none, pass-next, pass-end}
 use borrow.Author.Needs.{needs}
 use Rattle.topmost.proofs.hits.hits.Statement.{statement}

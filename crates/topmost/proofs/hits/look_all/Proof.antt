@@ -1,7 +1,7 @@
 -- The first i points are looked at.
 use Prim.Native.Nat.{_-_, _≤_}
 use native.Mathlib.Omega.{arith}
-use Rattle.topmost.specs.Hits.{three, atPoint, Written, answered}
+use Rattle.topmost.specs.inner.Hits.{three, atPoint, Written, answered}
 use Rattle.topmost.proofs.laws.Written.{written-none, written-end}
 use Rattle.topmost.proofs.laws.Hits.{look-next}
 use Rattle.topmost.proofs.hits.look_all.Statement.{statement}

@@ -2,7 +2,7 @@
 use Prim.Native.Nat.{_-_, _≤_}
 use mathlib.Core.Path.{refl}
 use native.Mathlib.Omega.{arith}
-use Rattle.topmost.specs.Hits.{Written, toNobody}
+use Rattle.topmost.specs.inner.Hits.{Written, toNobody}
 use Rattle.topmost.proofs.laws.Written.{written-none, written-next, written-end}
 use Rattle.topmost.proofs.hits.nobody.Statement.{statement}
 use Rattle.topmost.proofs.hits.nobody.Tie as tie

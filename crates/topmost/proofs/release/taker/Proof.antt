@@ -10,7 +10,7 @@ use Rattle.geom.specs.declared.Rect.{Rect}
 use Rattle.geom.specs.Geom.{isEmpty}
 use Rattle.window.specs.declared.ids.WinId.{WinId}
 use Rattle.order.specs.Ids.{heldOf}
-use Rattle.topmost.specs.Topmost.{topmostAt, takerAt}
+use Rattle.topmost.specs.inner.Topmost.{topmostAt, takerAt}
 use borrow.Author.Needs.{needs}
 use Rattle.topmost.proofs.release.taker.Statement.{statement}
 use Rattle.topmost.proofs.release.taker.Tie as tie

@@ -4,7 +4,7 @@ use mathlib.Core.List.{List}
 use mathlib.Core.Bool.{true}
 use Rattle.geom.specs.declared.Rect.{Rect}
 use Rattle.geom.specs.Geom.{meets}
-use Rattle.visible.specs.Seen.{drawn}
+use Rattle.visible.specs.inner.Seen.{drawn}
 use Rattle.visible.proofs.laws.Regions.{drawn-none}
 use Rattle.visible.proofs.laws.Shown.{own-fits, own-common}
 use Rattle.visible.proofs.laws.Outside.{common-outside, none-outside}

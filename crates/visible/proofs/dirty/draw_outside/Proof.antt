@@ -3,9 +3,9 @@ use Prim.Native.Nat.{_-_, _≤_}
 use mathlib.Core.Path.{_≡_, refl, sym, subst, _∙_}
 use native.Mathlib.Omega.{arith}
 use lib.ListN.{length, take, drop}
-use Rattle.geom.specs.Inner.{Fits, Within}
-use Rattle.visible.specs.Seen.{own, drawn}
-use Rattle.visible.specs.Outside.{four}
+use Rattle.geom.specs.inner.Fits.{Fits, Within}
+use Rattle.visible.specs.inner.Seen.{own, drawn}
+use Rattle.visible.specs.inner.Outside.{four}
 use Rattle.visible.proofs.laws.Parts.{within-trans}
 use Rattle.visible.proofs.laws.Shown.{own-fits, drawable-kept}
 use Rattle.visible.proofs.laws.Outside.{hole-within, four-within, outside-drawn, piece-turn, piece-all, count-few}

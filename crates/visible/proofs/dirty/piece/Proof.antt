@@ -6,7 +6,7 @@ use lib.ListN.{getD}
 use Rattle.geom.specs.declared.Rect.{Rect}
 use Rattle.geom.specs.Geom.{rect}
 use Rattle.geom.proofs.geometry.Four.{right-is, below-is}
-use Rattle.visible.specs.Outside.{four}
+use Rattle.visible.specs.inner.Outside.{four}
 use borrow.Author.Needs.{needs}
 use Rattle.visible.proofs.dirty.piece.Statement.{statement}
 use Rattle.visible.proofs.dirty.piece.Tie as tie

@@ -10,11 +10,11 @@ use borrow.Author.Needs.{needs}
 use lib.ListN.{length, drop}
 use Rattle.geom.specs.declared.Rect.{Rect}
 use Rattle.geom.specs.Geom.{rect, isEmpty, ifAny}
-use Rattle.geom.specs.Inner.{Fits, Within}
+use Rattle.geom.specs.inner.Fits.{Fits, Within}
 use Rattle.rules.specs.Visible.{rectsOf}
-use Rattle.rules.specs.Lent.{Lent}
+use Rattle.rules.specs.inner.Lent.{Lent}
 use Rattle.visible.specs.declared.region.View.{View}
-use Rattle.visible.specs.Seen.{Table, Drawable, viewOf, regions, drawn}
+use Rattle.visible.specs.inner.Seen.{Table, Drawable, viewOf, regions, drawn}
 use Rattle.visible.proofs.laws.Parts.{within-trans}
 use Rattle.visible.proofs.laws.Shown.{part-fits, drawable-kept}
 use Rattle.visible.proofs.laws.Split.{missed-more, regions-leaf, fewer, above-in, left-in, right-in, below-in}

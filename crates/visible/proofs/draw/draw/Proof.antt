@@ -4,11 +4,11 @@ use Prim.Native.Nat.{ℕ, zero-le}
 use mathlib.Core.Path.{_≡_, sym, ap, subst, _∙_}
 use mathlib.Core.List.{List, [], _∷_, map}
 use Rattle.geom.specs.declared.Rect.{Rect}
-use Rattle.geom.specs.Inner.{Within}
+use Rattle.geom.specs.inner.Fits.{Within}
 use Rattle.geom.specs.Lists.{relative, listIntersect}
 use Rattle.rules.specs.Visible.{rectsOf}
 use Rattle.visible.specs.declared.region.View.{View}
-use Rattle.visible.specs.Seen.{Drawable, viewOf, seen, regions, drawn}
+use Rattle.visible.specs.inner.Seen.{Drawable, viewOf, seen, regions, drawn}
 use Rattle.visible.proofs.laws.Reach.{reach-drawn, reach-none}
 use borrow.Author.Needs.{needs}
 use Rattle.visible.proofs.draw.draw.Statement.{statement}

@@ -1,10 +1,10 @@
 -- The regions of the part are what it has in common with the entries.
 use mathlib.Core.Path.{sym, ap, subst, _∙_}
 use mathlib.Core.List.{[], _∷_}
-use Rattle.geom.specs.Inner.{Within}
+use Rattle.geom.specs.inner.Fits.{Within}
 use Rattle.rules.specs.Visible.{rectsOf}
 use Rattle.visible.specs.declared.region.View.{View}
-use Rattle.visible.specs.Seen.{Drawable, regions, drawn}
+use Rattle.visible.specs.inner.Seen.{Drawable, regions, drawn}
 use Rattle.visible.proofs.laws.Shown.{own-relative, part-drawn}
 use borrow.Author.Needs.{needs}
 use Rattle.visible.proofs.draw.draw_part.Statement.{statement}

@@ -5,8 +5,8 @@ use mathlib.Core.Logic.{⊎-elim}
 use native.Mathlib.Omega.{arith}
 use borrow.Author.Needs.{needs}
 use Rattle.geom.specs.Geom.{meets}
-use Rattle.geom.specs.Inner.{Fits, Within}
-use Rattle.visible.specs.Seen.{own}
+use Rattle.geom.specs.inner.Fits.{Fits, Within}
+use Rattle.visible.specs.inner.Seen.{own}
 use Rattle.visible.proofs.laws.Parts.{within-refl}
 use Rattle.visible.proofs.laws.Shown.{own-common}
 use Rattle.visible.proofs.laws.Reach.{reach-cut, reach-away, reach-clean}

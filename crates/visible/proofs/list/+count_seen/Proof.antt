@@ -10,10 +10,10 @@ use borrow.Author.Needs.{needs}
 use lib.ListN.{drop}
 use Rattle.geom.specs.declared.Rect.{Rect}
 use Rattle.geom.specs.Geom.{rect, isEmpty, ifAny}
-use Rattle.geom.specs.Inner.{Fits, Within}
+use Rattle.geom.specs.inner.Fits.{Fits, Within}
 use Rattle.geom.specs.Lists.{outsideAll}
 use Rattle.rules.specs.Visible.{rectsOf}
-use Rattle.visible.specs.Seen.{Table, amount}
+use Rattle.visible.specs.inner.Seen.{Table, amount}
 use Rattle.visible.proofs.laws.Parts.{within-fits}
 use Rattle.visible.proofs.laws.Turns.{amount-fits}
 use Rattle.visible.proofs.laws.Split.{missed-more, count-leaf, above-in, left-in, right-in, below-in}

@@ -10,10 +10,10 @@ use borrow.Author.Needs.{needs}
 use lib.ListN.{length, drop}
 use Rattle.geom.specs.declared.Rect.{Rect}
 use Rattle.geom.specs.Geom.{rect, isEmpty, ifAny}
-use Rattle.geom.specs.Inner.{Fits, Within}
+use Rattle.geom.specs.inner.Fits.{Fits, Within}
 use Rattle.geom.specs.Lists.{rectAt}
 use Rattle.rules.specs.Visible.{rectsOf}
-use Rattle.visible.specs.Seen.{Table, seen}
+use Rattle.visible.specs.inner.Seen.{Table, seen}
 use Rattle.visible.proofs.laws.Parts.{within-fits, within-trans}
 use Rattle.visible.proofs.laws.Turns.{Written, room-one, written-length}
 use Rattle.visible.proofs.laws.Split.{missed-more, seen-leaf, written-leaf, fewer, above-in, left-in, right-in}

@@ -1,6 +1,6 @@
 -- The table's rectangles leave of the window what all of them leave.
 use mathlib.Core.Path.{ap, _∙_}
-use Rattle.visible.specs.Seen.{amount}
+use Rattle.visible.specs.inner.Seen.{amount}
 use borrow.Author.Needs.{needs}
 use Rattle.visible.proofs.list.count_all.Statement.{statement}
 use Rattle.visible.proofs.list.count_all.Tie as tie

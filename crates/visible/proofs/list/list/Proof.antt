@@ -2,7 +2,7 @@
 use Prim.Native.Nat.{zero-le}
 use mathlib.Core.Path.{sym, subst}
 use Rattle.geom.specs.declared.Rect.{Rect}
-use Rattle.geom.specs.Inner.{Fits, Within}
+use Rattle.geom.specs.inner.Fits.{Fits, Within}
 use Rattle.visible.proofs.laws.Parts.{within-refl}
 use Rattle.visible.proofs.laws.Whole.{gathered-room, gathered-list}
 use borrow.Author.Needs.{needs}

@@ -2,7 +2,7 @@
 use mathlib.Core.Path.{_≡_, sym, _∙_}
 use mathlib.Core.Bool.{true}
 use Rattle.geom.specs.Geom.{meets}
-use Rattle.geom.specs.Inner.{Fits}
+use Rattle.geom.specs.inner.Fits.{Fits}
 use Rattle.visible.proofs.laws.Shown.{placed-fits, Cut, cut, on-screen, in-store, region-drawn, region-off}
 use native.Mathlib.Omega.{arith}
 use borrow.Author.Needs.{needs}

@@ -3,7 +3,7 @@ use Prim.Native.Nat.{_-_}
 use mathlib.Core.Path.{sym, _∙_}
 use native.Mathlib.Omega.{arith}
 use Rattle.geom.specs.Geom.{rect}
-use Rattle.visible.specs.Seen.{Missed}
+use Rattle.visible.specs.inner.Seen.{Missed}
 use Rattle.visible.proofs.laws.Split.{missed-none, missed-next}
 use Rattle.visible.proofs.table.first_met.Statement.{statement}
 use Rattle.visible.proofs.table.first_met.Tie as tie

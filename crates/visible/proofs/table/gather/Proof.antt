@@ -2,7 +2,7 @@
 use Prim.Native.Nat.{_-_}
 use mathlib.Core.Path.{sym, subst}
 use native.Mathlib.Omega.{arith}
-use Rattle.geom.specs.Inner.{Fits}
+use Rattle.geom.specs.inner.Fits.{Fits}
 use Rattle.rules.proofs.Lent.{room-at, fits-at}
 use Rattle.visible.proofs.laws.Table.{Gathering, gathering-none, gathering-next, gathered}
 use borrow.Author.Needs.{needs}

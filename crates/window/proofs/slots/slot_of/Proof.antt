@@ -1,6 +1,6 @@
 -- `slotOf` in code: each arm of the match gives the event, at which the rule computes.
 use mathlib.Core.Path.{_∙_, sym, ap, subst}
-use Rattle.window.specs.Inner.{Queued, slotOf}
+use Rattle.window.specs.inner.Changes.{Queued, slotOf}
 use borrow.Author.Needs.{needs}
 use Rattle.window.proofs.slots.slot_of.Statement.{statement}
 use Rattle.window.proofs.slots.slot_of.Tie as tie

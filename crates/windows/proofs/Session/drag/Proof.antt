@@ -1,7 +1,7 @@
 -- The windows of the turns before p are as the rule leaves them, and every other is as it was.
 use Prim.Native.Nat.{ℕ, _-_}
 use native.Mathlib.Omega.{arith}
-use Rattle.windows.specs.Drag.{PlansDrag}
+use Rattle.windows.specs.inner.Drag.{PlansDrag}
 use Rattle.windows.proofs.laws.Dragged.{BeforeTurn, begins, asks, inside, some-turn, goes-on, ends}
 use borrow.Author.Needs.{needs}
 use Rattle.windows.proofs.Session.drag.Statement.{statement}

@@ -12,8 +12,8 @@ use Rattle.display.specs.declared.Displays.{Displays}
 use Rattle.display.specs.Held.{regions, RepDisplays}
 use Rattle.windows.specs.declared.Session.{Session}
 use Rattle.windows.specs.View.{cell, walkOf, group, blank, Rep}
-use Rattle.due.specs.Due.{noWalk}
-use Rattle.topmost.specs.Topmost.{nobody}
+use Rattle.due.specs.inner.Due.{noWalk}
+use Rattle.topmost.specs.inner.Topmost.{nobody}
 use borrow.Author.Needs.{needs}
 use Rattle.windows.proofs.Session.fresh.Statement.{statement}
 use Rattle.windows.proofs.Session.fresh.Tie as tie

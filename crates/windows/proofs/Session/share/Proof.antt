@@ -1,6 +1,6 @@
 -- Question 3, then the share of a window that has a place; a hidden window is answered by 24.
 use mathlib.Core.Path.{sym, ap, _∙_}
-use Rattle.order.specs.Order.{idxOf}
+use Rattle.order.specs.inner.Order.{idxOf}
 use Rattle.windows.proofs.laws.Session.{used-at, used-past}
 use Rattle.windows.proofs.laws.InView.{hidden-share, no-share}
 use borrow.Author.Needs.{needs}

@@ -1,8 +1,8 @@
 -- Question 3, then the sheet of a window that has a place; a hidden window has the sheet without bands.
 use mathlib.Core.Path.{refl, sym, ap, _∙_}
 use native.Mathlib.Omega.{arith}
-use Rattle.sheet.specs.Numbers.{bandsIn, endIn}
-use Rattle.order.specs.Order.{idxOf}
+use Rattle.sheet.specs.inner.Numbers.{bandsIn, endIn}
+use Rattle.order.specs.inner.Order.{idxOf}
 use Rattle.windows.proofs.laws.Session.{used-at, used-past}
 use Rattle.windows.proofs.laws.Printed.{hidden-prints, no-sheet}
 use borrow.Author.Needs.{needs}

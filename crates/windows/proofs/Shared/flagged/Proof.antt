@@ -2,7 +2,7 @@
 use mathlib.Core.Path.{ap}
 use mathlib.Core.Bool.{Bool}
 use mathlib.Core.List.{List}
-use Rattle.windows.specs.Walk.{flagging}
+use Rattle.windows.specs.inner.Walk.{flagging}
 use borrow.Author.Needs.{needs}
 use Rattle.windows.proofs.Shared.flagged.Statement.{statement}
 use Rattle.windows.proofs.Shared.flagged.Tie as tie

@@ -1,5 +1,5 @@
 -- One band a turn.
-use Rattle.sheet.specs.Numbers.{bandsIn}
+use Rattle.sheet.specs.inner.Numbers.{bandsIn}
 use Rattle.sheet.proofs.laws.Sheets.{Sheeted, sheeted-none, sheeted-numbers, sheeted-room, sheeted-next, sheeted-all, least-bits}
 use mathlib.Core.Path.{_∙_}
 use Prim.Native.Nat.{_+_, _-_}

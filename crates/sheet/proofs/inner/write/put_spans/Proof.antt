@@ -1,7 +1,7 @@
 -- One interval a turn.
 use Rattle.sheet.specs.Bytes.{spanBits}
-use Rattle.sheet.specs.Numbers.{spansIn}
-use Rattle.sheet.specs.Writer.{Put}
+use Rattle.sheet.specs.inner.Numbers.{spansIn}
+use Rattle.sheet.specs.inner.Writer.{Put}
 use Rattle.sheet.proofs.laws.Sheets.{spans-none, spans-put, spans-all}
 use Prim.Native.Nat.{_-_, _≤_}
 use native.Mathlib.Omega.{arith}

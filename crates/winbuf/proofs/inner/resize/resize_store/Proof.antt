@@ -3,7 +3,7 @@ use mathlib.Core.Path.{ap, _∙_}
 use native.Mathlib.Omega.{arith}
 use lib.ListN.{length}
 use Rattle.scanline.specs.Pixels.{part}
-use Rattle.winbuf.specs.Rows.{resized}
+use Rattle.winbuf.specs.inner.Rows.{resized}
 use Rattle.scanline.proofs.rows.Runs.{put-is, full-part, part-is}
 use Rattle.winbuf.proofs.rows.Inside.{resized-inside, length-resized}
 use borrow.Author.Needs.{needs}

@@ -1,6 +1,6 @@
 -- The window takes its display where the answer is 0, else all is as it was.
 use mathlib.Core.Path.{refl, ap, _∙_}
-use Rattle.windows.specs.Walk.{indebted}
+use Rattle.windows.specs.inner.Walk.{indebted}
 use borrow.Author.Needs.{needs}
 use Rattle.windows.proofs.inner.dims.take.Statement.{statement}
 use Rattle.windows.proofs.inner.dims.take.Tie as tie

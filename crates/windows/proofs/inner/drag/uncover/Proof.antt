@@ -6,7 +6,7 @@ use native.Mathlib.Omega.{arith}
 use Rattle.geom.specs.declared.Rect.{Rect}
 use Rattle.geom.specs.declared.inner.rect16.Rect16.{Rect16}
 use Rattle.geom.specs.Geom.{meets, common}
-use Rattle.geom.specs.Inner.{Fits, Within}
+use Rattle.geom.specs.inner.Fits.{Fits, Within}
 use Rattle.geom.specs.Lists.{relative}
 use Rattle.geom.specs.Rect16.{rectOf, Small}
 use Rattle.geom.proofs.geometry.Facts.{says-meet, common-within}
@@ -14,11 +14,11 @@ use Rattle.window.specs.declared.Window.{Window}
 use Rattle.window.specs.declared.damage.Damage.{Damage}
 use Rattle.window.specs.Window.{addDirty}
 use Rattle.window.specs.Held.{winOf, rects, RepWindow}
-use Rattle.window.specs.Inner.{Dirtied}
+use Rattle.window.specs.inner.Changes.{Dirtied}
 use Rattle.rules.specs.Group.{withMark}
 use Rattle.rules.specs.Store.{withDamage}
-use Rattle.windows.specs.Pixels.{Becomes}
-use Rattle.windows.specs.Drag.{uncoveredWin}
+use Rattle.windows.specs.inner.Pixels.{Becomes}
+use Rattle.windows.specs.inner.Drag.{uncoveredWin}
 use borrow.Author.Needs.{needs}
 use Rattle.windows.proofs.inner.drag.uncover.Statement.{statement}
 use Rattle.windows.proofs.inner.drag.uncover.Tie as tie

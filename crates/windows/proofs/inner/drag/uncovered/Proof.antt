@@ -7,11 +7,11 @@ use lib.ListN.{getD, getD-replicate}
 use Rattle.geom.specs.declared.Rect.{Rect}
 use Rattle.geom.specs.declared.inner.rect16.Rect16.{Rect16}
 use Rattle.geom.specs.Geom.{meets}
-use Rattle.geom.specs.Inner.{Fits}
+use Rattle.geom.specs.inner.Fits.{Fits}
 use Rattle.geom.specs.Rect16.{Small, rectOf}
-use Rattle.window.specs.Ids.{noId}
+use Rattle.window.specs.inner.Ids.{noId}
 use Rattle.order.specs.Ids.{num}
-use Rattle.order.specs.Frames.{frameAt}
+use Rattle.order.specs.inner.Frames.{frameAt}
 use Rattle.windows.proofs.laws.Turns.{Collecting, collects, one-met, one-unmet, all-collected}
 use borrow.Author.Needs.{needs}
 use Rattle.windows.proofs.inner.drag.uncovered.Statement.{statement}

@@ -4,7 +4,7 @@ use mathlib.Core.Option.{some}
 use native.Mathlib.Omega.{arith}
 use lib.ListN.{length}
 use Rattle.order.specs.Ids.{ids}
-use Rattle.order.specs.Order.{idxOf, renderIdx}
+use Rattle.order.specs.inner.Order.{idxOf, renderIdx}
 use Rattle.order.proofs.laws.Order.{is-at, is-nowhere}
 use Rattle.windows.proofs.laws.Turns.{place-in, below-lies, by-place}
 use borrow.Author.Needs.{needs}

@@ -1,6 +1,6 @@
 -- The focus is aimed at, if it has a place in the order.
 use mathlib.Core.Path.{sym, ap, _∙_}
-use Rattle.order.specs.Order.{idxOf}
+use Rattle.order.specs.inner.Order.{idxOf}
 use Rattle.windows.proofs.laws.Places.{is-shown, isnt-shown}
 use Rattle.windows.proofs.laws.Frames.{shown-used}
 use Rattle.windows.proofs.laws.Routing.{key-tellable, no-focus, focus-told}

@@ -3,8 +3,8 @@ use mathlib.Core.Path.{_≡_, sym, ap, _∙_}
 use mathlib.Core.Bool.{true, _&&_}
 use Rattle.geom.specs.Questions.{small}
 use Rattle.order.specs.Ids.{heldOf}
-use Rattle.topmost.specs.Topmost.{hitOf}
-use Rattle.windows.specs.Events.{atPoint}
+use Rattle.topmost.specs.inner.Topmost.{hitOf}
+use Rattle.windows.specs.inner.Events.{atPoint}
 use Rattle.windows.proofs.laws.Frames.{Found, order-lies, none-found, found}
 use Rattle.windows.proofs.laws.Routing.{too-far, nowhere}
 use Rattle.windows.proofs.laws.Aimed.{held-known, aims-point, aims-nobody}

@@ -10,7 +10,7 @@ use mir.Facts.{toZ-ofZ}
 use Rattle.window.specs.declared.Event.{Event}
 use Rattle.window.specs.declared.Event.the-variants.{Resize, KeyDown, KeyUp, KeyFire, Text, MouseMove, MouseDown, MouseClick, MouseUp}
 use Rattle.window.proofs.Event.{the-type}
-use Rattle.windows.specs.Events.{atPoint}
+use Rattle.windows.specs.inner.Events.{atPoint}
 use borrow.Author.Needs.{needs}
 use Rattle.windows.proofs.inner.events.at_point.Statement.{statement}
 use Rattle.windows.proofs.inner.events.at_point.Tie as tie

@@ -10,7 +10,7 @@ use Rattle.window.specs.declared.Event.{Event}
 use Rattle.window.specs.declared.Event.the-variants.{Resize, KeyDown, KeyUp, KeyFire, Text, MouseMove, MouseDown, MouseClick, MouseUp}
 use Rattle.window.proofs.Event.{the-type}
 use Rattle.order.specs.Ids.{heldOf}
-use Rattle.windows.specs.Events.{heldAfter}
+use Rattle.windows.specs.inner.Events.{heldAfter}
 use borrow.Author.Needs.{needs}
 use Rattle.windows.proofs.inner.events.held_after.Statement.{statement}
 use Rattle.windows.proofs.inner.events.held_after.Tie as tie

@@ -2,7 +2,7 @@
 use mathlib.Core.Path.{_≡_, sym, ap}
 use Rattle.window.specs.declared.Event.{Event}
 use Rattle.window.specs.declared.ids.WinId.{WinId}
-use Rattle.windows.specs.Events.{targetOf}
+use Rattle.windows.specs.inner.Events.{targetOf}
 use borrow.Author.Needs.{needs}
 use Rattle.windows.proofs.inner.events.target_of.Statement.{statement}
 use Rattle.windows.proofs.inner.events.target_of.Tie as tie

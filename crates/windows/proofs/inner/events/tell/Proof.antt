@@ -1,6 +1,6 @@
 -- A move goes to the cursor; any other event to the slot at the back, if there is a free place.
 use mathlib.Core.Path.{subst}
-use Rattle.windows.specs.Events.{Tellable}
+use Rattle.windows.specs.inner.Events.{Tellable}
 use Rattle.windows.proofs.laws.Telling.{queued, unheard, heard-move, heard-joins, heard-full}
 use borrow.Author.Needs.{needs}
 use Rattle.windows.proofs.inner.events.tell.Statement.{statement}

@@ -3,7 +3,7 @@ use Prim.Native.Nat.{_≤_, _-_}
 use mathlib.Core.Path.{refl}
 use native.Mathlib.Omega.{arith}
 use native.Mathlib.Nat.{not-suc-le-zero}
-use Rattle.windows.specs.Frames.{Framed}
+use Rattle.windows.specs.inner.Frames.{Framed}
 use Rattle.windows.proofs.laws.Frames.{frame-more}
 use borrow.Author.Needs.{needs}
 use Rattle.windows.proofs.inner.frames.frames.Statement.{statement}

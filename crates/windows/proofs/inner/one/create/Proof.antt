@@ -11,8 +11,8 @@ use Rattle.windows.specs.declared.Session.{Session}
 use Rattle.windows.specs.declared.Shared.{Shared}
 use Rattle.windows.specs.declared.NewId.the-variants.{Id, Absent}
 use Rattle.windows.specs.View.{MeetsId}
-use Rattle.windows.specs.One.{put}
-use Rattle.windows.specs.Walk.{layering, flagged}
+use Rattle.windows.specs.inner.One.{put}
+use Rattle.windows.specs.inner.Walk.{layering, flagged}
 use Rattle.windows.proofs.laws.One.{put-back}
 use Rattle.windows.proofs.laws.Created.{full, created, renewed, renewed-rep}
 use borrow.Author.Needs.{needs}

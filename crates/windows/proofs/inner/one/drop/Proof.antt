@@ -5,15 +5,15 @@ use mathlib.Core.Bool.{true, false}
 use mathlib.Core.Option.{none}
 use Rattle.window.specs.declared.Window.{Window}
 use Rattle.window.specs.Held.{RepWindow}
-use Rattle.order.specs.Order.{idxOf}
+use Rattle.order.specs.inner.Order.{idxOf}
 use Rattle.rules.specs.Group.{used, setWin}
 use Rattle.rules.specs.Order as Order
 use Rattle.rules.specs.Calls.{Drop, does}
 use Rattle.windows.specs.declared.Session.{Session}
 use Rattle.windows.specs.declared.Shared.{Shared}
 use Rattle.windows.specs.View.{group, windowAt, Rep, Given, Meets, done}
-use Rattle.windows.specs.One.{put}
-use Rattle.windows.specs.Walk.{sharing}
+use Rattle.windows.specs.inner.One.{put}
+use Rattle.windows.specs.inner.Walk.{sharing}
 use Rattle.windows.proofs.laws.Session.{used-at, put-none, put-rep, refuses, gives}
 use Rattle.windows.proofs.laws.One.{accepts, not-used, same-place}
 use Rattle.windows.proofs.laws.Hidden.{hidden-already}

@@ -2,14 +2,14 @@
 use Prim.Native.Nat.{ℕ, _≤_}
 use mathlib.Core.Path.{_≡_, sym, ap, subst, _∙_}
 use mathlib.Core.Bool.{true, false}
-use Rattle.order.specs.Order.{idxOf}
+use Rattle.order.specs.inner.Order.{idxOf}
 use Rattle.rules.specs.Group.{used}
 use Rattle.rules.specs.Order as Order
 use Rattle.rules.specs.Calls.{Hide, does}
 use Rattle.windows.specs.declared.Session.{Session}
 use Rattle.windows.specs.declared.Shared.{Shared}
 use Rattle.windows.specs.View.{group, windowAt, Rep, Given, Meets, done}
-use Rattle.windows.specs.One.{put}
+use Rattle.windows.specs.inner.One.{put}
 use Rattle.windows.proofs.laws.Session.{used-at, refuses, gives}
 use Rattle.windows.proofs.laws.One.{accepts, not-used, shares, same-place}
 use Rattle.windows.proofs.laws.Hidden.{hidden-already}

@@ -8,11 +8,11 @@ use lib.Dec.{eqb}
 use lib.ListN.{getD}
 use Rattle.window.specs.declared.ids.WinId.{WinId}
 use Rattle.order.specs.Ids.{ids, heldOf}
-use Rattle.order.specs.Order.{Closed}
+use Rattle.order.specs.inner.Order.{Closed}
 use Rattle.rules.specs.Order as Rule
 use Rattle.windows.specs.declared.Shared.{Shared}
 use Rattle.windows.specs.View.{group, Rep}
-use Rattle.windows.specs.Walk.{ordered, holding, sharing, indebted}
+use Rattle.windows.specs.inner.Walk.{ordered, holding, sharing, indebted}
 use Rattle.windows.proofs.laws.One.{same-place}
 use Rattle.windows.proofs.laws.Places.{in-order}
 use Rattle.windows.proofs.laws.Hidden.{hidden-now}

@@ -6,12 +6,12 @@ use mathlib.Core.Option.{some}
 use lib.ListN.{getD, set}
 use Rattle.window.specs.declared.ids.WinId.{WinId}
 use Rattle.order.specs.Ids.{ids}
-use Rattle.order.specs.Order.{idxOf, renderIdx}
-use Rattle.order.specs.Layers.{Low, Raised}
+use Rattle.order.specs.inner.Order.{idxOf, renderIdx}
+use Rattle.order.specs.inner.Layers.{Low, Raised}
 use Rattle.windows.specs.declared.Session.{Session}
 use Rattle.windows.specs.declared.Shared.{Shared}
 use Rattle.windows.specs.View.{group, Rep}
-use Rattle.windows.specs.Walk.{ordered, layering, sharing, indebted}
+use Rattle.windows.specs.inner.Walk.{ordered, layering, sharing, indebted}
 use Rattle.windows.proofs.laws.One.{same-place}
 use Rattle.windows.proofs.laws.Places.{order-low}
 use Rattle.windows.proofs.laws.Layered.{changed, has-layer, hidden-layer, shown-layer}

@@ -13,7 +13,7 @@ use Rattle.rules.specs.Group.{used, setWin, withMark}
 use Rattle.rules.specs.Calls.{Mark, does}
 use Rattle.windows.specs.declared.Session.{Session}
 use Rattle.windows.specs.View.{group, windowAt, holding, Given, MeetsMark, done}
-use Rattle.windows.specs.One.{put}
+use Rattle.windows.specs.inner.One.{put}
 use Rattle.windows.proofs.laws.Session.{used-at, win-at, putWindow, refuses, puts}
 use Rattle.windows.proofs.laws.One.{accepts, not-used}
 use borrow.Author.Needs.{needs}

@@ -15,8 +15,8 @@ use Rattle.rules.specs.Group.{Group, used, setWin, setMaximised, movedTo, owing
 use Rattle.rules.specs.Calls.{Move, does}
 use Rattle.windows.specs.declared.Session.{Session}
 use Rattle.windows.specs.View.{group, windowAt, Given, Meets, done}
-use Rattle.windows.specs.One.{put}
-use Rattle.windows.specs.Walk.{flagged, indebted}
+use Rattle.windows.specs.inner.One.{put}
+use Rattle.windows.specs.inner.Walk.{flagged, indebted}
 use Rattle.windows.proofs.laws.Session.{used-at, win-at, putWindow, put-group, put-rep, refuses, gives}
 use Rattle.windows.proofs.laws.Shared.{flag-debt}
 use Rattle.windows.proofs.laws.One.{here, accepts, not-used, shares}

@@ -1,7 +1,7 @@
 -- A window that has a place is shown, and is raised there; of another the call is a show.
 use Prim.Native.Nat.{_≤_}
 use mathlib.Core.Path.{sym, ap, subst, _∙_}
-use Rattle.order.specs.Order.{idxOf}
+use Rattle.order.specs.inner.Order.{idxOf}
 use Rattle.windows.specs.declared.Shared.{Shared}
 use Rattle.windows.proofs.laws.One.{same-place}
 use Rattle.windows.proofs.laws.Places.{isnt-shown}

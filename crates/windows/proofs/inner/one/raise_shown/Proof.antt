@@ -11,13 +11,13 @@ use Rattle.window.specs.Held.{winOf}
 use Rattle.rules.specs.Repair.{whollyRepaired}
 use Rattle.rules.specs.Calls.{Raise}
 use Rattle.order.specs.Ids.{ids}
-use Rattle.order.specs.Order.{renderIdx}
-use Rattle.order.specs.Layers.{Low, Raised}
+use Rattle.order.specs.inner.Order.{renderIdx}
+use Rattle.order.specs.inner.Layers.{Low, Raised}
 use Rattle.windows.specs.declared.Shared.{Shared}
 use Rattle.windows.specs.View.{Meets, done}
-use Rattle.windows.specs.One.{put}
-use Rattle.windows.specs.Pixels.{Becomes}
-use Rattle.windows.specs.Walk.{ordered, indebted}
+use Rattle.windows.specs.inner.One.{put}
+use Rattle.windows.specs.inner.Pixels.{Becomes}
+use Rattle.windows.specs.inner.Walk.{ordered, indebted}
 use Rattle.windows.proofs.laws.One.{here, accepts, shares, same-place}
 use Rattle.windows.proofs.laws.Places.{order-low}
 use Rattle.windows.proofs.laws.Raised.{isLast, isPending, is-in-use, focusses, owes, repairs}

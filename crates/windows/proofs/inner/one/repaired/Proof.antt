@@ -8,7 +8,7 @@ use Rattle.window.specs.declared.Window.{Window}
 use Rattle.window.specs.declared.damage.Damage.{Damage}
 use Rattle.window.specs.Held.{winOf, rects, events, RepWindow, RepDamage}
 use Rattle.rules.specs.Repair.{whollyRepaired}
-use Rattle.windows.specs.Pixels.{Becomes}
+use Rattle.windows.specs.inner.Pixels.{Becomes}
 use borrow.Author.Needs.{needs}
 use Rattle.windows.proofs.inner.one.repaired.Statement.{statement}
 use Rattle.windows.proofs.inner.one.repaired.Tie as tie

@@ -9,7 +9,7 @@ use Rattle.rules.specs.Order as Order
 use Rattle.rules.specs.Calls.{SetLayer, does}
 use Rattle.windows.specs.declared.Session.{Session}
 use Rattle.windows.specs.View.{group, windowAt, Rep, Given, Meets, done}
-use Rattle.windows.specs.One.{put}
+use Rattle.windows.specs.inner.One.{put}
 use Rattle.windows.proofs.laws.Session.{used-at, refuses, gives}
 use Rattle.windows.proofs.laws.One.{here, accepts, not-used, shares}
 use Rattle.windows.proofs.laws.Layered.{changed}

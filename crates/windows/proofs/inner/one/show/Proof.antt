@@ -8,13 +8,13 @@ use native.Mathlib.Omega.{arith}
 use lib.Dec.{ltb}
 use Rattle.window.specs.declared.ids.WinId.{WinId}
 use Rattle.order.specs.Ids.{ids}
-use Rattle.order.specs.Order.{idxOf, renderIdx}
-use Rattle.order.specs.Layers.{Low, Inserted}
+use Rattle.order.specs.inner.Order.{idxOf, renderIdx}
+use Rattle.order.specs.inner.Layers.{Low, Inserted}
 use Rattle.rules.specs.Calls.{Show}
 use Rattle.windows.specs.declared.Shared.{Shared}
 use Rattle.windows.specs.View.{Meets, done}
-use Rattle.windows.specs.One.{put}
-use Rattle.windows.specs.Walk.{ordered, indebted}
+use Rattle.windows.specs.inner.One.{put}
+use Rattle.windows.specs.inner.Walk.{ordered, indebted}
 use Rattle.windows.proofs.laws.One.{here, accepts, not-used, shares, same-place}
 use Rattle.windows.proofs.laws.Places.{order-low}
 use Rattle.windows.proofs.laws.Shown.{is-shown, is-hidden, has-room, no-window}

@@ -1,10 +1,10 @@
 -- What is due then, in every session that shares this.
 use mathlib.Core.Path.{sym, ap, subst, _∙_}
 use Rattle.rules.specs.Calls.{Begin}
-use Rattle.due.specs.Due.{begun}
+use Rattle.due.specs.inner.Due.{begun}
 use Rattle.windows.specs.declared.Shared.{Shared}
 use Rattle.windows.specs.View.{Meets, done}
-use Rattle.windows.specs.Walk.{noted, sharing}
+use Rattle.windows.specs.inner.Walk.{noted, sharing}
 use Rattle.windows.proofs.laws.Portions.{begins}
 use borrow.Author.Needs.{needs}
 use Rattle.windows.proofs.inner.portion.begin.Statement.{statement}

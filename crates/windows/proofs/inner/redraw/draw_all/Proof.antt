@@ -2,7 +2,7 @@
 use Prim.Native.Nat.{_-_, _<_}
 use mathlib.Core.Path.{refl, subst, _∙_}
 use native.Mathlib.Omega.{arith}
-use Rattle.order.specs.Rects.{Holds}
+use Rattle.order.specs.inner.Rects.{Holds}
 use Rattle.windows.proofs.laws.Places.{id-low}
 use Rattle.windows.proofs.laws.Frames.{order-lies}
 use Rattle.windows.proofs.laws.Above.{higher, frames-higher}

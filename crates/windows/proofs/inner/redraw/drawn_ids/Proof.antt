@@ -5,7 +5,7 @@ use mathlib.Core.Logic.{⊎-elim}
 use native.Mathlib.Omega.{arith}
 use borrow.Author.Tests.{eq-eqb, ne-eqb}
 use Rattle.order.specs.Ids.{ids}
-use Rattle.order.specs.Order.{Marks}
+use Rattle.order.specs.inner.Order.{Marks}
 use Rattle.windows.proofs.inner.redraw.drawn_ids.Statement.{statement}
 use Rattle.windows.proofs.inner.redraw.drawn_ids.Tie as tie
 

@@ -10,7 +10,7 @@ use lib.ListN.{getD}
 use borrow.Author.Tests.{ne-eqb}
 use Rattle.geom.proofs.basics.Tests.{both}
 use Rattle.order.specs.Ids.{ids}
-use Rattle.order.specs.Order.{Marks}
+use Rattle.order.specs.inner.Order.{Marks}
 use Rattle.windows.specs.declared.Session.{Session}
 use Rattle.windows.proofs.laws.Places.{id-low}
 use Rattle.windows.proofs.laws.Cleaned.{Cleaning, clean-none, clean-next, clean-skip, clean-end, clean-nobody}

@@ -9,9 +9,9 @@ use Rattle.window.specs.declared.damage.Damage.{Damage}
 use Rattle.window.specs.declared.queue.Queue.{Queue}
 use Rattle.window.specs.declared.Event.the-variants.{Resize}
 use Rattle.window.specs.Held.{winOf, rects, RepWindow, RepDamage}
-use Rattle.window.specs.Inner.{PushedTo}
+use Rattle.window.specs.inner.Changes.{PushedTo}
 use Rattle.rules.specs.Displays.{taken}
-use Rattle.windows.specs.Pixels.{Becomes}
+use Rattle.windows.specs.inner.Pixels.{Becomes}
 use borrow.Author.Needs.{needs}
 use Rattle.windows.proofs.inner.store.taken.Statement.{statement}
 use Rattle.windows.proofs.inner.store.taken.Tie as tie

@@ -3,7 +3,7 @@ use Prim.Native.Nat.{_-_, _≤_}
 use mathlib.Core.Path.{refl}
 use mathlib.Core.Logic.{⊎-elim}
 use native.Mathlib.Omega.{arith}
-use Rattle.windows.specs.Dims.{StaysAt, Collects}
+use Rattle.windows.specs.inner.Dims.{StaysAt, Collects}
 use Rattle.windows.proofs.laws.Planned.{collects-none, collects-more, collects-past, collects-all}
 use borrow.Author.Needs.{needs}
 use Rattle.windows.proofs.inner.update.accepted.Statement.{statement}

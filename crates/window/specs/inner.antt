@@ -1,0 +1,3 @@
+-- What our own functions say: nobody has to believe it.
+pub mod Ids
+pub mod Changes

@@ -1,0 +1,10 @@
+-- What our own functions say: nobody has to believe it.
+pub mod One
+pub mod Frames
+pub mod Drawing
+pub mod Walk
+pub mod Pixels
+pub mod Dims
+pub mod Drag
+pub mod Events
+pub mod Aimed
