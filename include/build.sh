@@ -1,7 +1,7 @@
-# Read by the commands that link the library, from the repository's root. Proves and builds target/staticlib/libstation.a where it is missing or
+# Read by the commands that link the library, from the repository's root. Proves and builds target/staticlib/libroqshyn.a where it is missing or
 # older than a file that it may come from.
 . tools/prove.sh
-archive=target/staticlib/libstation.a
+archive=target/staticlib/libroqshyn.a
 if [ ! -f "$archive" ] || [ -n "$(find crates crates.txt -newer "$archive" -print -quit)" ]; then
-  prove staticlib station
+  prove staticlib roqshyn
 fi

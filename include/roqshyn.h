@@ -1,4 +1,4 @@
-/* The window group for programs in C and C++: link target/staticlib/libstation.a.
+/* The window group for programs in C and C++: link target/staticlib/libroqshyn.a.
  *
  * Answers. Every call answers 0, or the number of the first question of document 01 that it answers with a no. Then it has changed no
  * session, store, list, buffer, screen or pixel; only a refused roq_start makes a session all the same. "Asks" below names the questions of a

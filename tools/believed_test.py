@@ -6,19 +6,19 @@ import tempfile
 from believed import Belief, read_files
 from calls import PROMISES
 
-SPEC = "crates/rate/specs/Busiest.antt"
-CODE = "crates/rate/src/lib.rt"
-PROOF = "crates/rate/proofs/laws/Runs.antt"
+SPEC = "crates/busiest/specs/Busiest.antt"
+CODE = "crates/busiest/src/lib.rt"
+PROOF = "crates/busiest/proofs/laws/Runs.antt"
 VIEW = "crates/windows/specs/View.antt"
-OUTSIDE = "crates/rate/specs/More.antt"
-INNER = "crates/rate/specs/inner/More.antt"
-EXAMPLES = "crates/rate/specs/Examples.antt"
-LIMITS = "crates/rate/specs/inner/Limits.antt"
+OUTSIDE = "crates/busiest/specs/More.antt"
+INNER = "crates/busiest/specs/inner/More.antt"
+EXAMPLES = "crates/busiest/specs/Examples.antt"
+LIMITS = "crates/busiest/specs/inner/Limits.antt"
 PROGRAM = "crates/windows/proofs/demand/Program.antt"
 
-USE = "use Rattle.rate.specs.inner.More"
-BESIDE = "use Rattle.rate.specs.More"
-TIES = "use Rattle.rate.specs.Examples.{ties}"
+USE = "use Rattle.busiest.specs.inner.More"
+BESIDE = "use Rattle.busiest.specs.More"
+TIES = "use Rattle.busiest.specs.Examples.{ties}"
 MORE = "use Prim.Native.Nat.{ℕ}\nabbrev pub more : ℕ → ℕ\nmore n = n\n"
 SIGN = "use Prim.Native.Nat.{ℕ}\ninfix 20 _beside_\nabbrev pub _beside_ : ℕ → ℕ → ℕ\nn beside m = m\n"
 KIND = "pub data Kind : Type 0 where\n  plain other : Kind\n"
@@ -49,11 +49,11 @@ def proves(use):
 
 # What is edited: a file, what stands in it ("" is its end), and what is put there. Then what has to be printed.
 REFUSED = [
-    ("a file that nothing reaches", [(OUTSIDE, "", MORE)], "rate/specs/More.antt: no public contract and no promise"),
+    ("a file that nothing reaches", [(OUTSIDE, "", MORE)], "busiest/specs/More.antt: no public contract and no promise"),
     (
         "one that only inner names",
         [(OUTSIDE, "", MORE), (INNER, "", BESIDE + ".{more}\nabbrev pub less : ℕ\nless = more 0\n")],
-        "rate/specs/More.antt: no public contract and no promise",
+        "busiest/specs/More.antt: no public contract and no promise",
     ),
     ("a definition that names inner", [(INNER, "", MORE), *names(USE + ".{more}", "more")], BELIEVED),
     ("the same by another name", [(INNER, "", MORE), *names(USE + ".{more as much}", "much")], BELIEVED),

@@ -14,8 +14,8 @@ from items import Crate
 ROOT = pathlib.Path(__file__).resolve().parent.parent
 PROMISES = "docs/PROMISES.md"
 # The crates that have calls, and those that only our own crates use.
-CALLS = "geom rate sheet winbuf stride windows station".split()
-OWN = "bands bare display due look order panel replay rules scanline script shade text topmost visible window".split()
+CALLS = "geom busiest sheet winbuf stride windows roqshyn".split()
+OWN = "answer_text bands bare_lines display due first_program look order paint replay rules scanline script topmost visible window".split()
 # Where the one premise of a call is defined, as `windows` names it and as other crates do.
 GIVEN = ("Rattle.windows.specs.View", "Rattle.windows.specs.View")
 

@@ -4,8 +4,8 @@ import sys
 from calls import PROMISES, check
 
 CALL = "crates/windows/src/calls.rt"
-STATION = "crates/station/src/calls.rt"
-RATE = "crates/rate/src/lib.rt"
+STATION = "crates/roqshyn/src/calls.rt"
+RATE = "crates/busiest/src/lib.rt"
 GROUP = "crates/windows/src/lib.rt"
 SHOW = "    pub fn show(self, id: WinId) -> Done\n        requires { ⌜ Given self ⌝ }\n"
 ROQ = 'pub extern "C" fn roq_show(s: &mut Session, id: WinId) -> u32\n    requires { ⌜ Given (now s) ⌝ }\n'
@@ -17,13 +17,13 @@ REFUSED = [
     (
         "a new function without a contract",
         [(RATE, "", "pub fn peek() -> u32 {\n    0\n}\n")],
-        "rate::peek: has no ensures",
+        "busiest::peek: has no ensures",
     ),
-    ("a new function that no table has", [(RATE, "", FUNCTION)], "rate::peek stands in no table"),
+    ("a new function that no table has", [(RATE, "", FUNCTION)], "busiest::peek stands in no table"),
     (
         "a new constant function",
         [(RATE, "", FUNCTION.replace("pub fn", "pub const fn"))],
-        "rate::peek stands in no table",
+        "busiest::peek stands in no table",
     ),
     (
         "a premise widened",
@@ -38,7 +38,7 @@ REFUSED = [
     (
         "an exported premise widened",
         [(STATION, ROQ, ROQ.replace("s) ⌝", "s) × (id .0 < 16) ⌝"))],
-        "station::roq_show: requires",
+        "roqshyn::roq_show: requires",
     ),
     (
         "a premise of a call without a session",
@@ -57,12 +57,12 @@ REFUSED = [
     (
         "an ensures removed",
         [(RATE, "    ensures { λ r. ⌜ r ≡ busiest (now (times .entry)) ⌝ }\n", "")],
-        "rate::busiest: has no ensures",
+        "busiest::busiest: has no ensures",
     ),
     (
         "an ensures made a comment",
         [(RATE, "    ensures { λ r. ⌜ r ≡ busiest", "    // ensures { λ r. ⌜ r ≡ busiest")],
-        "rate::busiest: has no ensures",
+        "busiest::busiest: has no ensures",
     ),
     (
         "an ensures that says nothing of the result",
@@ -108,7 +108,7 @@ REFUSED = [
     (
         "a public module in the file",
         [(RATE, "", "pub mod more {\n" + FUNCTION + "}\n")],
-        "rate::peek stands in no table",
+        "busiest::peek stands in no table",
     ),
     ("a name handed on", [(GROUP, "mod calls;", "mod calls;\npub use inner::one::mark;")], "pub use:"),
     (
@@ -116,7 +116,7 @@ REFUSED = [
         [("crates/order/src/lib.rt", "", "#[no_mangle]\n" + FUNCTION)],
         "order::peek stands in no table",
     ),
-    ("a file that no mod names", [("crates/rate/src/more.rt", "", FUNCTION)], "no `mod` names this file"),
+    ("a file that no mod names", [("crates/busiest/src/more.rt", "", FUNCTION)], "no `mod` names this file"),
     (
         "a new crate",
         [("crates.txt", "", "more: geom\n"), ("crates/more/src/lib.rt", "", FUNCTION)],
@@ -131,7 +131,7 @@ REFUSED = [
     ("a row removed", [(PROMISES, "| `mark(id)` |", "| mark |")], "windows::Session::mark stands in no table"),
     ("a row of no call", [(PROMISES, "| `mark(id)` |", "| `mark(id)`, `unmark(id)` |")], "`unmark` is no public call"),
     ("a call in two rows", [(PROMISES, "| `mark(id)` |", "| `mark(id)`, `show(id)` |")], "`show` stands in line"),
-    ("an exported call removed", [(PROMISES, "| `roq_maximise` |", "| |")], "station::roq_maximise stands in no table"),
+    ("an exported call removed", [(PROMISES, "| `roq_maximise` |", "| |")], "roqshyn::roq_maximise stands in no table"),
     (
         "an exported call that is none of the calls",
         [(PROMISES, "| `move_window` |", "| `shift_window` |")],

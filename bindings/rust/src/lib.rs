@@ -1,4 +1,4 @@
-//! The window group of railway control panels for Rust, over the proved archive `libstation.a`.
+//! The window group of railway control panels for Rust, over the proved archive `libroqshyn.a`.
 //!
 //! A [`Session`] comes from [`Session::start`] and from nowhere else. The caller owns the store and the screen and lends them to each call; what a
 //! call hands back of them, as the list of [`Session::visible`], is a part of what was lent. A call answers `Ok`, or the question of document 01 or

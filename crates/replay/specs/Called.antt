@@ -12,7 +12,7 @@ use Rattle.window.specs.declared.Event.the-variants.{Resize, KeyDown, KeyUp, Ke
 use Rattle.script.specs.Kind as Kind
 use Rattle.rules.specs.Calls as Call
 use Rattle.rules.specs.Calls.{Call}
-use Rattle.bare.specs.Numbers.{num, idOf, rectAt}
+use Rattle.bare_lines.specs.Numbers.{num, idOf, rectAt}
 
 -- the call of a kind in a table
 abbrev pub pick : ℕ → List (ℕ × Call) → Option Call

@@ -12,7 +12,7 @@ use Rattle.script.specs.Kind as Kind
 use Rattle.rules.specs.Group.{Group}
 use Rattle.rules.specs.Look.{Looked, look}
 use Rattle.replay.specs.declared.player.Player.{Player}
-use Rattle.bare.specs.Numbers.{num, idOf, floatOf}
+use Rattle.bare_lines.specs.Numbers.{num, idOf, floatOf}
 use Rattle.replay.specs.Called.{sizeAt}
 
 abbrev pub zoomOf : Bool → List ℕ → Zoom

@@ -19,7 +19,7 @@ use Rattle.windows.specs.declared.Done.{Done}
 use Rattle.windows.specs.declared.Listing.{Listing}
 use Rattle.windows.specs.View.{group, Meets}
 use Rattle.replay.specs.declared.player.Player.{Player}
-use Rattle.bare.specs.Numbers.{num, idOf}
+use Rattle.bare_lines.specs.Numbers.{num, idOf}
 use Rattle.replay.specs.Called.{Picked, plainCall, storeCall, OnScreen, screenCall, OnTarget}
 use Rattle.replay.specs.Ready.{Next, lendStore, lendScreen, unset, lendList, unlisted, lendTarget, untargeted, lendSheet, unsheeted, counted}
 use Rattle.replay.specs.Looks.{targetLen}

@@ -7,7 +7,7 @@ ghost use Rattle.rules.specs.Calls.{Call};
 ghost use Rattle.windows.specs.View.{Given, Meets};
 ghost use Rattle.script.specs.Kind as Kind;
 ghost use Rattle.replay.specs.Called.{Picked, plainCall, isPlain, isLent};
-ghost use Rattle.bare.specs.Numbers.{idOf, Sound};
+ghost use Rattle.bare_lines.specs.Numbers.{idOf, Sound};
 ghost use Rattle.replay.specs.Ready.{Ready, Next};
 ghost use Rattle.replay.specs.Played.{Pixels, Makes, Begins, Plays, PlaysAt};
 use crate::displays;
@@ -17,7 +17,7 @@ use crate::player::Player;
 use crate::share;
 use crate::sheets;
 use crate::times;
-use bare::numbers;
+use bare_lines::numbers;
 use script::Line;
 use script::kind;
 use windows::Done;
@@ -109,7 +109,7 @@ fn put_id(id: NewId, out: &mut [u8; 65536], at: usize) -> usize
     ensures { λ r. ⌜ r ≤ 65536 ⌝ }
 {
     match id {
-        NewId::Id(i) => text::more(out, at, i.0 as u32),
+        NewId::Id(i) => answer_text::more(out, at, i.0 as u32),
         NewId::Absent => at,
     }
 }
@@ -122,10 +122,10 @@ fn create(mut p: Player, out: &mut [u8; 65536]) -> Player
     let made = s.create();
     let session = made.session;
     p.session = session;
-    let to = text::number(out, p.at, made.answer as u64);
+    let to = answer_text::number(out, p.at, made.answer as u64);
     let id = made.id;
     let then = put_id(id, out, to);
-    p.at = text::end(out, then);
+    p.at = answer_text::end(out, then);
     p
 }
 
@@ -147,10 +147,10 @@ fn pop(mut p: Player, ns: &[u32; 4200], out: &mut [u8; 65536]) -> Player
     let popped = s.pop(numbers::id(ns));
     let session = popped.session;
     p.session = session;
-    let to = text::number(out, p.at, popped.answer as u64);
+    let to = answer_text::number(out, p.at, popped.answer as u64);
     let event = popped.event;
     let then = put_event(event, out, to);
-    p.at = text::end(out, then);
+    p.at = answer_text::end(out, then);
     p
 }
 
@@ -160,8 +160,8 @@ fn focus(mut p: Player, out: &mut [u8; 65536]) -> Player
 {
     let s = p.session;
     let f = s.focus();
-    let to = text::number(out, p.at, 0);
-    let then = text::more(out, to, f.0 as u32);
-    p.at = text::end(out, then);
+    let to = answer_text::number(out, p.at, 0);
+    let then = answer_text::more(out, to, f.0 as u32);
+    p.at = answer_text::end(out, then);
     p
 }

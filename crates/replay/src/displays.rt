@@ -2,11 +2,11 @@
 ghost use mathlib.Core.Path.{_≡_};
 ghost use Prim.Native.Nat.{_≤_};
 ghost use Rattle.windows.specs.View.{group, Given, Locates};
-ghost use Rattle.bare.specs.Numbers.{num};
+ghost use Rattle.bare_lines.specs.Numbers.{num};
 ghost use Rattle.replay.specs.Ready.{Ready, Next};
 use crate::player::Player;
-use bare::geometry;
-use bare::numbers;
+use bare_lines::geometry;
+use bare_lines::numbers;
 use display::Located;
 use windows::ForPos;
 use windows::Session;
@@ -24,11 +24,11 @@ fn put_located(located: Located, out: &mut [u8; 65536], at: usize) -> usize
 {
     match located {
         Located::On(r) => {
-            let to = text::word(out, at, b"on");
+            let to = answer_text::word(out, at, b"on");
             geometry::put_rect(r, out, to)
         }
         Located::Closest(r) => {
-            let to = text::word(out, at, b"closest");
+            let to = answer_text::word(out, at, b"closest");
             geometry::put_rect(r, out, to)
         }
     }
@@ -40,11 +40,11 @@ fn put(found: ForPos, out: &mut [u8; 65536], at: usize) -> usize
 {
     if found.answer == 0 {
         let located = found.located;
-        let to = text::number(out, at, 0);
+        let to = answer_text::number(out, at, 0);
         let then = put_located(located, out, to);
-        return text::end(out, then);
+        return answer_text::end(out, then);
     }
-    text::answer(out, at, found.answer)
+    answer_text::answer(out, at, found.answer)
 }
 
 pub fn display_at(mut p: Player, ns: &[u32; 4200], out: &mut [u8; 65536]) -> Player

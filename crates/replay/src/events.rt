@@ -5,7 +5,7 @@ ghost use Prim.Native.Nat.{_≤_};
 ghost use mathlib.Core.Option.{some};
 ghost use Rattle.rules.specs.Calls.{Call};
 ghost use Rattle.replay.specs.Called.{plainCall, routes};
-ghost use Rattle.bare.specs.Numbers.{Sound};
+ghost use Rattle.bare_lines.specs.Numbers.{Sound};
 use script::Line;
 use script::kind;
 use window::Event;
@@ -48,8 +48,8 @@ fn put_key(name: &[u8], v: u32, out: &mut [u8; 65536], at: usize) -> usize
     requires { ⌜ at ≤ 65536 ⌝ }
     ensures { λ r. ⌜ r ≤ 65536 ⌝ }
 {
-    let to = text::word(out, at, name);
-    text::more(out, to, v)
+    let to = answer_text::word(out, at, name);
+    answer_text::more(out, to, v)
 }
 
 fn put_point(name: &[u8], x: u32, y: u32, out: &mut [u8; 65536], at: usize) -> usize
@@ -57,7 +57,7 @@ fn put_point(name: &[u8], x: u32, y: u32, out: &mut [u8; 65536], at: usize) -> u
     ensures { λ r. ⌜ r ≤ 65536 ⌝ }
 {
     let to = put_key(name, x, out, at);
-    text::more(out, to, y)
+    answer_text::more(out, to, y)
 }
 
 // A point and a button.
@@ -66,7 +66,7 @@ fn put_press(name: &[u8], x: u32, y: u32, b: u8, out: &mut [u8; 65536], at: usiz
     ensures { λ r. ⌜ r ≤ 65536 ⌝ }
 {
     let to = put_point(name, x, y, out, at);
-    text::more(out, to, b as u32)
+    answer_text::more(out, to, b as u32)
 }
 
 // The name of an event that has no point, and its value.
@@ -79,7 +79,7 @@ fn put_plain(e: Event, out: &mut [u8; 65536], at: usize) -> usize
         Event::KeyUp(v) => put_key(b"KeyUp", v, out, at),
         Event::KeyFire(v) => put_key(b"KeyFire", v, out, at),
         Event::Text(v) => put_key(b"Text", v, out, at),
-        _ => text::word(out, at, b"Resize"),
+        _ => answer_text::word(out, at, b"Resize"),
     }
 }
 
@@ -91,8 +91,8 @@ pub fn put(e: Event, out: &mut [u8; 65536], at: usize) -> usize
     match e {
         Event::MouseMove { x, y, dx, dy } => {
             let to = put_point(b"MouseMove", x, y, out, at);
-            let then = text::signed(out, to, dx);
-            text::signed(out, then, dy)
+            let then = answer_text::signed(out, to, dx);
+            answer_text::signed(out, then, dy)
         }
         Event::MouseDown { x, y, button } => put_press(b"MouseDown", x, y, button, out, at),
         Event::MouseClick {
@@ -102,7 +102,7 @@ pub fn put(e: Event, out: &mut [u8; 65536], at: usize) -> usize
             count,
         } => {
             let to = put_press(b"MouseClick", x, y, button, out, at);
-            text::more(out, to, count as u32)
+            answer_text::more(out, to, count as u32)
         }
         Event::MouseUp { x, y, button } => put_press(b"MouseUp", x, y, button, out, at),
         _ => put_plain(e, out, at),

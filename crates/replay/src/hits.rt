@@ -3,7 +3,7 @@ ghost use Prim.Native.Nat.{_*_, _/_, _≤_};
 ghost use lib.ListN.{length, take};
 ghost use mathlib.Core.Path.{_≡_};
 ghost use Rattle.windows.specs.View.{group, Given};
-ghost use Rattle.bare.specs.Numbers.{Sound};
+ghost use Rattle.bare_lines.specs.Numbers.{Sound};
 ghost use Rattle.replay.specs.Ready.{Ready, Next, unlisted};
 ghost use Rattle.replay.specs.Played.{HitsPart};
 use crate::lend;
@@ -24,11 +24,11 @@ fn put(answer: u32, n: usize, list: &[u32; 7812], out: &mut [u8; 65536], at: usi
     ensures { λ r. ⌜ r ≤ 65536 ⌝ }
 {
     if answer == 0 {
-        let to = text::number(out, at, 0);
+        let to = answer_text::number(out, at, 0);
         let last = lend::put_list(list, n, out, to);
-        return text::end(out, last);
+        return answer_text::end(out, last);
     }
-    text::answer(out, at, answer)
+    answer_text::answer(out, at, answer)
 }
 
 pub fn hits(

@@ -5,12 +5,12 @@ ghost use lib.ListN.{length, take, drop};
 ghost use Rattle.rules.specs.Panels.{Write};
 ghost use Rattle.windows.specs.View.{group, done, Given, MeetsStore, MeetsAltered, MeetsScreen};
 ghost use Rattle.replay.specs.Called.{Picked, storeCall, screenCall, OnStore, Resizes, OnScreen};
-ghost use Rattle.bare.specs.Numbers.{num, idOf, rectAt, Sound};
+ghost use Rattle.bare_lines.specs.Numbers.{num, idOf, rectAt, Sound};
 ghost use Rattle.script.specs.Kind as Kind;
 ghost use Rattle.replay.specs.Ready.{Ready, Next, unlisted};
 ghost use Rattle.replay.specs.Played.{pixels, screenLen, listLen, MeetsPart, DrawsPart, ListsPart, Stores, Draws, Plays, PlaysAt};
 use crate::player::Player;
-use bare::numbers;
+use bare_lines::numbers;
 use script::Line;
 use script::kind;
 use windows::Done;
@@ -202,7 +202,7 @@ pub fn put_list(list: &[u32], n: usize, out: &mut [u8; 65536], at: usize) -> usi
     requires { ⌜ (n ≤ length (now list)) × (at ≤ 65536) ⌝ }
     ensures { λ r. ⌜ r ≤ 65536 ⌝ }
 {
-    text::all(out, at, &list[0..n])
+    answer_text::all(out, at, &list[0..n])
 }
 
 // A line of the answer and, where it is 0, how many rectangles there are and then these, which stand at the front of the list.
@@ -217,12 +217,12 @@ pub fn put_rects(
     ensures { λ r. ⌜ r ≤ 65536 ⌝ }
 {
     if answer == 0 {
-        let to = text::number(out, at, 0);
-        let then = text::count(out, to, count);
+        let to = answer_text::number(out, at, 0);
+        let then = answer_text::count(out, to, count);
         let last = put_list(list, 4 * count, out, then);
-        return text::end(out, last);
+        return answer_text::end(out, last);
     }
-    text::answer(out, at, answer)
+    answer_text::answer(out, at, answer)
 }
 
 pub fn visible(

@@ -3,7 +3,7 @@ ghost use mathlib.Core.Path.{_≡_};
 ghost use Rattle.windows.specs.View.{Given};
 ghost use Prim.Native.Nat.{_≤_};
 ghost use Rattle.script.specs.Kind as Kind;
-ghost use Rattle.bare.specs.Numbers.{Sound};
+ghost use Rattle.bare_lines.specs.Numbers.{Sound};
 ghost use Rattle.replay.specs.Ready.{Ready, Next, counted};
 ghost use Rattle.replay.specs.Played.{pixels, Plays};
 use crate::calls;
@@ -12,8 +12,8 @@ use crate::lend;
 use crate::looks;
 use crate::sheets;
 use crate::show;
-use bare::geometry;
-use bare::pixels;
+use bare_lines::geometry;
+use bare_lines::pixels;
 use script::Line;
 use script::kind;
 use windows::Done;
@@ -79,7 +79,7 @@ impl Player {
         requires { ⌜ Ready self ⌝ }
         ensures { λ r. ⌜ Ready r ⌝ }
     {
-        self.at = text::flush(out, self.at);
+        self.at = answer_text::flush(out, self.at);
         self
     }
 
@@ -90,7 +90,7 @@ impl Player {
     {
         let session = done.session;
         self.session = session;
-        self.at = text::answer(out, self.at, done.answer);
+        self.at = answer_text::answer(out, self.at, done.answer);
         self
     }
 
@@ -102,9 +102,9 @@ impl Player {
         let session = written.session;
         self.session = session;
         if counts && written.answer == 0 {
-            self.at = text::counted(out, self.at, written.altered);
+            self.at = answer_text::counted(out, self.at, written.altered);
         } else {
-            self.at = text::answer(out, self.at, written.answer);
+            self.at = answer_text::answer(out, self.at, written.answer);
         }
         self
     }
@@ -114,7 +114,7 @@ impl Player {
         requires { ⌜ Ready self ⌝ }
         ensures { λ r. ⌜ Next self (self .session) r ⌝ }
     {
-        self.at = text::answer(out, self.at, 0);
+        self.at = answer_text::answer(out, self.at, 0);
         self
     }
 
@@ -123,7 +123,7 @@ impl Player {
         requires { ⌜ Ready self ⌝ }
         ensures { λ r. ⌜ Next self (self .session) r ⌝ }
     {
-        self.at = text::refused(out, self.at);
+        self.at = answer_text::refused(out, self.at);
         self
     }
 
@@ -131,7 +131,7 @@ impl Player {
         requires { ⌜ Ready self ⌝ }
         ensures { λ r. ⌜ Next self (self .session) r ⌝ }
     {
-        self.at = text::malformed(out, self.at, self.lines);
+        self.at = answer_text::malformed(out, self.at, self.lines);
         self
     }
 

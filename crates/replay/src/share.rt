@@ -2,10 +2,10 @@
 ghost use mathlib.Core.Path.{_≡_};
 ghost use Prim.Native.Nat.{_≤_};
 ghost use Rattle.windows.specs.View.{group, Given, Shares};
-ghost use Rattle.bare.specs.Numbers.{idOf};
+ghost use Rattle.bare_lines.specs.Numbers.{idOf};
 ghost use Rattle.replay.specs.Ready.{Ready, Next};
 use crate::player::Player;
-use bare::numbers;
+use bare_lines::numbers;
 use windows::InView;
 use windows::Session;
 
@@ -21,12 +21,12 @@ fn put(found: InView, out: &mut [u8; 65536], at: usize) -> usize
     ensures { λ r. ⌜ r ≤ 65536 ⌝ }
 {
     if found.answer == 0 {
-        let to = text::number(out, at, 0);
-        let then = text::more(out, to, found.percent);
-        let last = text::more(out, then, found.remainder);
-        return text::end(out, last);
+        let to = answer_text::number(out, at, 0);
+        let then = answer_text::more(out, to, found.percent);
+        let last = answer_text::more(out, then, found.remainder);
+        return answer_text::end(out, last);
     }
-    text::answer(out, at, found.answer)
+    answer_text::answer(out, at, found.answer)
 }
 
 pub fn share(mut p: Player, ns: &[u32; 4200], out: &mut [u8; 65536]) -> Player

@@ -4,12 +4,12 @@ ghost use mathlib.Core.Path.{_≡_};
 ghost use lib.ListN.{length, take};
 ghost use Rattle.script.specs.Kind as Kind;
 ghost use Rattle.windows.specs.View.{group, Given};
-ghost use Rattle.bare.specs.Numbers.{num, idOf, Sound};
+ghost use Rattle.bare_lines.specs.Numbers.{num, idOf, Sound};
 ghost use Rattle.replay.specs.Ready.{Ready, Next, unlisted, unsheeted};
 ghost use Rattle.replay.specs.inner.Sheets.{ReadsPart, sheetLen, PrintsPart};
 use crate::lend;
 use crate::player::Player;
-use bare::numbers;
+use bare_lines::numbers;
 use script::Line;
 use sheet::Count;
 use windows::Session;
@@ -91,13 +91,13 @@ fn put(found: Count, bytes: &[u8], out: &mut [u8; 65536], at: usize) -> usize
     ensures { λ r. ⌜ r ≤ 65536 ⌝ }
 {
     if found.answer == 0 {
-        let to = text::number(out, at, 0);
+        let to = answer_text::number(out, at, 0);
         let n = found.count;
-        let then = text::count(out, to, n);
-        let last = text::bytes(out, then, &bytes[0..n]);
-        return text::end(out, last);
+        let then = answer_text::count(out, to, n);
+        let last = answer_text::bytes(out, then, &bytes[0..n]);
+        return answer_text::end(out, last);
     }
-    text::answer(out, at, found.answer)
+    answer_text::answer(out, at, found.answer)
 }
 
 pub fn sheet(mut p: Player, ns: &[u32; 4200], out: &mut [u8; 65536]) -> Player

@@ -2,11 +2,11 @@
 ghost use Prim.Native.Nat.{_+_, _≤_};
 ghost use lib.ListN.{length};
 ghost use Rattle.windows.specs.View.{Given};
-ghost use Rattle.bare.specs.Numbers.{Sound};
-use bare::numbers;
+ghost use Rattle.bare_lines.specs.Numbers.{Sound};
+use answer_text::picture;
+use bare_lines::numbers;
 use script::Line;
 use script::kind;
-use text::picture;
 use windows::Session;
 
 // A line of 0 and so many pixels from a place on.
@@ -14,9 +14,9 @@ fn put(pixels: &[u32], from: usize, n: usize, out: &mut [u8; 65536], at: usize) 
     requires { ⌜ (from + n ≤ length (now pixels)) × (at ≤ 65536) ⌝ }
     ensures { λ r. ⌜ r ≤ 65536 ⌝ }
 {
-    let to = text::number(out, at, 0);
-    let then = text::all(out, to, &pixels[from..from + n]);
-    text::end(out, then)
+    let to = answer_text::number(out, at, 0);
+    let then = answer_text::all(out, to, &pixels[from..from + n]);
+    answer_text::end(out, then)
 }
 
 // The lines screen and picture.
@@ -35,16 +35,16 @@ pub fn screen(
     let h = ns[1];
     let n = numbers::size(w, h);
     if 384000 < n {
-        return text::refused(out, at);
+        return answer_text::refused(out, at);
     }
     if line.kind == kind::SCREEN {
         return put(screen, 0, n as usize, out, at);
     }
-    let empty = text::flush(out, at);
+    let empty = answer_text::flush(out, at);
     if picture::write(name, line.name, w, h, screen, n as usize, out) {
-        return text::answer(out, empty, 0);
+        return answer_text::answer(out, empty, 0);
     }
-    text::refused(out, empty)
+    answer_text::refused(out, empty)
 }
 
 // The line pixels: the window's pixels begin at its number times C in the store.
@@ -69,5 +69,5 @@ pub fn pixels(
             return put(store, id.0 as usize * c, n, out, at);
         }
     }
-    text::answer(out, at, 0)
+    answer_text::answer(out, at, 0)
 }

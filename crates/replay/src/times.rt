@@ -2,11 +2,11 @@
 ghost use mathlib.Core.Path.{_≡_};
 ghost use Prim.Native.Nat.{_≤_};
 ghost use lib.ListN.{length, take};
-ghost use Rattle.rate.specs.Busiest.{busiest};
-ghost use Rattle.bare.specs.Numbers.{Sound};
+ghost use Rattle.busiest.specs.Busiest.{busiest};
+ghost use Rattle.bare_lines.specs.Numbers.{Sound};
 ghost use Rattle.replay.specs.Ready.{Ready, Next};
 use crate::player::Player;
-use rate::Second;
+use busiest::Second;
 use script::Line;
 
 // The numbers of the line are the times.
@@ -14,7 +14,7 @@ fn asked(ns: &[u32], count: usize) -> Second
     requires { ⌜ count ≤ length (now ns) ⌝ }
     ensures { λ r. ⌜ r ≡ busiest (take count (now (ns .entry))) ⌝ }
 {
-    rate::busiest(&ns[..count])
+    busiest::busiest(&ns[..count])
 }
 
 fn put(second: Second, out: &mut [u8; 65536], at: usize) -> usize
@@ -22,12 +22,12 @@ fn put(second: Second, out: &mut [u8; 65536], at: usize) -> usize
     ensures { λ r. ⌜ r ≤ 65536 ⌝ }
 {
     if second.answer == 0 {
-        let to = text::number(out, at, 0);
-        let then = text::count(out, to, second.count);
-        let last = text::count(out, then, second.place);
-        return text::end(out, last);
+        let to = answer_text::number(out, at, 0);
+        let then = answer_text::count(out, to, second.count);
+        let last = answer_text::count(out, then, second.place);
+        return answer_text::end(out, last);
     }
-    text::answer(out, at, second.answer)
+    answer_text::answer(out, at, second.answer)
 }
 
 pub fn busiest(mut p: Player, line: Line, ns: &[u32; 4200], out: &mut [u8; 65536]) -> Player

@@ -10,7 +10,7 @@ use lib.ListN.{length, getD}
 use Rattle.geom.specs.declared.Rect.{Rect}
 use Rattle.geom.specs.Geom.{left, top, width, height, contains}
 use Rattle.geom.specs.Lists.{anyHas, Disjoint, most}
-use Rattle.shade.specs.Shade.{tone}
+use Rattle.paint.specs.Shade.{tone}
 use Rattle.window.specs.declared.Event.{Event}
 use Rattle.window.specs.declared.Event.the-variants as Event
 use Rattle.rules.specs.Group.{Group, start, win}

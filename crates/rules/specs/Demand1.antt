@@ -16,7 +16,7 @@ use Rattle.geom.specs.Geom.{rect, smallRect, isEmpty}
 use Rattle.geom.specs.Lists.{anyHas, numbers}
 use Rattle.geom.specs.Displays as Places
 use Rattle.geom.specs.Bare.{edgesFit, bothFit, answer14, bareContains, bareContainsRect, bareWithin, bareUnion, bareIntersect, barePieces}
-use Rattle.rate.specs.Busiest.{ordered, busiest}
+use Rattle.busiest.specs.Busiest.{ordered, busiest}
 use Rattle.winbuf.specs.Pixels as Pixels
 use Rattle.winbuf.specs.Pixels.{smallLine, onLine, inSlice, smallArea, regionFits, scanlineRange, scanline, fillScanline, setScanline}
 use Rattle.look.specs.declared.Look as View

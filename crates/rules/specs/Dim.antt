@@ -1,4 +1,4 @@
--- Document 02, "Dimming": the call dim. What is dimmed is in `Redraw`, how in `Shade` of crate `shade`.
+-- Document 02, "Dimming": the call dim. What is dimmed is in `Redraw`, how in `Shade` of crate `paint`.
 use mathlib.Core.Bool.{Bool, true, false, cond, not}
 use mathlib.Core.List.{[]}
 use Rattle.rules.specs.Group.{Group, Outcome, leaves, owing, withDim}

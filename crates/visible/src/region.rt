@@ -8,7 +8,7 @@ ghost use Rattle.rules.specs.Redraw.{drawRegion};
 ghost use Rattle.visible.specs.inner.Seen.{Drawable, viewOf, own};
 use geom::Rect;
 use geom::inner;
-use shade::area::draw_area;
+use paint::area::draw_area;
 
 // What stays the same while a window is drawn: its place, where its pixels begin in the store, the size of the screen, and whether dimming is on.
 pub struct View {

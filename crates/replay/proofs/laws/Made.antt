@@ -21,7 +21,7 @@ use Rattle.replay.specs.declared.player.Player.{Player}
 use Rattle.replay.specs.Ready.{Ready, Next, lendStore}
 use Rattle.replay.specs.Played.{Pixels, Makes, Begins, MeetsPart, DrawsPart, ListsPart, HitsPart, Plays}
 use Rattle.replay.specs.Called.{Picked, sizeAt}
-use Rattle.bare.specs.Numbers.{num, idOf}
+use Rattle.bare_lines.specs.Numbers.{num, idOf}
 use Rattle.replay.specs.Looks.{lookOf, LooksPart}
 use Rattle.replay.specs.inner.Sheets.{ReadsPart, PrintsPart}
 use Rattle.replay.proofs.laws.Sizes.{counted, hits-room, read-room, print-room}

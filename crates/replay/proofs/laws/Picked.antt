@@ -9,7 +9,7 @@ use Rattle.rules.specs.Calls.{Call}
 use Rattle.windows.specs.declared.Session.{Session}
 use Rattle.windows.specs.declared.Done.{Done}
 use Rattle.windows.specs.View.{Meets}
-use Rattle.bare.specs.Numbers.{num, idOf}
+use Rattle.bare_lines.specs.Numbers.{num, idOf}
 use Rattle.replay.specs.Called.{pick, Picked, windowCalls, routeCalls, storeCalls, plainCall, storeCall}
 
 -- what follows of the call that was picked

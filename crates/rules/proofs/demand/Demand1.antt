@@ -12,9 +12,9 @@ use Rattle.geom.specs.Questions.{_is_, asked}
 use Rattle.geom.specs.Bare.{edgesFit, bothFit}
 use Rattle.geom.proofs.basics.Tests.{clash, fst, on-cond}
 use Rattle.geom.proofs.basics.Questions.{asked₁}
-use Rattle.rate.specs.declared.Second.{Second}
-use Rattle.rate.specs.Busiest as Rate
-use Rattle.rate.specs.Busiest.{busiest}
+use Rattle.busiest.specs.declared.Second.{Second}
+use Rattle.busiest.specs.Busiest as Rate
+use Rattle.busiest.specs.Busiest.{busiest}
 use Rattle.scanline.specs.Pixels.{part}
 use Rattle.winbuf.specs.declared.ScanlineRange as Range
 use Rattle.winbuf.specs.Pixels as Pixels

@@ -12,7 +12,7 @@ use Rattle.geom.specs.Lists as Lists
 use Rattle.geom.specs.Displays as Places
 use Rattle.geom.proofs.basics.Tests.{is-true, holds, clash, or-right, or-cases}
 use Rattle.scanline.specs.Pixels as Pixels
-use Rattle.shade.specs.Shade as Shade
+use Rattle.paint.specs.Shade as Shade
 use Rattle.window.specs.Window as Window
 use Rattle.rules.specs.Group as Group
 use Rattle.rules.specs.Group.{start}

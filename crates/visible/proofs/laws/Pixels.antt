@@ -16,7 +16,7 @@ use Rattle.geom.proofs.basics.Tests.{clash, or-left, or-right, on-cond, by-test
 use Rattle.geom.proofs.basics.Lists.{All}
 use Rattle.geom.proofs.geometry.Facts.{In, Meet, says-in, says-meet, not-in, common-in, common-within}
 use Rattle.scanline.specs.Pixels.{writeRows, part}
-use Rattle.shade.specs.Shade.{entry, shade, tone}
+use Rattle.paint.specs.Shade.{entry, shade, tone}
 use Rattle.scanline.proofs.rows.Rows.{row-before, length-writeRows}
 use Rattle.scanline.proofs.rows.Paint.{length-part, getD-part, paint-in, paint-out}
 use Rattle.rules.specs.Demand.{pixelAt}

@@ -14,7 +14,7 @@ use Rattle.geom.proofs.basics.Tests.{cond-yes, cond-no}
 use Rattle.geom.proofs.geometry.Facts.{says-meet, common-within}
 use Rattle.scanline.specs.Pixels.{writeRows, part}
 use Rattle.scanline.specs.inner.Rows.{Inside}
-use Rattle.shade.specs.Shade.{tone}
+use Rattle.paint.specs.Shade.{tone}
 use Rattle.scanline.proofs.rows.Written.{rows-same}
 use Rattle.rules.specs.Redraw.{drawRegion}
 use Rattle.visible.specs.declared.region.View.{View}

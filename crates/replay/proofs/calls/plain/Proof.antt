@@ -4,7 +4,7 @@ use Rattle.geom.specs.declared.Rect.{Rect}
 use Rattle.rules.specs.Calls as Call
 use Rattle.rules.specs.Calls.{Call}
 use Rattle.windows.specs.View.{Meets}
-use Rattle.bare.specs.Numbers.{num}
+use Rattle.bare_lines.specs.Numbers.{num}
 use Rattle.replay.proofs.laws.Arms.{routes-left}
 use Rattle.replay.proofs.laws.Picked.{plain-at, by-id, by-pos}
 use borrow.Author.Needs.{needs}

@@ -4,7 +4,7 @@ use mathlib.Core.Path.{refl, subst}
 use Rattle.rules.specs.Calls.{Pop}
 use Rattle.windows.specs.View.{done, Meets}
 use Rattle.replay.specs.declared.player.Player.{Player}
-use Rattle.bare.specs.Numbers.{idOf}
+use Rattle.bare_lines.specs.Numbers.{idOf}
 use Rattle.replay.proofs.laws.Made.{makes}
 use borrow.Author.Needs.{needs}
 use Rattle.replay.proofs.calls.pop.Statement.{statement}

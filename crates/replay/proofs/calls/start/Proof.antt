@@ -1,6 +1,6 @@
 -- A store for C is one that the program can lend, or the start is refused and C is 1; between the two the line is beyond its limits.
 use mathlib.Core.Path.{refl}
-use Rattle.bare.specs.Numbers.{num}
+use Rattle.bare_lines.specs.Numbers.{num}
 use Rattle.replay.specs.Played.{starts, beyond, no-start}
 use Rattle.replay.proofs.laws.Sizes.{low-c, high-c}
 use borrow.Author.Needs.{needs}

@@ -2,7 +2,7 @@
 use Prim.Native.Nat.{ℕ}
 use mathlib.Core.Path.{_≡_, subst}
 use Rattle.windows.specs.View.{group, Locates}
-use Rattle.bare.specs.Numbers.{num}
+use Rattle.bare_lines.specs.Numbers.{num}
 use borrow.Author.Needs.{needs}
 use Rattle.replay.proofs.displays.asked.Statement.{statement}
 use Rattle.replay.proofs.displays.asked.Tie as tie

@@ -7,7 +7,7 @@ use Rattle.script.specs.Kind as Kind
 use Rattle.rules.specs.Calls as Call
 use Rattle.rules.specs.Calls.{Call}
 use Rattle.windows.specs.View.{MeetsStore}
-use Rattle.bare.specs.Numbers.{num, idOf}
+use Rattle.bare_lines.specs.Numbers.{num, idOf}
 use Rattle.replay.proofs.laws.Picked.{store-at}
 use borrow.Author.Needs.{needs}
 use Rattle.replay.proofs.lend.resize.Statement.{statement}

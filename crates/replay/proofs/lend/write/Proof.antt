@@ -5,7 +5,7 @@ use native.Mathlib.Omega.{arith}
 use Rattle.rules.specs.Calls as Call
 use Rattle.rules.specs.Calls.{Call}
 use Rattle.windows.specs.View.{done, MeetsStore}
-use Rattle.bare.specs.Numbers.{num, idOf, rectAt}
+use Rattle.bare_lines.specs.Numbers.{num, idOf, rectAt}
 use Rattle.replay.proofs.laws.Picked.{store-at}
 use borrow.Author.Needs.{needs}
 use Rattle.replay.proofs.lend.write.Statement.{statement}

@@ -8,7 +8,7 @@ use lib.Ieee.{Float}
 use Rattle.look.specs.declared.Look.{Look}
 use Rattle.look.specs.declared.Zoom.the-variants.{Factor, Fit}
 use Rattle.script.specs.Kind as Kind
-use Rattle.bare.specs.Numbers.{num, floatOf}
+use Rattle.bare_lines.specs.Numbers.{num, floatOf}
 use Rattle.replay.specs.Looks.{lookOf}
 use Rattle.replay.proofs.looks.look_of.Statement.{statement}
 use Rattle.replay.proofs.looks.look_of.Tie as tie

@@ -1,7 +1,7 @@
 -- Where nothing was said of the target, the size counts.
 use mathlib.Core.Path.{ap, _∙_}
 use Prim.Native.Nat.{ℕ, _+_, _*_}
-use Rattle.bare.specs.Numbers.{num}
+use Rattle.bare_lines.specs.Numbers.{num}
 use borrow.Author.Needs.{needs}
 use Rattle.replay.proofs.looks.target_len.Statement.{statement}
 use Rattle.replay.proofs.looks.target_len.Tie as tie

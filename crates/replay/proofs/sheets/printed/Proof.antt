@@ -2,7 +2,7 @@
 use native.Mathlib.Omega.{arith}
 use Prim.Native.Nat.{_-_}
 use Rattle.windows.specs.View.{group}
-use Rattle.bare.specs.Numbers.{idOf}
+use Rattle.bare_lines.specs.Numbers.{idOf}
 use Rattle.replay.proofs.laws.Made.{print-part}
 use borrow.Author.Needs.{needs}
 use Rattle.replay.proofs.sheets.printed.Statement.{statement}

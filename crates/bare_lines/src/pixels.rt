@@ -1,0 +1,134 @@
+// The lines of bare pixels. The pixels are numbers of the line.
+ghost use Prim.Native.Nat.{_+_, _≤_};
+ghost use lib.ListN.{length};
+ghost use Rattle.script.specs.Kind as Kind;
+ghost use Rattle.bare_lines.specs.Numbers.{num, Sound};
+use crate::numbers;
+use script::Line;
+use script::kind;
+use winbuf::Altered;
+
+pub fn asked(line: Line, ns: &mut [u32; 4200], out: &mut [u8; 65536], at: usize) -> usize
+    requires { ⌜ Sound line (now ns) × (Kind.scanline ≤ line .kind) × (line .kind ≤ Kind.region) × (at ≤ 65536) ⌝ }
+    ensures { λ r. ⌜ r ≤ 65536 ⌝ }
+{
+    let k = line.kind;
+    let count = line.count;
+    match k {
+        kind::SCANLINE => scanline(ns, count, out, at),
+        kind::FILL_SCANLINE => fill_scanline(ns, count, out, at),
+        kind::SET_SCANLINE => set_scanline(ns, count, out, at),
+        _ => region(ns, count, out, at),
+    }
+}
+
+// A line of the answer and, where it is 0, the numbers of a part.
+pub fn put(answer: u32, part: &[u32], out: &mut [u8; 65536], at: usize) -> usize
+    requires { ⌜ at ≤ 65536 ⌝ }
+    ensures { λ r. ⌜ r ≤ 65536 ⌝ }
+{
+    if answer == 0 {
+        let to = answer_text::number(out, at, 0);
+        let then = answer_text::all(out, to, part);
+        return answer_text::end(out, then);
+    }
+    answer_text::answer(out, at, answer)
+}
+
+// A line of the answer and, where it is 0, how many pixels were altered and then all of them.
+fn put_written(written: Altered, pixels: &[u32], out: &mut [u8; 65536], at: usize) -> usize
+    requires { ⌜ at ≤ 65536 ⌝ }
+    ensures { λ r. ⌜ r ≤ 65536 ⌝ }
+{
+    if written.answer == 0 {
+        let to = answer_text::number(out, at, 0);
+        let then = answer_text::count(out, to, written.altered);
+        let last = answer_text::all(out, then, pixels);
+        return answer_text::end(out, last);
+    }
+    answer_text::answer(out, at, written.answer)
+}
+
+// The picture and the part of its scanline that a line names.
+struct Scan {
+    w: u32,
+    h: u32,
+    line: u32,
+    ofs: u32,
+    len: u32,
+}
+
+fn scan_of(ns: &[u32]) -> Scan
+    requires { ⌜ 5 ≤ length (now ns) ⌝ }
+{
+    Scan {
+        w: ns[0],
+        h: ns[1],
+        line: ns[2],
+        ofs: ns[3],
+        len: ns[4],
+    }
+}
+
+fn scanline(ns: &[u32], count: usize, out: &mut [u8; 65536], at: usize) -> usize
+    requires { ⌜ (5 ≤ count) × (count ≤ length (now ns)) × (at ≤ 65536) ⌝ }
+    ensures { λ r. ⌜ r ≤ 65536 ⌝ }
+{
+    let mut answer: u32 = 0;
+    let pixels = &ns[5..count];
+    let s = scan_of(ns);
+    let part = winbuf::scanline_rgn(pixels, s.w, s.h, s.line, s.ofs, s.len, &mut answer);
+    put(answer, part, out, at)
+}
+
+fn region(ns: &[u32], count: usize, out: &mut [u8; 65536], at: usize) -> usize
+    requires { ⌜ (5 ≤ count) × (count ≤ length (now ns)) × (at ≤ 65536) ⌝ }
+    ensures { λ r. ⌜ r ≤ 65536 ⌝ }
+{
+    let mut answer: u32 = 0;
+    let pixels = &ns[5..count];
+    let stride = numbers::wide(ns[4]);
+    let part = stride::region_of(pixels, stride, ns[0], ns[1], ns[2], ns[3], &mut answer);
+    put(answer, part, out, at)
+}
+
+fn fill_scanline(ns: &mut [u32], count: usize, out: &mut [u8; 65536], at: usize) -> usize
+    requires { ⌜ (6 ≤ count) × (count ≤ length (now ns)) × (at ≤ 65536) ⌝ }
+    ensures { λ r. ⌜ r ≤ 65536 ⌝ }
+{
+    let s = scan_of(ns);
+    let value = ns[5];
+    let written = winbuf::fill_scanline(&mut ns[6..count], s.w, s.h, s.line, s.ofs, s.len, value);
+    put_written(written, &ns[6..count], out, at)
+}
+
+// The data of the line, apart from its pixels, so that these can be written.
+fn copied(ns: &[u32], n: usize) -> [u32; 4096]
+    requires { ⌜ (n ≤ 4096) × (6 + n ≤ length (now ns)) ⌝ }
+{
+    let mut data = [0u32; 4096];
+    let mut i: usize = 0;
+    while i < n {
+        data[i] = ns[6 + i];
+        i += 1;
+    }
+    data
+}
+
+fn set(pixels: &mut [u32], s: Scan, data: &[u32], n: usize) -> Altered
+    requires { ⌜ n ≤ length (now «data») ⌝ }
+{
+    winbuf::set_scanline(pixels, s.w, s.h, s.line, s.ofs, s.len, &data[0..n])
+}
+
+fn set_scanline(ns: &mut [u32], count: usize, out: &mut [u8; 65536], at: usize) -> usize
+    requires { ⌜ (6 + num (now ns) 5 ≤ count) × (count ≤ 4102) × (count ≤ length (now ns)) × (at ≤ 65536) ⌝ }
+    ensures { λ r. ⌜ r ≤ 65536 ⌝ }
+{
+    let s = scan_of(ns);
+    let n = numbers::wide(ns[5]);
+    let data = copied(ns, n);
+    let from = 6 + n;
+    let written = set(&mut ns[from..count], s, &data, n);
+    put_written(written, &ns[from..count], out, at)
+}

@@ -1,0 +1,32 @@
+-- What create, pop and the display at a position promise of the numbers that they hand back: s is the session before the call, t the session after it.
+use Prim.Native.Nat.{ℕ}
+use mathlib.Core.Path.{_≡_}
+use mathlib.Core.Bool.{true, false}
+use Rattle.geom.specs.Displays.{Located, on, closest}
+use Rattle.rules.specs.Group.{idOr}
+use Rattle.rules.specs.Calls.{Create, Pop, does}
+use Rattle.rules.specs.DisplayAt.{Display}
+use Rattle.windows.specs.declared.Session.{Session}
+use Rattle.windows.specs.View.{group, done, Meets}
+use Rattle.roqshyn.specs.declared.values.RoqCreated.{RoqCreated}
+use Rattle.roqshyn.specs.declared.values.RoqPopped.{RoqPopped}
+use Rattle.roqshyn.specs.declared.values.RoqDisplay.{RoqDisplay}
+use Rattle.roqshyn.specs.Events.{numbersOf}
+
+-- "an id … asked for is then absent": 4,294,967,295, which is no window's
+pub record Creates (s t : Session) (r : RoqCreated) : Type 0 where
+  pub meets : Meets Create s (done t (r .answer))
+  pub id : r .id .0 ≡ idOr 4294967295 (does (group s) Create .id)
+
+-- "an … event asked for is then absent": its kind is 0
+pub record Pops (id : ℕ) (s t : Session) (r : RoqPopped) : Type 0 where
+  pub meets : Meets (Pop id) s (done t (r .answer))
+  pub event : r .event ≡ numbersOf (does (group s) (Pop id) .event)
+
+-- this paper's number and values for the two cases of the display at a position
+abbrev pub displayOf : ℕ → Located → RoqDisplay
+displayOf a (on r) = record { answer = a; on = true; rect = r }
+displayOf a (closest r) = record { answer = a; on = false; rect = r }
+
+abbrev pub displayed : Display → RoqDisplay
+displayed d = displayOf (d .answer) (d .located)
