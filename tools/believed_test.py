@@ -71,7 +71,7 @@ REFUSED = [
     (
         "a contract that names inner",
         [(INNER, "", MORE), *promises(f"ghost {USE}.{{more}}", "more")],
-        BELIEVED + ": more, from rate::busiest",
+        BELIEVED + ": more, from busiest::busiest",
     ),
     ("the same by its module", [(INNER, "", MORE), *promises(f"ghost {USE} as More", "More.more")], BELIEVED),
     ("a promise in inner", [(INNER, "", TRUTH), proves(USE)], BELIEVED + ": Truth, from truth"),
