@@ -86,7 +86,7 @@ REFUSED = [
     ),
     (
         "an impl of Session in inner",
-        [("crates/windows/src/inner/dim.rt", "", METHOD)],
+        [("crates/windows/src/inner/dimming.rt", "", METHOD)],
         "windows::Session::peek stands in no",
     ),
     (
@@ -96,12 +96,12 @@ REFUSED = [
     ),
     (
         "an impl by another name",
-        [("crates/windows/src/inner/dim.rt", "use crate::Shared;", "use crate::Session as Shared;")],
+        [("crates/windows/src/inner/dimming.rt", "use crate::Shared;", "use crate::Session as Shared;")],
         "use … as …",
     ),
     (
         "a type by another name",
-        [("crates/windows/src/inner/dim.rt", "", "type Kept = Session;\n")],
+        [("crates/windows/src/inner/dimming.rt", "", "type Kept = Session;\n")],
         "an item that begins with 'type'",
     ),
     ("a public module", [(GROUP, "mod calls;", "pub mod calls;")], "pub mod calls: the one public module"),

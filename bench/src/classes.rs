@@ -1,7 +1,7 @@
 //! The classes of the tables, and those of the two plots.
 use crate::call::{Area, Call};
 use crate::class::{Beside, Class, Limit};
-use crate::dims;
+use crate::dimming;
 use crate::displays;
 use crate::drags;
 use crate::looks;
@@ -53,7 +53,7 @@ pub fn table() -> Vec<Class> {
     all.extend(rows::classes());
     all.extend(portions());
     all.extend(seconds::classes());
-    all.extend(dims::classes());
+    all.extend(dimming::classes());
     all.extend(shares::classes());
     all.extend(points::classes());
     all.extend(looks::classes());

@@ -8,7 +8,7 @@ mod call;
 mod check;
 mod class;
 mod classes;
-mod dims;
+mod dimming;
 mod displays;
 mod drags;
 mod earlier;

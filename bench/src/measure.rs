@@ -2,7 +2,7 @@
 use crate::call::{Call, Side};
 use crate::check;
 use crate::class::{Beside, Class, Limit};
-use crate::dims::{Bright, Through};
+use crate::dimming::{Bright, Through};
 use crate::drags::Moved;
 use crate::earlier;
 use crate::locked;

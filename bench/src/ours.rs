@@ -1,7 +1,7 @@
 //! Our side: a station's session with the store and the screen that it is lent.
 use crate::call::{Area, Call, Popped, Reply, Side, State};
 use crate::class::Class;
-use crate::dims;
+use crate::dimming;
 use crate::plain::{Piece, Plain};
 use crate::shares;
 use roqshyn::{
@@ -71,7 +71,7 @@ impl Ours {
     /// Draws them through a table.
     pub fn draw_through(&mut self, table: &[u8; 256], pieces: &[Piece]) {
         for piece in pieces {
-            dims::draw(&mut self.screen, self.width as usize, &self.store, piece, table);
+            dimming::draw(&mut self.screen, self.width as usize, &self.store, piece, table);
         }
     }
 

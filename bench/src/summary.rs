@@ -1,8 +1,8 @@
 //! What a station's engineer wants to know, and what each exported call takes.
 use crate::class::{Beside, Class, COLD};
 use crate::classes::{ALL, EIGHT, LONGEST, MIX, MIX_OF_EIGHT, THREE};
-use crate::dims;
-use crate::dims::DIMMED;
+use crate::dimming;
+use crate::dimming::DIMMED;
 use crate::drags::{DRAGS, DRAGS_OF_EIGHT};
 use crate::looks;
 use crate::measure::Measured;
@@ -136,7 +136,7 @@ pub fn dims(classes: &[Class], results: &[Measured]) -> String {
         let what = name.trim_start_matches(DIMMED).trim_start_matches(", ");
         format!("| {what} | {ours} | {loops} | {:.2} | {off} |\n", table.ratio)
     };
-    let rows: String = dims::names().iter().map(row).collect();
+    let rows: String = dimming::names().iter().map(row).collect();
     format!(
         "| 800 by 480 | ours, ns a pixel | the loop in Rust | ratio | dimming off |\n|---|---:|---:|---:|---:|\n{rows}"
     )

@@ -2,7 +2,7 @@
 //! machine to machine, and ours has none.
 use crate::class::{Beside, Class};
 use crate::classes::{LAYER, MIX, MIX_OF_EIGHT, RAISE, RAISED};
-use crate::dims::DIMMED;
+use crate::dimming::DIMMED;
 use crate::displays::{DISPLAY_AT, MAXIMISE, UPDATE};
 use crate::drags::{DRAG, DRAGS, DRAGS_OF_EIGHT};
 use crate::looks::LOOK;

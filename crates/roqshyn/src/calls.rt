@@ -30,11 +30,11 @@ use windows::InView;
 use windows::Listing;
 use windows::Placed;
 use windows::Session;
-use windows::inner::dim;
-use windows::inner::dims::plan_take;
-use windows::inner::dims::take;
+use windows::inner::dimming;
 use windows::inner::drag;
 use windows::inner::events::tell;
+use windows::inner::maximise::plan_take;
+use windows::inner::maximise::take;
 use windows::inner::one;
 use windows::inner::one::slot;
 use windows::inner::portion;
@@ -394,7 +394,7 @@ pub extern "C" fn roq_dim(s: &mut Session, on: bool) -> u32
     requires { ⌜ Given (now s) ⌝ }
     ensures { λ r. ⌜ Meets (Call.Dim on) (now (s .entry)) (done (now (s .exit)) r) ⌝ }
 {
-    let d = dim::dim((*s).shared, on);
+    let d = dimming::dim((*s).shared, on);
     let k = d.shared;
     (*s).shared = k;
     d.answer

@@ -12,10 +12,10 @@ use crate::Done;
 use crate::Popped;
 use crate::Session;
 use crate::Written;
-use crate::inner::dim;
-use crate::inner::dims;
+use crate::inner::dimming;
 use crate::inner::drag;
 use crate::inner::events;
+use crate::inner::maximise;
 use crate::inner::one;
 use crate::inner::one::slot;
 use crate::inner::portion;
@@ -196,9 +196,9 @@ impl Session {
         requires { ⌜ Given self ⌝ }
         ensures { λ r. ⌜ MeetsStore (Call.Maximise (id .0) (now (store .entry))) self r (now (store .exit)) ⌝ }
     {
-        let t = dims::plan_take(self, id, store);
+        let t = maximise::plan_take(self, id, store);
         let at = t.at;
-        let d = dims::take(self.windows[at], self.shared, t.what);
+        let d = maximise::take(self.windows[at], self.shared, t.what);
         self.put(at, d)
     }
 
@@ -309,7 +309,7 @@ impl Session {
         requires { ⌜ Given self ⌝ }
         ensures { λ r. ⌜ Meets (Call.Dim on) self r ⌝ }
     {
-        let d = dim::dim(self.shared, on);
+        let d = dimming::dim(self.shared, on);
         let shared = d.shared;
         self.shared = shared;
         Done {

@@ -49,10 +49,10 @@ use Rattle.windows.proofs.inner.portion.Next as Next
 use Rattle.windows.proofs.inner.portion.Next.Laws as Next′
 use Rattle.windows.proofs.inner.portion.Turn as Turn
 use Rattle.windows.proofs.inner.portion.Turn.Laws as Turn′
-use Rattle.windows.proofs.inner.dims.Takes as Takes
-use Rattle.windows.proofs.inner.dims.Takes.Laws as Takes′
-use Rattle.windows.proofs.inner.dims.Taking as Taking
-use Rattle.windows.proofs.inner.dims.Taking.Laws as Taking′
+use Rattle.windows.proofs.inner.maximise.Takes as Takes
+use Rattle.windows.proofs.inner.maximise.Takes.Laws as Takes′
+use Rattle.windows.proofs.inner.maximise.Taking as Taking
+use Rattle.windows.proofs.inner.maximise.Taking.Laws as Taking′
 use Rattle.windows.proofs.inner.drag.Dragging as Dragging
 use Rattle.windows.proofs.inner.drag.Dragging.Laws as Dragging′
 use Rattle.windows.proofs.inner.drag.DragPlan as DragPlan

@@ -29,7 +29,7 @@ use Rattle.windows.specs.declared.Session.{Session}
 use Rattle.windows.specs.declared.Shared.{Shared}
 use Rattle.windows.specs.declared.Changed.{Changed}
 use Rattle.windows.specs.declared.Done.{Done}
-use Rattle.windows.specs.declared.inner.dims.Taking.{Taking}
+use Rattle.windows.specs.declared.inner.maximise.Taking.{Taking}
 use Rattle.windows.specs.View.{group, windowAt, Rep, Given, Meets, MeetsStore, done}
 use Rattle.windows.specs.inner.One.{At, put}
 use Rattle.windows.specs.inner.Walk.{flagged, indebted}

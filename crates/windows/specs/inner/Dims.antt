@@ -22,8 +22,8 @@ use Rattle.windows.specs.declared.Shared.{Shared}
 use Rattle.windows.specs.declared.Session.{Session}
 use Rattle.windows.specs.declared.Changed.{Changed}
 use Rattle.windows.specs.declared.Done.{Done}
-use Rattle.windows.specs.declared.inner.dims.Takes.{Takes}
-use Rattle.windows.specs.declared.inner.dims.Taking.{Taking}
+use Rattle.windows.specs.declared.inner.maximise.Takes.{Takes}
+use Rattle.windows.specs.declared.inner.maximise.Taking.{Taking}
 use Rattle.windows.specs.declared.inner.update.DimsPlan.{DimsPlan}
 use Rattle.windows.specs.View.{group, windowAt, MeetsStore}
 use Rattle.windows.specs.inner.Walk.{flagged, indebted}

@@ -19,9 +19,9 @@ ghost use Rattle.windows.specs.inner.Drag.{TurnsOf, TurnsIn, PlansDrag, 
 ghost use Rattle.windows.specs.inner.Drag.{draggedWin, uncoveredWin, turned, settledBy};
 use crate::Session;
 use crate::Shared;
-use crate::inner::dims::in_use;
-use crate::inner::dims::with_flag;
 use crate::inner::frames::frames;
+use crate::inner::maximise::in_use;
+use crate::inner::maximise::with_flag;
 use crate::inner::one::repaired;
 use crate::inner::one::slot;
 use crate::inner::store::damaged;

@@ -12,8 +12,8 @@ ghost use Rattle.windows.specs.inner.Events.{targetOf, atPoint, heldAfte
 ghost use Rattle.windows.specs.inner.Aimed.{toNobody, toWindow, Hears, Aims, PopsFront};
 use crate::NextEvent;
 use crate::Session;
-use crate::inner::dims::in_use;
 use crate::inner::frames::frames;
+use crate::inner::maximise::in_use;
 use geom::inner::small::small_point;
 use order::RenderIdx;
 use order::get_render_idx;

@@ -21,7 +21,7 @@ ghost use Rattle.windows.specs.inner.One.{Held, HeldAs, MeetsStoreAt, Me
 ghost use Rattle.windows.specs.inner.Pixels.{Becomes, RowsIn, PaintsAs, BlitsAs, Resizable};
 use crate::Changed;
 use crate::Shared;
-use crate::inner::dims::in_use;
+use crate::inner::maximise::in_use;
 use crate::inner::one::is_used;
 use geom::Dims;
 use geom::Intersection;

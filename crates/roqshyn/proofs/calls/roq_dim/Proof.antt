@@ -8,9 +8,9 @@ use Rattle.rules.specs.Calls.{Dim}
 use Rattle.windows.specs.View.{Given, Meets}
 use Rattle.windows.specs.View as View
 use Rattle.windows.specs.inner.One.{MeetsShared}
-use Rattle.windows.proofs.inner.dim.dim as g
-use Rattle.windows.proofs.inner.dim.dim.Symbol as value
-use Rattle.windows.proofs.inner.dim.dim.Met as value′
+use Rattle.windows.proofs.inner.dimming.dim as g
+use Rattle.windows.proofs.inner.dimming.dim.Symbol as value
+use Rattle.windows.proofs.inner.dimming.dim.Met as value′
 use Rattle.roqshyn.proofs.shims.Field as shim
 use Rattle.roqshyn.proofs.shims.Args.{value as plain}
 use Rattle.roqshyn.proofs.shims.Slots.{second}
@@ -30,5 +30,5 @@ roq-dim-spec 𝓤 H 𝓜 𝓖 𝓡 =
     Given (λ k κs a. Unit {0}) (λ k κs a r e. MeetsShared (Dim (a .0)) k r)
     (λ κs s a n t e. Meets (Dim (a .0)) s (View.done t n))
     (λ κs s a h. tt) (λ κs s a r ws h d. d s h refl)
-    𝓤 H 𝓜 𝓖 𝓡 code.env value.name value.routine code.calls-windows·inner·dim·dim
+    𝓤 H 𝓜 𝓖 𝓡 code.env value.name value.routine code.calls-windows·inner·dimming·dim
     (asks-nothing 𝓤 H (𝓖 .A) g.signature (𝓡 .run value.routine) (g.spec 𝓤 H (𝓖 .A) (𝓜 .mem) (𝓡 .run)) (value′.met 𝓤 H 𝓜 𝓖 𝓡)))

@@ -13,10 +13,10 @@ use Rattle.windows.specs.View.{Given, MeetsStore}
 use Rattle.windows.specs.View as View
 use Rattle.windows.specs.inner.Dims.{TakesDisplay, Took}
 use Rattle.windows.proofs.laws.Dims.{accepted-low, maximises}
-use Rattle.windows.proofs.inner.dims.plan_take.Symbol as find
-use Rattle.windows.proofs.inner.dims.plan_take.Met as find′
-use Rattle.windows.proofs.inner.dims.take.Symbol as value
-use Rattle.windows.proofs.inner.dims.take.Met as value′
+use Rattle.windows.proofs.inner.maximise.plan_take.Symbol as find
+use Rattle.windows.proofs.inner.maximise.plan_take.Met as find′
+use Rattle.windows.proofs.inner.maximise.take.Symbol as value
+use Rattle.windows.proofs.inner.maximise.take.Met as value′
 use Rattle.roqshyn.proofs.shims.Seek as shim
 use Rattle.roqshyn.proofs.shims.Args.{value as plain, writes}
 use Rattle.roqshyn.proofs.shims.Parameters.{window, shared, displays, winId, takes, number, windows, taking, changed}
@@ -36,5 +36,5 @@ roq-maximise-spec 𝓤 H 𝓜 𝓖 𝓡 =
     (λ κs s a n t e. MeetsStore (Maximise (a .0 .0) (now (a .1 .0))) s (View.done t n) (now (e .1 .0)))
     (λ κs s a t ws h q. q .inside) (λ κs s a t ws h q. (h .rep .each (t .at) (q .inside), q .small, accepted-low s h _ _ _ t q))
     (λ κs s a t ws r h q w. maximises s h _ _ _ t q r w)
-    𝓤 H 𝓜 𝓖 𝓡 code.env find.name find.routine code.calls-windows·inner·dims·plan-take (find′.met 𝓤 H 𝓜 𝓖 𝓡)
-    value.name value.routine code.calls-windows·inner·dims·take (value′.met 𝓤 H 𝓜 𝓖 𝓡))
+    𝓤 H 𝓜 𝓖 𝓡 code.env find.name find.routine code.calls-windows·inner·maximise·plan-take (find′.met 𝓤 H 𝓜 𝓖 𝓡)
+    value.name value.routine code.calls-windows·inner·maximise·take (value′.met 𝓤 H 𝓜 𝓖 𝓡))

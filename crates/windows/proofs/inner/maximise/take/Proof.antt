@@ -2,8 +2,8 @@
 use mathlib.Core.Path.{refl, ap, _∙_}
 use Rattle.windows.specs.inner.Walk.{indebted}
 use borrow.Author.Needs.{needs}
-use Rattle.windows.proofs.inner.dims.take.Statement.{statement}
-use Rattle.windows.proofs.inner.dims.take.Tie as tie
+use Rattle.windows.proofs.inner.maximise.take.Statement.{statement}
+use Rattle.windows.proofs.inner.maximise.take.Tie as tie
 
 taken-requires : tie.Need-taken-requires
 taken-requires c κs = search needs

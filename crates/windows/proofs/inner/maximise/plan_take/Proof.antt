@@ -10,8 +10,8 @@ use Rattle.geom.specs.Rect16.{Small, rectOf, noRect16}
 use Rattle.windows.specs.View.{windowAt}
 use Rattle.windows.proofs.laws.Dims.{no-store, no-window, too-large, takes-it, old-fits, pixels-in, base-low}
 use borrow.Author.Needs.{needs}
-use Rattle.windows.proofs.inner.dims.plan_take.Statement.{statement}
-use Rattle.windows.proofs.inner.dims.plan_take.Tie as tie
+use Rattle.windows.proofs.inner.maximise.plan_take.Statement.{statement}
+use Rattle.windows.proofs.inner.maximise.plan_take.Tie as tie
 
 -- where the window lies
 module _ (c : tie.After-old) where

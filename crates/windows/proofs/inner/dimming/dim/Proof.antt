@@ -8,8 +8,8 @@ use Rattle.windows.specs.View.{Meets, done}
 use Rattle.windows.specs.inner.Walk.{sharing, indebted, dimming}
 use Rattle.windows.proofs.laws.Dimmed.{is-set, switches}
 use borrow.Author.Needs.{needs}
-use Rattle.windows.proofs.inner.dim.dim.Statement.{statement}
-use Rattle.windows.proofs.inner.dim.dim.Tie as tie
+use Rattle.windows.proofs.inner.dimming.dim.Statement.{statement}
+use Rattle.windows.proofs.inner.dimming.dim.Tie as tie
 
 same-requires : tie.Need-same-requires
 same-requires c κs = search needs

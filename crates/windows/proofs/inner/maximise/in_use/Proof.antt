@@ -1,8 +1,8 @@
 -- The number is asked first.
 use mathlib.Core.Path.{refl}
 use borrow.Author.Tests.{lt-ltb, le-ltb}
-use Rattle.windows.proofs.inner.dims.in_use.Statement.{statement}
-use Rattle.windows.proofs.inner.dims.in_use.Tie as tie
+use Rattle.windows.proofs.inner.maximise.in_use.Statement.{statement}
+use Rattle.windows.proofs.inner.maximise.in_use.Tie as tie
 
 returns : tie.Need-returns
 returns c = rw (lt-ltb _ 16 (c .if1 .taken)) refl
