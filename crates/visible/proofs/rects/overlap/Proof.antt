@@ -20,6 +20,12 @@ met-solid a b m = (record { wide = omega (arith, m .wide); high = omega (arith, 
 not-solid : (r : Rect) → isEmpty r ≡ true → Solid r → ⊥
 not-solid r e s = omega (arith, says-empty r .fact e, s .wide, s .high)
 
+-- the start, from where the two are known to share columns
+abbrev entry : tie.Else2 → tie.Start
+entry e2 =
+    let e1 = e2 .before .before .before in
+    e1 .before .before .before
+
 right-requires : tie.Need-right-requires
 right-requires c κs = search needs
 
@@ -41,7 +47,7 @@ bottom-requires c κs = search needs
 
 returns-3 : tie.Need-returns-3
 returns-3 c =
-    let s = c .before .before .before .before .before .before .before .before .before .args in
+    let s = entry (c .before .before .before) .args in
     no (s .a) (s .b) (λ m. omega (arith, m .high, c .if3 .taken, c .before .before .bottom .ensures))
 
 bottom-requires-2 : tie.Need-bottom-requires-2
@@ -49,7 +55,7 @@ bottom-requires-2 c κs = search needs
 
 returns-4 : tie.Need-returns-4
 returns-4 c =
-    let s = c .before .before .before .before .before .before .before .before .before .before .before .before .args in
+    let s = entry (c .before .before .before .before .before .before) .args in
     no (s .a) (s .b) (λ m. omega (arith, m .high, c .if4 .taken, c .before .before .bottom2 .ensures))
 
 is-empty-requires : tie.Need-is-empty-requires
@@ -57,7 +63,8 @@ is-empty-requires c κs = search needs
 
 returns-5 : tie.Need-returns-5
 returns-5 c =
-    let s = c .before .before .before .before .before .before .before .before .before .before .before .before .before .before .args in
+    let e4 = c .before .before in
+    let s = entry (e4 .before .before .before .before .before .before) .args in
     no (s .a) (s .b) (λ m. not-solid (s .a) (sym (c .before .is-empty .ensures) ∙ c .if5 .taken) (met-solid (s .a) (s .b) m .0))
 
 is-empty-requires-2 : tie.Need-is-empty-requires-2
@@ -65,7 +72,9 @@ is-empty-requires-2 c κs = search needs
 
 returns-6 : tie.Need-returns-6
 returns-6 c =
-    let s = c .before .before .before .before .before .before .before .before .before .before .before .before .before .before .before .before .args in
+    let e5 = c .before .before in
+    let e4 = e5 .before .before in
+    let s = entry (e4 .before .before .before .before .before .before) .args in
     no (s .a) (s .b) (λ m. not-solid (s .b) (sym (c .before .is-empty2 .ensures) ∙ c .if6 .taken) (met-solid (s .a) (s .b) m .1))
 
 returns-7 : tie.Need-returns-7
@@ -75,7 +84,7 @@ returns-7 c =
     let e3 = e4 .before .before .before in
     let e2 = e3 .before .before .before in
     let e1 = e2 .before .before .before in
-    let s = e1 .before .before .before .args in
+    let s = entry e2 .args in
     let p = solid (s .a) (sym (e5 .before .is-empty .ensures) ∙ e5 .if5 .left) in
     let q = solid (s .b) (sym (c .before .is-empty2 .ensures) ∙ c .if6 .left) in
     passes (says-meet (s .a) (s .b)) (record {

@@ -35,7 +35,8 @@ flagged n false e = rw e
 
 returns : tie.Need-returns
 returns c =
-    let v = c .before .before .before .before .before .before .before .before .args .self in
+    let placed = c .before .before .before in
+    let v = placed .before .before .before .before .before .args .self in
     let f : Bool → View = λ b. record { at = v .at; base = v .base; sw = v .sw; sh = v .sh; dim = b } in
     ap f (flagged (c .flag .result) (v .dim) (c .flag .ensures))
 

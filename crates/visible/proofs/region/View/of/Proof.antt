@@ -55,9 +55,10 @@ element-copy-out-t13 c = search needs
 
 returns : tie.Need-returns
 returns c =
-    let l = c .before .before .before .before .before .before .before .before .before .args .l .now in
+    let after-new = c .before .before .before .before in
+    let l = after-new .before .before .before .before .before .args .l .now in
     let f : Rect → View = λ r. record { at = r; base = getD l 4 0; sw = getD l 5 0; sh = getD l 6 0; dim = eqb (getD l 7 0) 1 } in
-    ap f (c .before .before .before .before .new .ensures)
+    ap f (after-new .new .ensures)
 
 pub of-spec : {M : Type 1} → statement M
 of-spec =

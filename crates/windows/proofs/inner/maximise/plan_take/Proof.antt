@@ -13,6 +13,9 @@ use borrow.Author.Needs.{needs}
 use Rattle.windows.proofs.inner.maximise.plan_take.Statement.{statement}
 use Rattle.windows.proofs.inner.maximise.plan_take.Tie as tie
 
+-- Places: `s` is where the call begins, `f` where the frames are known (the slot just before), `d` the display, and `t`,
+-- `u`, `v` are behind questions 1, 3 and 6.
+
 -- where the window lies
 module _ (c : tie.After-old) where
   lies : getD (c .before .before .before .frames .result .areas) (c .before .before .before .before .slot .result) noRect16
@@ -21,10 +24,12 @@ module _ (c : tie.After-old) where
 
 -- whether it is in use
 asked : (c : tie.After-in-use) → let d = c .before .before .before in
-    let s = d .before .before .before .before .before .before .before .before in
-    c .in-use .result ≡ ltb (s .args .id .0) 16 && windowAt (s .args .s) (d .before .before .before .before .before .before .slot .result) .used
+    let f = d .before .before .before .before .before in
+    let s = f .before .before .before in
+    c .in-use .result ≡ ltb (s .args .id .0) 16 && windowAt (s .args .s) (f .before .slot .result) .used
 asked c =
-    let f = c .before .before .before .before .before .before .before .before in
+    let d = c .before .before .before in
+    let f = d .before .before .before .before .before in
     let s = f .before .before .before in
     c .in-use .ensures ∙ ap (λ (b : Bool). ltb (s .args .id .0) 16 && b) (f .frames .ensures .used _ (f .before .slot .ensures .inside))
 
@@ -42,8 +47,9 @@ array-copy-out-old c = search needs
 
 display-of-requires : tie.Need-display-of-requires
 display-of-requires c κs =
-    let s = c .before .before .before .before .before .before .before in
-    let p = c .before .before .before .before .before .slot .ensures .inside in
+    let f = c .before .before .before .before in
+    let s = f .before .before .before in
+    let p = f .before .slot .ensures .inside in
     (s .pre .rep .displays, subst (λ (a : Rect16). Small (rectOf a)) (sym (lies (c .before))) (s .pre .rep .each _ p .at))
 
 cast-c : tie.Need-cast-c
@@ -66,8 +72,9 @@ mul-resize-store c =
     let u = c .before .before .before in
     let t = u .before .before in
     let d = t .before .before in
-    let s = d .before .before .before .before .before .before .before .before in
-    let b = base-low (s .args .s) (s .pre) _ _ (d .before .before .before .before .before .before .slot .ensures) (s .args .store .now) _ _ (lies (d .before .before)) (d .display-of .ensures) (t .if1 .taken) (asked (u .before)) (u .if2 .taken) in
+    let f = d .before .before .before .before .before in
+    let s = f .before .before .before in
+    let b = base-low (s .args .s) (s .pre) _ _ (f .before .slot .ensures) (s .args .store .now) _ _ (lies (d .before .before)) (d .display-of .ensures) (t .if1 .taken) (asked (u .before)) (u .if2 .taken) in
     omega (arith, b)
 
 cast-resize-store : tie.Need-cast-resize-store
@@ -82,8 +89,9 @@ resize-store-requires c κs =
     let u = v .before .before in
     let t = u .before .before in
     let d = t .before .before in
-    let s = d .before .before .before .before .before .before .before .before in
-    let w = d .before .before .before .before .before .before .slot .ensures in (
+    let f = d .before .before .before .before .before in
+    let s = f .before .before .before in
+    let w = f .before .slot .ensures in (
       pixels-in (s .args .s) (s .pre) _ _ w (s .args .store .now) _ _ (lies (d .before .before)) (d .display-of .ensures) (t .if1 .taken) (asked (u .before)) (u .if2 .taken),
       old-fits (s .args .s) (s .pre) _ _ w (s .args .store .now) _ _ (lies (d .before .before)) (d .display-of .ensures) (t .if1 .taken) (asked (u .before)) (u .if2 .taken),
       leb-true _ _ (sym (v .before .fits2 .ensures) ∙ v .if3 .taken),
@@ -98,8 +106,9 @@ returns c =
     let u = v .before .before in
     let t = u .before .before in
     let d = t .before .before in
-    let s = d .before .before .before .before .before .before .before .before in
-    takes-it (s .args .s) (s .pre) _ _ (d .before .before .before .before .before .before .slot .ensures) (s .args .store .now) _ _ (lies (d .before .before)) (d .display-of .ensures) (t .if1 .taken) (asked (u .before)) (u .if2 .taken)
+    let f = d .before .before .before .before .before in
+    let s = f .before .before .before in
+    takes-it (s .args .s) (s .pre) _ _ (f .before .slot .ensures) (s .args .store .now) _ _ (lies (d .before .before)) (d .display-of .ensures) (t .if1 .taken) (asked (u .before)) (u .if2 .taken)
     (v .before .fits2 .ensures) (v .if3 .taken) _ (c .before .before .resize-store .ensures)
 
 returns-2 : tie.Need-returns-2
@@ -107,22 +116,25 @@ returns-2 c =
     let u = c .before .before in
     let t = u .before .before in
     let d = t .before .before in
-    let s = d .before .before .before .before .before .before .before .before in
-    too-large (s .args .s) (s .pre) _ _ (d .before .before .before .before .before .before .slot .ensures) (s .args .store .now) _ _ (lies (d .before .before)) (d .display-of .ensures) (t .if1 .taken) (asked (u .before)) (u .if2 .taken)
+    let f = d .before .before .before .before .before in
+    let s = f .before .before .before in
+    too-large (s .args .s) (s .pre) _ _ (f .before .slot .ensures) (s .args .store .now) _ _ (lies (d .before .before)) (d .display-of .ensures) (t .if1 .taken) (asked (u .before)) (u .if2 .taken)
     (c .before .fits2 .ensures) (c .if3 .left)
 
 returns-3 : tie.Need-returns-3
 returns-3 c =
     let t = c .before .before in
     let d = t .before .before in
-    let s = d .before .before .before .before .before .before .before .before in
-    no-window (s .args .s) (s .pre) _ _ (d .before .before .before .before .before .before .slot .ensures) (s .args .store .now) _ _ (lies (d .before .before)) (d .display-of .ensures) (t .if1 .taken) (asked (c .before)) (c .if2 .left)
+    let f = d .before .before .before .before .before in
+    let s = f .before .before .before in
+    no-window (s .args .s) (s .pre) _ _ (f .before .slot .ensures) (s .args .store .now) _ _ (lies (d .before .before)) (d .display-of .ensures) (t .if1 .taken) (asked (c .before)) (c .if2 .left)
 
 returns-4 : tie.Need-returns-4
 returns-4 c =
     let d = c .before .before in
-    let s = d .before .before .before .before .before .before .before .before in
-    no-store (s .args .s) (s .pre) _ _ (d .before .before .before .before .before .before .slot .ensures) (s .args .store .now) _ _ (lies (d .before .before)) (d .display-of .ensures) (c .if1 .left)
+    let f = d .before .before .before .before .before in
+    let s = f .before .before .before in
+    no-store (s .args .s) (s .pre) _ _ (f .before .slot .ensures) (s .args .store .now) _ _ (lies (d .before .before)) (d .display-of .ensures) (c .if1 .left)
 
 pub plan-take-spec : {M : Type 1} → statement M
 plan-take-spec =
