@@ -2,14 +2,18 @@
 // behind a pointer.
 ghost use mathlib.Core.Path.{_≡_};
 ghost use mathlib.Core.Bool.{cond};
+ghost use mathlib.Core.List.{[], _∷_, map};
 ghost use Prim.Native.Nat.{_+_, _*_, _≤_, _<_};
 ghost use lib.Dec.{eqb};
 ghost use lib.ListN.{length, getD};
+ghost use Rattle.geom.specs.Lists.{outsideAll, relative, listIntersect};
 ghost use Rattle.geom.specs.Rect16.{rectOf, Small};
 ghost use Rattle.window.specs.Held.{RepDamage};
 ghost use Rattle.window.specs.inner.Ids.{noId};
 ghost use Rattle.rules.specs.Visible.{rectsOf};
+ghost use Rattle.rules.specs.Redraw.{drawRegions};
 ghost use Rattle.rules.specs.inner.Lent.{Lent};
+ghost use Rattle.order.specs.inner.Rects.{fullRect};
 ghost use Rattle.windows.specs.View.{Given};
 ghost use Rattle.roqshyn.specs.inner.Redraw.{paintedAt, Flagged, LaidOut, PlansRedraw, SomeTurn, DrawsTurn, free};
 use due::Due;
@@ -18,7 +22,6 @@ use geom::inner::bools::either;
 use geom::inner::rect16::Rect16;
 use order::rects;
 use order::rects::Rects;
-use order::rects::dirty_of;
 use window::damage::Damage;
 use window::ids::Place;
 use window::ids::WinId;
@@ -143,7 +146,41 @@ pub fn place(order: Order, p: usize) -> usize
     id.0 as usize
 }
 
-// Draws a window that lies there and has this damage, under n rectangles. Its pixels begin at `base` of the store.
+// Draws all that is seen of a window that lies there, under n rectangles. The full rectangle is lent by itself: a list
+// with room for every entry would be cleared and copied for each window.
+fn draw_whole(
+    area: Rect16,
+    base: usize,
+    above: &[u32],
+    n: usize,
+    store: &[u32],
+    screen: &mut [u32],
+    sw: u32,
+    sh: u32,
+    dim: bool,
+)
+    requires { ⌜ Small (rectOf area) × (base + area .w * area .h ≤ length (now store)) × Lent n (now above) × (n ≤ 16) ⌝ }
+    requires { ⌜ (sw ≤ 32767) × (sh ≤ 32767) × (length (now screen) ≡ sw * sh) ⌝ }
+    ensures { λ _. ⌜ now (screen .exit) ≡ drawRegions dim (rectOf area) base (now (store .entry)) sw sh (listIntersect (map (relative (rectOf area)) (outsideAll (rectOf area ∷ []) (rectsOf n (now (above .entry))))) (fullRect ∷ [])) (now (screen .entry)) ⌝ }
+{
+    let whole = [0u32, 0, 4294967295, 4294967295];
+    visible::draw::draw(
+        area.rect(),
+        base,
+        above,
+        n,
+        &whole,
+        1,
+        store,
+        screen,
+        sw,
+        sh,
+        dim,
+    );
+}
+
+// Draws a window that lies there and has this damage, under n rectangles, where it is dirty: everywhere if the redraw
+// is full or there is no entry. Its pixels begin at `base` of the store.
 fn draw_area(
     area: Rect16,
     damage: Damage,
@@ -161,7 +198,11 @@ fn draw_area(
     requires { ⌜ (sw ≤ 32767) × (sh ≤ 32767) × (length (now screen) ≡ sw * sh) ⌝ }
     ensures { λ _. ⌜ now (screen .exit) ≡ paintedAt dim area damage full base (rectsOf n (now (above .entry))) (now (store .entry)) sw sh (now (screen .entry)) ⌝ }
 {
-    let dirty = dirty_of(full, damage);
+    if either(full, damage.len == 0) {
+        draw_whole(area, base, above, n, store, screen, sw, sh, dim);
+        return;
+    }
+    let dirty = Rects::of_damage(damage);
     let entries = dirty.numbers;
     visible::draw::draw(
         area.rect(),

@@ -32,7 +32,7 @@ use Rattle.rules.specs.Redraw.{isDrawn, drawRegions, drawWindow, clean, cleanAl
 use Rattle.rules.specs.Redraw as Draw
 use Rattle.rules.specs.Store.{whole}
 use Rattle.rules.specs.Calls.{Redraw, does}
-use Rattle.rules.specs.inner.Lent.{Lent}
+use Rattle.rules.specs.inner.Lent.{AllFit, Lent}
 use Rattle.due.specs.declared.Due.{Due}
 use Rattle.order.specs.inner.Rects.{dirtyOf}
 use Rattle.windows.specs.declared.Session.{Session}
@@ -76,6 +76,11 @@ area-drawn dim a d full base bs store sw sh screen r ds screen′ s e k q =
     let m : full || true ≡ true = or-true full true refl in
     lent-drawn dim w full base bs store sw sh screen r ds screen′ s m e k q
     ∙ ap (λ (b : Bool). cond b (paintedAt dim a d full base bs store sw sh screen) screen) m
+
+-- the full rectangle as numbers
+pub lends-full : Lent 1 (0 ∷ 0 ∷ 4294967295 ∷ 4294967295 ∷ [])
+unfolding AllFit
+lends-full = record { room = omega arith; fit = (omega arith, tt) }
 
 -- question 8 as facts
 pub sizes : (s : Session) (sw sh store screen : ℕ) → Fitting s sw sh store screen → (sw ≤ 32767) × (sh ≤ 32767) × (screen ≡ sw * sh)
