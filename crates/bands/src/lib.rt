@@ -11,12 +11,12 @@ pub mod row;
 pub mod scan;
 pub mod sort;
 
+use geom::Listing;
 use geom::Rect;
-use sheet::Count;
 
 // Writes the sheet of a window at `at` under n rectangles, relative to the window: its bands are found as numbers first, at most
 // 31 of them with three numbers and two for each of 16 intervals, then written as bits.
-pub fn write(at: Rect, above: &[u32], n: usize, out: &mut [u8]) -> Count
+pub fn write(at: Rect, above: &[u32], n: usize, out: &mut [u8]) -> Listing
     requires { ⌜ Lent n (now above) × (n ≤ 15) × Small at ⌝ }
     ensures { λ r. ⌜ Writes (seenUnder at (rectsOf n (now (above .entry)))) (now (out .entry)) r (now (out .exit)) ⌝ }
 {

@@ -4,9 +4,10 @@ use crate::numbers;
 use geom::Intersection;
 use geom::Rect;
 use geom::Tested;
+use geom::answers::OK;
 use script::kind;
 
-pub fn asked(k: u8, ns: &[u32; 4200], out: &mut [u8; 65536], at: usize) -> usize
+pub fn rect_line(k: u8, ns: &[u32; 4200], out: &mut [u8; 65536], at: usize) -> usize
     requires { ⌜ at ≤ 65536 ⌝ }
     ensures { λ r. ⌜ r ≤ 65536 ⌝ }
 {
@@ -22,7 +23,7 @@ pub fn asked(k: u8, ns: &[u32; 4200], out: &mut [u8; 65536], at: usize) -> usize
     }
 }
 
-pub fn put_rect(r: Rect, out: &mut [u8; 65536], at: usize) -> usize
+pub fn write_rect(r: Rect, out: &mut [u8; 65536], at: usize) -> usize
     requires { ⌜ at ≤ 65536 ⌝ }
     ensures { λ r. ⌜ r ≤ 65536 ⌝ }
 {
@@ -38,7 +39,7 @@ fn found(r: Rect, out: &mut [u8; 65536], at: usize) -> usize
     ensures { λ r. ⌜ r ≤ 65536 ⌝ }
 {
     let to = answer_text::number(out, at, 0);
-    let then = put_rect(r, out, to);
+    let then = write_rect(r, out, to);
     answer_text::end(out, then)
 }
 
@@ -68,7 +69,7 @@ fn union(a: Rect, b: Rect, out: &mut [u8; 65536], at: usize) -> usize
     ensures { λ r. ⌜ r ≤ 65536 ⌝ }
 {
     let joined = a.union(b);
-    if joined.answer == 0 {
+    if joined.answer == OK {
         let r = joined.rect;
         return found(r, out, at);
     }
@@ -80,19 +81,19 @@ fn pieces(a: Rect, b: Rect, out: &mut [u8; 65536], at: usize) -> usize
     ensures { λ r. ⌜ r ≤ 65536 ⌝ }
 {
     let outside = a.not_intersect(b);
-    if outside.answer == 0 {
+    if outside.answer == OK {
         let list = outside.pieces;
         let rects = list.rects;
         let n = list.count;
         let to = answer_text::number(out, at, 0);
         let then = answer_text::more(out, to, n as u32);
-        let last = put_rects(rects, n, out, then);
+        let last = write_rects(rects, n, out, then);
         return answer_text::end(out, last);
     }
     answer_text::answer(out, at, outside.answer)
 }
 
-fn put_rects(rects: [Rect; 4], n: usize, out: &mut [u8; 65536], at: usize) -> usize
+fn write_rects(rects: [Rect; 4], n: usize, out: &mut [u8; 65536], at: usize) -> usize
     requires { ⌜ (n ≤ 4) × (at ≤ 65536) ⌝ }
     ensures { λ r. ⌜ r ≤ 65536 ⌝ }
 {
@@ -100,7 +101,7 @@ fn put_rects(rects: [Rect; 4], n: usize, out: &mut [u8; 65536], at: usize) -> us
     let mut i: usize = 0;
     while i < n {
         let r = rects[i];
-        to = put_rect(r, out, to);
+        to = write_rect(r, out, to);
         i += 1;
     }
     to
@@ -110,7 +111,7 @@ fn tested(t: Tested, out: &mut [u8; 65536], at: usize) -> usize
     requires { ⌜ at ≤ 65536 ⌝ }
     ensures { λ r. ⌜ r ≤ 65536 ⌝ }
 {
-    if t.answer == 0 {
+    if t.answer == OK {
         let to = answer_text::number(out, at, 0);
         let then = answer_text::more(out, to, t.yes as u32);
         return answer_text::end(out, then);

@@ -4,11 +4,12 @@ ghost use lib.ListN.{length};
 ghost use Rattle.script.specs.Kind as Kind;
 ghost use Rattle.bare_lines.specs.Numbers.{num, Sound};
 use crate::numbers;
+use geom::answers::OK;
 use script::Line;
 use script::kind;
 use winbuf::Altered;
 
-pub fn asked(line: Line, ns: &mut [u32; 4200], out: &mut [u8; 65536], at: usize) -> usize
+pub fn pixel_line(line: Line, ns: &mut [u32; 4200], out: &mut [u8; 65536], at: usize) -> usize
     requires { ⌜ Sound line (now ns) × (Kind.scanline ≤ line .kind) × (line .kind ≤ Kind.region) × (at ≤ 65536) ⌝ }
     ensures { λ r. ⌜ r ≤ 65536 ⌝ }
 {
@@ -23,11 +24,11 @@ pub fn asked(line: Line, ns: &mut [u32; 4200], out: &mut [u8; 65536], at: usize)
 }
 
 // A line of the answer and, where it is 0, the numbers of a part.
-pub fn put(answer: u32, part: &[u32], out: &mut [u8; 65536], at: usize) -> usize
+pub fn write_part(answer: u32, part: &[u32], out: &mut [u8; 65536], at: usize) -> usize
     requires { ⌜ at ≤ 65536 ⌝ }
     ensures { λ r. ⌜ r ≤ 65536 ⌝ }
 {
-    if answer == 0 {
+    if answer == OK {
         let to = answer_text::number(out, at, 0);
         let then = answer_text::all(out, to, part);
         return answer_text::end(out, then);
@@ -36,11 +37,11 @@ pub fn put(answer: u32, part: &[u32], out: &mut [u8; 65536], at: usize) -> usize
 }
 
 // A line of the answer and, where it is 0, how many pixels were altered and then all of them.
-fn put_written(written: Altered, pixels: &[u32], out: &mut [u8; 65536], at: usize) -> usize
+fn write_altered(written: Altered, pixels: &[u32], out: &mut [u8; 65536], at: usize) -> usize
     requires { ⌜ at ≤ 65536 ⌝ }
     ensures { λ r. ⌜ r ≤ 65536 ⌝ }
 {
-    if written.answer == 0 {
+    if written.answer == OK {
         let to = answer_text::number(out, at, 0);
         let then = answer_text::count(out, to, written.altered);
         let last = answer_text::all(out, then, pixels);
@@ -74,22 +75,22 @@ fn scanline(ns: &[u32], count: usize, out: &mut [u8; 65536], at: usize) -> usize
     requires { ⌜ (5 ≤ count) × (count ≤ length (now ns)) × (at ≤ 65536) ⌝ }
     ensures { λ r. ⌜ r ≤ 65536 ⌝ }
 {
-    let mut answer: u32 = 0;
+    let mut answer: u32 = OK;
     let pixels = &ns[5..count];
     let s = scan_of(ns);
     let part = winbuf::scanline_rgn(pixels, s.w, s.h, s.line, s.ofs, s.len, &mut answer);
-    put(answer, part, out, at)
+    write_part(answer, part, out, at)
 }
 
 fn region(ns: &[u32], count: usize, out: &mut [u8; 65536], at: usize) -> usize
     requires { ⌜ (5 ≤ count) × (count ≤ length (now ns)) × (at ≤ 65536) ⌝ }
     ensures { λ r. ⌜ r ≤ 65536 ⌝ }
 {
-    let mut answer: u32 = 0;
+    let mut answer: u32 = OK;
     let pixels = &ns[5..count];
     let stride = numbers::wide(ns[4]);
     let part = stride::region_of(pixels, stride, ns[0], ns[1], ns[2], ns[3], &mut answer);
-    put(answer, part, out, at)
+    write_part(answer, part, out, at)
 }
 
 fn fill_scanline(ns: &mut [u32], count: usize, out: &mut [u8; 65536], at: usize) -> usize
@@ -99,7 +100,7 @@ fn fill_scanline(ns: &mut [u32], count: usize, out: &mut [u8; 65536], at: usize)
     let s = scan_of(ns);
     let value = ns[5];
     let written = winbuf::fill_scanline(&mut ns[6..count], s.w, s.h, s.line, s.ofs, s.len, value);
-    put_written(written, &ns[6..count], out, at)
+    write_altered(written, &ns[6..count], out, at)
 }
 
 // The data of the line, apart from its pixels, so that these can be written.
@@ -130,5 +131,5 @@ fn set_scanline(ns: &mut [u32], count: usize, out: &mut [u8; 65536], at: usize) 
     let data = copied(ns, n);
     let from = 6 + n;
     let written = set(&mut ns[from..count], s, &data, n);
-    put_written(written, &ns[from..count], out, at)
+    write_altered(written, &ns[from..count], out, at)
 }

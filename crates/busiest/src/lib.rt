@@ -1,6 +1,9 @@
 // The busiest second of a run of event times. Document 02, N13.
 ghost use mathlib.Core.Path.{_≡_};
 ghost use Rattle.busiest.specs.Busiest.{busiest, refused};
+use geom::answers::OK;
+use geom::answers::RUN_LENGTH;
+use geom::answers::TIMES_DESCEND;
 
 // The greatest count of a second and the place of its first event, with the answer 0; or 26 or 27, and both are 0.
 #[repr(C)]
@@ -26,7 +29,7 @@ pub fn busiest(times: &[u32]) -> Second
     ensures { λ r. ⌜ r ≡ busiest (now (times .entry)) ⌝ }
 {
     if times.len() > 4096 {
-        return refused(26);
+        return refused(RUN_LENGTH);
     }
     let mut first: usize = 0;
     let mut next: usize = 0;
@@ -36,7 +39,7 @@ pub fn busiest(times: &[u32]) -> Second
     while next < times.len() {
         let time = times[next];
         if time < before {
-            return refused(27);
+            return refused(TIMES_DESCEND);
         }
         if time - times[first] < 1000 {
             before = time;
@@ -50,7 +53,7 @@ pub fn busiest(times: &[u32]) -> Second
         }
     }
     Second {
-        answer: 0,
+        answer: OK,
         count,
         place,
     }

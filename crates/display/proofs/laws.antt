@@ -2,4 +2,4 @@
 pub mod Regions
 pub mod Search
 pub mod Added
-pub mod Dims
+pub mod Update

@@ -1,3 +1,3 @@
 -- How the displays are held.
-pub mod Held
+pub mod Represents
 pub mod inner

@@ -1,2 +1,2 @@
 -- What our own functions say: nobody has to believe it.
-pub mod Dims
+pub mod Update

@@ -7,18 +7,23 @@ ghost use Prim.Native.Nat.{_≤_};
 ghost use Rattle.geom.specs.Displays.{firstOn, closestTo, displayFor};
 ghost use Rattle.geom.specs.Rect16.{Small};
 ghost use Rattle.rules.specs.Displays.{onScreen};
-ghost use Rattle.display.specs.Held.{regions, RepDisplays, regionOf, locatedOf, Adds};
+ghost use Rattle.display.specs.Represents.{regions, RepDisplays, regionOf, locatedOf, Adds};
 use geom::Pos;
 use geom::Rect;
+use geom::answers::DISPLAY_SIZE;
+use geom::answers::OK;
+use geom::answers::TOO_LARGE;
+use geom::answers::TOO_MANY_DISPLAYS;
 use geom::inner::bottom;
 use geom::inner::clamp_pos;
 use geom::inner::dist_sq;
 use geom::inner::is_empty;
 use geom::inner::rect16::Rect16;
 use geom::inner::right;
+use geom::inner::small::MOST;
 use geom::inner::small::is_small;
 
-pub mod dims;
+pub mod update;
 
 // The first `len` areas.
 #[repr(C)]
@@ -53,10 +58,10 @@ fn on_screen(r: Rect) -> bool
     if is_empty(r) {
         return false;
     }
-    if 32767 < right(r) {
+    if MOST < right(r) {
         return false;
     }
-    bottom(r) <= 32767
+    bottom(r) <= MOST
 }
 
 impl Displays {
@@ -78,14 +83,14 @@ impl Displays {
         requires { ⌜ RepDisplays self ⌝ }
         ensures { λ r. ⌜ Adds self region r ⌝ }
     {
-        let mut answer: u32 = 5;
+        let mut answer: u32 = TOO_LARGE;
         if is_small(region) {
-            answer = 15;
+            answer = DISPLAY_SIZE;
             if on_screen(region) {
-                answer = 16;
+                answer = TOO_MANY_DISPLAYS;
                 let n = self.len;
                 if n < 8 {
-                    answer = 0;
+                    answer = OK;
                     let last = Rect16::new(
                         region.pos.x,
                         region.pos.y,

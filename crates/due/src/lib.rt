@@ -78,13 +78,13 @@ impl Due {
     }
 
     // A walk from the bottom, full if told so or owed, in place of one before it.
-    pub fn begin(self, told: bool, shown: usize) -> Due
-        ensures { λ r. ⌜ r ≡ begun told self shown ⌝ }
+    pub fn begin(self, forced: bool, shown: usize) -> Due
+        ensures { λ r. ⌜ r ≡ begun forced self shown ⌝ }
     {
         let walk = Walk {
             next: Place(0),
             on: true,
-            full: either(told, self.owed),
+            full: either(forced, self.owed),
         };
         walk.settled(self.owed, shown)
     }

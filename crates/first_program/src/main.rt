@@ -6,6 +6,7 @@ ghost use Rattle.windows.specs.View.{eventIn};
 ghost use Rattle.first_program.specs.inner.Press.{isPress};
 use geom::Dims;
 use geom::Rect;
+use geom::answers::OK;
 use window::Event;
 use window::ids::WinId;
 use windows::NextEvent;
@@ -17,13 +18,13 @@ fn main() {
     let mut screen = [5u32; 6];
 
     let begun = Session::start(4);
-    check::expect(begun.answer == 0);
+    check::expect(begun.answer == OK);
     // A window takes the smallest unused id, here 0.
     let made = begun.session.create();
-    check::expect(made.answer == 0);
+    check::expect(made.answer == OK);
     let panel = WinId(0);
     let sized = made.session.resize(panel, Dims::new(2, 2), &mut store);
-    check::expect(sized.answer == 0);
+    check::expect(sized.answer == OK);
     let shown = sized.session.show(panel);
 
     // The panel's pixels become 7 in the store, and by the redraw on the screen.
@@ -32,7 +33,7 @@ fn main() {
     check::expect(filled.altered == 4);
     let marked = filled.session.mark(panel);
     let drawn = marked.session.redraw(false, &store, &mut screen, 3, 2);
-    check::expect(drawn.answer == 0);
+    check::expect(drawn.answer == OK);
     check::expect(screen[1] == 7);
     check::expect(screen[2] == 5);
 
@@ -42,10 +43,10 @@ fn main() {
         y: 1,
         button: 1,
     });
-    check::expect(pressed.answer == 0);
+    check::expect(pressed.answer == OK);
     let first = pressed.session.pop(panel);
     let second = first.session.pop(panel);
-    check::expect(second.answer == 0);
+    check::expect(second.answer == OK);
     let event = second.event;
     check::expect(is_press(event, 1, 1));
     scanlines();
@@ -56,7 +57,7 @@ fn main() {
 fn scanlines() {
     let mut pixels = [5u32; 6];
     let range = winbuf::scanline_range(pixels.len(), 3, 2, 1, 1, 9);
-    check::expect(range.answer == 0);
+    check::expect(range.answer == OK);
     let start = range.start;
     let count = range.count;
     let part = &mut pixels[start..start + count];

@@ -8,6 +8,7 @@ ghost use Rattle.geom.specs.inner.Fits.{Fits};
 ghost use Rattle.geom.specs.Bare.{edgesFit, bothFit};
 
 pub mod bools;
+pub mod lent;
 pub mod numbers;
 pub mod pieces;
 pub mod rect16;

@@ -5,7 +5,10 @@
 ghost use mathlib.Core.Path.{_≡_};
 ghost use Rattle.geom.specs.Geom.{rect};
 ghost use Rattle.geom.specs.Bare.{met, bareContains, bareContainsRect, bareWithin, bareIntersect, bareUnion, BareNotIntersect};
+use crate::answers::EDGE_TOO_LARGE;
+use crate::answers::OK;
 
+pub mod answers;
 pub mod inner;
 
 #[repr(C)]
@@ -24,6 +27,13 @@ pub struct Dims {
 pub struct Rect {
     pub pos: Pos,
     pub dims: Dims,
+}
+
+// The answer, and how many rectangles were listed or bytes written: none where the call was refused.
+#[repr(C)]
+pub struct Listing {
+    pub answer: u32,
+    pub count: usize,
 }
 
 // A test's answer: 0, or 14 with `yes` false.
@@ -168,10 +178,10 @@ impl Rect {
     {
         if inner::edges_fit(self) {
             let yes = inner::contains(self, pt.x, pt.y);
-            return Tested { answer: 0, yes };
+            return Tested { answer: OK, yes };
         }
         Tested {
-            answer: 14,
+            answer: EDGE_TOO_LARGE,
             yes: false,
         }
     }
@@ -182,10 +192,10 @@ impl Rect {
     {
         if inner::both_fit(self, r) {
             let yes = inner::contains_rect(self, r);
-            return Tested { answer: 0, yes };
+            return Tested { answer: OK, yes };
         }
         Tested {
-            answer: 14,
+            answer: EDGE_TOO_LARGE,
             yes: false,
         }
     }
@@ -196,10 +206,10 @@ impl Rect {
     {
         if inner::edges_fit(self) {
             let yes = inner::within(self, w, h);
-            return Tested { answer: 0, yes };
+            return Tested { answer: OK, yes };
         }
         Tested {
-            answer: 14,
+            answer: EDGE_TOO_LARGE,
             yes: false,
         }
     }
@@ -223,10 +233,10 @@ impl Rect {
     {
         if inner::both_fit(self, other) {
             let rect = inner::union(self, other);
-            return United { answer: 0, rect };
+            return United { answer: OK, rect };
         }
         United {
-            answer: 14,
+            answer: EDGE_TOO_LARGE,
             rect: Rect::new(0, 0, 0, 0),
         }
     }
@@ -237,10 +247,10 @@ impl Rect {
     {
         if inner::both_fit(self, other) {
             let pieces = inner::pieces::outside(self, other);
-            return NotIntersect { answer: 0, pieces };
+            return NotIntersect { answer: OK, pieces };
         }
         NotIntersect {
-            answer: 14,
+            answer: EDGE_TOO_LARGE,
             pieces: inner::pieces::none(),
         }
     }

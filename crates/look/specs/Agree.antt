@@ -10,7 +10,7 @@ use Rattle.look.specs.declared.Look.{Look}
 use Rattle.look.specs.declared.Sizes.{Sizes}
 use Rattle.look.specs.declared.Steps.{Steps}
 use Rattle.look.specs.Floats.{isFactor, isCorner, allowed}
-use Rattle.look.specs.View.{Taken, takenOf, windowPixel, place, view}
+use Rattle.look.specs.View.{Lens, lensOf, windowPixel, place, view}
 use Rattle.look.specs.Quarters.{IsQuarters, stepOf, stepsOf, placeQuarters}
 
 -- Floats and whole quarters -----------------------------------------------------------------------------------------------
@@ -25,7 +25,7 @@ pub record Small (s : Sizes) : Type 0 where
 pub data Axis : Type 0 where
   across downward : Axis
 
-abbrev pub corner : Axis → Taken → Float
+abbrev pub corner : Axis → Lens → Float
 corner across t = t .x
 corner downward t = t .y
 
@@ -38,7 +38,7 @@ quarterCorner downward t = t .y
 abbrev pub Agree : Type 0
 Agree =
     (l : Look) (s : Sizes) → allowed l ≡ true → Small s → (a : Axis) (i : ℕ) → i < 32767
-    → place (corner a (takenOf l s)) (takenOf l s .factor) i ≡ placeQuarters (quarterCorner a (stepsOf l s)) (stepsOf l s .step) i
+    → place (corner a (lensOf l s)) (lensOf l s .factor) i ≡ placeQuarters (quarterCorner a (stepsOf l s)) (stepsOf l s .step) i
 
 -- Which f64 are accepted --------------------------------------------------------------------------------------------------
 
@@ -71,7 +71,7 @@ pub record Shows (l : Look) (s : Sizes) (base : ℕ) (store : List ℕ) : Type 0
   pub size : length (view l s base store) ≡ s .tw * s .th
   pub each : (i j : ℕ) → i < s .tw → j < s .th
       → getD (view l s base store) (j * s .tw + i) 0
-      ≡ windowPixel base (s .w) (s .h) store (place (takenOf l s .x) (takenOf l s .factor) i) (place (takenOf l s .y) (takenOf l s .factor) j)
+      ≡ windowPixel base (s .w) (s .h) store (place (lensOf l s .x) (lensOf l s .factor) i) (place (lensOf l s .y) (lensOf l s .factor) j)
 
 abbrev pub EachPixel : Type 0
 EachPixel = (l : Look) (s : Sizes) (base : ℕ) (store : List ℕ) → Shows l s base store

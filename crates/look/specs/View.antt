@@ -35,7 +35,7 @@ shown col row s base store = picture (λ i j. windowPixel base (s .w) (s .h) sto
 -- A look --------------------------------------------------------------------------------------------------------------
 
 -- what a look takes: its corner and its factor
-pub record Taken : Type 0 where
+pub record Lens : Type 0 where
   pub x : Float
   pub y : Float
   pub factor : Float
@@ -44,12 +44,12 @@ abbrev pub zeroFloat : Float
 zeroFloat = fin false 0 (pos 0)
 
 -- "Fit takes corner (0,0), whatever corner was given"
-abbrev pub takes : Zoom → Float → Float → Sizes → Taken
-takes (Factor f) x y s = record { x = x; y = y; factor = f }
-takes Fit x y s = record { x = zeroFloat; y = zeroFloat; factor = fitFactor s }
+abbrev pub lens : Zoom → Float → Float → Sizes → Lens
+lens (Factor f) x y s = record { x = x; y = y; factor = f }
+lens Fit x y s = record { x = zeroFloat; y = zeroFloat; factor = fitFactor s }
 
-abbrev pub takenOf : Look → Sizes → Taken
-takenOf l s = takes (l .zoom) (l .x) (l .y) s
+abbrev pub lensOf : Look → Sizes → Lens
+lensOf l s = lens (l .zoom) (l .x) (l .y) s
 
 -- a look that fits, from a corner that does not matter
 abbrev pub fitAt : Float → Float → Look
@@ -61,7 +61,7 @@ place corner factor i = toUnsigned 64 (add binary64 corner (div binary64 (ofInt 
 
 -- "Target pixel (i,j) is the window pixel at (x + i / factor, y + j / factor), each sum rounded down; 0 outside the window."
 unfoldable pub view : Look → Sizes → ℕ → List ℕ → List ℕ
-view l s base store = let t = takenOf l s in shown (place (t .x) (t .factor)) (place (t .y) (t .factor)) s base store
+view l s base store = let t = lensOf l s in shown (place (t .x) (t .factor)) (place (t .y) (t .factor)) s base store
 
 -- "1 to 32,767"
 abbrev pub isSide : ℕ → Bool

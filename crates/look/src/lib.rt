@@ -9,6 +9,10 @@ ghost use Prim.Native.Nat.{_+_, _*_, _≤_};
 ghost use lib.ListN.{length};
 ghost use Rattle.look.specs.View.{isSide, targetFits};
 ghost use Rattle.look.specs.inner.Steps.{Looks};
+use geom::answers::LOOK;
+use geom::answers::OK;
+use geom::answers::TARGET_SIZE;
+use geom::inner::small::MOST;
 use rows::look_rows;
 use whole::Whole;
 use whole::whole_of;
@@ -50,7 +54,7 @@ pub struct Steps {
 fn is_side(n: u32) -> bool
     ensures { λ r. ⌜ r ≡ isSide n ⌝ }
 {
-    1 <= n && n <= 32767
+    1 <= n && n <= MOST
 }
 
 // Question 23, of a target of `len` pixels.
@@ -87,11 +91,11 @@ pub fn look_window(
     };
     let whole = whole_of(look, sizes);
     let Whole::Steps(t) = whole else {
-        return 22;
+        return LOOK;
     };
     if target_fits(target.len(), tw, th) {
         look_rows(target, tw as u16, th as usize, store, base, w, h, t);
-        return 0;
+        return OK;
     }
-    23
+    TARGET_SIZE
 }

@@ -15,5 +15,5 @@ abbrev pub ids : ℕ → List WinId → List ℕ
 ids n l = map num (take n l)
 
 -- the window that is remembered: an id below 16 is its own, and any other says that there is none
-abbrev pub heldOf : WinId → Option ℕ
-heldOf i = cond (ltb (i .0) 16) (some (i .0)) none
+abbrev pub grabOf : WinId → Option ℕ
+grabOf i = cond (ltb (i .0) 16) (some (i .0)) none

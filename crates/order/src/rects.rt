@@ -2,13 +2,13 @@
 ghost use mathlib.Core.List.{[], _∷_, map};
 ghost use Prim.Native.Nat.{_≤_};
 ghost use lib.ListN.{drop};
-ghost use Rattle.window.specs.Held.{rects, RepDamage};
+ghost use Rattle.window.specs.Represents.{rects, RepDamage};
 ghost use Rattle.order.specs.Ids.{ids};
 ghost use Rattle.order.specs.inner.Frames.{frameAt, Shown};
 ghost use Rattle.order.specs.inner.Rects.{Holds, fullRect, dirtyOf};
 use geom::Rect;
 use geom::inner::bools::either;
-use geom::inner::numbers::put;
+use geom::inner::numbers::write_rect;
 use geom::inner::rect16::Rect16;
 use window::damage::Damage;
 use window::ids::Place;
@@ -25,7 +25,7 @@ impl Rects {
         ensures { λ r. ⌜ Holds r (fullRect ∷ []) ⌝ }
     {
         let mut numbers = [0u32; 64];
-        put(&mut numbers, 0, Rect::FULL);
+        write_rect(&mut numbers, 0, Rect::FULL);
         Rects { numbers, len: 1 }
     }
 
@@ -39,7 +39,7 @@ impl Rects {
         let mut i: usize = 0;
         while i < n {
             let area = d.areas[i];
-            put(&mut numbers, i, area.rect());
+            write_rect(&mut numbers, i, area.rect());
             i += 1;
         }
         Rects { numbers, len: n }
@@ -69,7 +69,7 @@ pub fn from(areas: [Rect16; 16], order: [WinId; 16], shown: usize, p: Place) -> 
         let id = order[next];
         let at = id.0 as usize;
         let area = areas[at];
-        put(&mut numbers, i, area.rect());
+        write_rect(&mut numbers, i, area.rect());
         next += 1;
         i += 1;
     }

@@ -16,7 +16,7 @@ use Rattle.rules.specs.Calls as Call
 use Rattle.rules.specs.Calls.{Call, does}
 use Rattle.windows.specs.declared.Session.{Session}
 use Rattle.windows.specs.declared.Done.{Done}
-use Rattle.windows.specs.declared.Listing.{Listing}
+use Rattle.geom.specs.declared.Listing.{Listing}
 use Rattle.windows.specs.View.{group, Meets}
 use Rattle.replay.specs.declared.player.Player.{Player}
 use Rattle.bare_lines.specs.Numbers.{num, idOf}

@@ -134,7 +134,7 @@ fn put_event(event: NextEvent, out: &mut [u8; 65536], at: usize) -> usize
     ensures { λ r. ⌜ r ≤ 65536 ⌝ }
 {
     match event {
-        NextEvent::Event(e) => events::put(e, out, at),
+        NextEvent::Event(e) => events::write_event(e, out, at),
         NextEvent::Absent => at,
     }
 }

@@ -8,40 +8,41 @@ use crate::player::Player;
 use bare_lines::geometry;
 use bare_lines::numbers;
 use display::Located;
+use geom::answers::OK;
 use windows::ForPos;
 use windows::Session;
 
-fn asked(s: Session, ns: &[u32; 4200]) -> ForPos
+fn locate(s: Session, ns: &[u32; 4200]) -> ForPos
     requires { ⌜ Given s ⌝ }
     ensures { λ r. ⌜ Locates (group s) (num (now (ns .entry)) 0) (num (now (ns .entry)) 1) r ⌝ }
 {
     s.get_display_for_pos(numbers::pos(ns, 0))
 }
 
-fn put_located(located: Located, out: &mut [u8; 65536], at: usize) -> usize
+fn write_located(located: Located, out: &mut [u8; 65536], at: usize) -> usize
     requires { ⌜ at ≤ 65536 ⌝ }
     ensures { λ r. ⌜ r ≤ 65536 ⌝ }
 {
     match located {
         Located::On(r) => {
             let to = answer_text::word(out, at, b"on");
-            geometry::put_rect(r, out, to)
+            geometry::write_rect(r, out, to)
         }
         Located::Closest(r) => {
             let to = answer_text::word(out, at, b"closest");
-            geometry::put_rect(r, out, to)
+            geometry::write_rect(r, out, to)
         }
     }
 }
 
-fn put(found: ForPos, out: &mut [u8; 65536], at: usize) -> usize
+fn write_for_pos(found: ForPos, out: &mut [u8; 65536], at: usize) -> usize
     requires { ⌜ at ≤ 65536 ⌝ }
     ensures { λ r. ⌜ r ≤ 65536 ⌝ }
 {
-    if found.answer == 0 {
+    if found.answer == OK {
         let located = found.located;
         let to = answer_text::number(out, at, 0);
-        let then = put_located(located, out, to);
+        let then = write_located(located, out, to);
         return answer_text::end(out, then);
     }
     answer_text::answer(out, at, found.answer)
@@ -52,7 +53,7 @@ pub fn display_at(mut p: Player, ns: &[u32; 4200], out: &mut [u8; 65536]) -> Pla
     ensures { λ r. ⌜ Next p (p .session) r ⌝ }
 {
     let s = p.session;
-    let found = asked(s, ns);
-    p.at = put(found, out, p.at);
+    let found = locate(s, ns);
+    p.at = write_for_pos(found, out, p.at);
     p
 }

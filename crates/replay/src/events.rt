@@ -44,7 +44,7 @@ pub fn event(line: Line, ns: &[u32; 4200]) -> Event
     }
 }
 
-fn put_key(name: &[u8], v: u32, out: &mut [u8; 65536], at: usize) -> usize
+fn write_key(name: &[u8], v: u32, out: &mut [u8; 65536], at: usize) -> usize
     requires { ⌜ at ≤ 65536 ⌝ }
     ensures { λ r. ⌜ r ≤ 65536 ⌝ }
 {
@@ -52,59 +52,59 @@ fn put_key(name: &[u8], v: u32, out: &mut [u8; 65536], at: usize) -> usize
     answer_text::more(out, to, v)
 }
 
-fn put_point(name: &[u8], x: u32, y: u32, out: &mut [u8; 65536], at: usize) -> usize
+fn write_point(name: &[u8], x: u32, y: u32, out: &mut [u8; 65536], at: usize) -> usize
     requires { ⌜ at ≤ 65536 ⌝ }
     ensures { λ r. ⌜ r ≤ 65536 ⌝ }
 {
-    let to = put_key(name, x, out, at);
+    let to = write_key(name, x, out, at);
     answer_text::more(out, to, y)
 }
 
 // A point and a button.
-fn put_press(name: &[u8], x: u32, y: u32, b: u8, out: &mut [u8; 65536], at: usize) -> usize
+fn write_press(name: &[u8], x: u32, y: u32, b: u8, out: &mut [u8; 65536], at: usize) -> usize
     requires { ⌜ at ≤ 65536 ⌝ }
     ensures { λ r. ⌜ r ≤ 65536 ⌝ }
 {
-    let to = put_point(name, x, y, out, at);
+    let to = write_point(name, x, y, out, at);
     answer_text::more(out, to, b as u32)
 }
 
 // The name of an event that has no point, and its value.
-fn put_plain(e: Event, out: &mut [u8; 65536], at: usize) -> usize
+fn write_plain(e: Event, out: &mut [u8; 65536], at: usize) -> usize
     requires { ⌜ at ≤ 65536 ⌝ }
     ensures { λ r. ⌜ r ≤ 65536 ⌝ }
 {
     match e {
-        Event::KeyDown(v) => put_key(b"KeyDown", v, out, at),
-        Event::KeyUp(v) => put_key(b"KeyUp", v, out, at),
-        Event::KeyFire(v) => put_key(b"KeyFire", v, out, at),
-        Event::Text(v) => put_key(b"Text", v, out, at),
+        Event::KeyDown(v) => write_key(b"KeyDown", v, out, at),
+        Event::KeyUp(v) => write_key(b"KeyUp", v, out, at),
+        Event::KeyFire(v) => write_key(b"KeyFire", v, out, at),
+        Event::Text(v) => write_key(b"Text", v, out, at),
         _ => answer_text::word(out, at, b"Resize"),
     }
 }
 
 // The name of an event and its values.
-pub fn put(e: Event, out: &mut [u8; 65536], at: usize) -> usize
+pub fn write_event(e: Event, out: &mut [u8; 65536], at: usize) -> usize
     requires { ⌜ at ≤ 65536 ⌝ }
     ensures { λ r. ⌜ r ≤ 65536 ⌝ }
 {
     match e {
         Event::MouseMove { x, y, dx, dy } => {
-            let to = put_point(b"MouseMove", x, y, out, at);
+            let to = write_point(b"MouseMove", x, y, out, at);
             let then = answer_text::signed(out, to, dx);
             answer_text::signed(out, then, dy)
         }
-        Event::MouseDown { x, y, button } => put_press(b"MouseDown", x, y, button, out, at),
+        Event::MouseDown { x, y, button } => write_press(b"MouseDown", x, y, button, out, at),
         Event::MouseClick {
             x,
             y,
             button,
             count,
         } => {
-            let to = put_press(b"MouseClick", x, y, button, out, at);
+            let to = write_press(b"MouseClick", x, y, button, out, at);
             answer_text::more(out, to, count as u32)
         }
-        Event::MouseUp { x, y, button } => put_press(b"MouseUp", x, y, button, out, at),
-        _ => put_plain(e, out, at),
+        Event::MouseUp { x, y, button } => write_press(b"MouseUp", x, y, button, out, at),
+        _ => write_plain(e, out, at),
     }
 }

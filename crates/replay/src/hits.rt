@@ -8,22 +8,23 @@ ghost use Rattle.replay.specs.Ready.{Ready, Next, unlisted};
 ghost use Rattle.replay.specs.Played.{HitsPart};
 use crate::lend;
 use crate::player::Player;
+use geom::answers::OK;
 use script::Line;
 use windows::Session;
 
 // The numbers of the line are the points; the answers go to the front of the list.
-fn asked(s: Session, ns: &[u32], count: usize, list: &mut [u32], len: usize) -> u32
+fn hits_at(s: Session, ns: &[u32], count: usize, list: &mut [u32], len: usize) -> u32
     requires { ⌜ Given s × (count ≤ length (now ns)) × (len ≤ length (now list)) ⌝ }
     ensures { λ r. ⌜ HitsPart (group s) (take count (now (ns .entry))) len (now (list .entry)) r (now (list .exit)) ⌝ }
 {
     s.hits(&ns[..count], &mut list[0..len])
 }
 
-fn put(answer: u32, n: usize, list: &[u32; 7812], out: &mut [u8; 65536], at: usize) -> usize
+fn write_hits(answer: u32, n: usize, list: &[u32; 7812], out: &mut [u8; 65536], at: usize) -> usize
     requires { ⌜ (answer ≡ 0 → n ≤ 7812) × (at ≤ 65536) ⌝ }
     ensures { λ r. ⌜ r ≤ 65536 ⌝ }
 {
-    if answer == 0 {
+    if answer == OK {
         let to = answer_text::number(out, at, 0);
         let last = lend::put_list(list, n, out, to);
         return answer_text::end(out, last);
@@ -43,8 +44,8 @@ pub fn hits(
 {
     let s = p.session;
     let len = lend::list_len(p, 96);
-    let answer = asked(s, ns, line.count, list, len);
+    let answer = hits_at(s, ns, line.count, list, len);
     p.has_list = false;
-    p.at = put(answer, 3 * (line.count / 2), list, out, p.at);
+    p.at = write_hits(answer, 3 * (line.count / 2), list, out, p.at);
     p
 }

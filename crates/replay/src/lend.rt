@@ -11,10 +11,11 @@ ghost use Rattle.replay.specs.Ready.{Ready, Next, unlisted};
 ghost use Rattle.replay.specs.Played.{pixels, screenLen, listLen, MeetsPart, DrawsPart, ListsPart, Stores, Draws, Plays, PlaysAt};
 use crate::player::Player;
 use bare_lines::numbers;
+use geom::Listing;
+use geom::answers::OK;
 use script::Line;
 use script::kind;
 use windows::Done;
-use windows::Listing;
 use windows::Session;
 use windows::Written;
 
@@ -110,8 +111,8 @@ fn draw(s: Session, k: u8, ns: &[u32; 4200], store: &[u32], screen: &mut [u32]) 
     if k == kind::PORTION {
         return s.portion(store, screen, ns[0], ns[1]);
     }
-    let told = ns[0] == 1;
-    s.redraw(told, store, screen, ns[1], ns[2])
+    let forced = ns[0] == 1;
+    s.redraw(forced, store, screen, ns[1], ns[2])
 }
 
 fn draw_part(
@@ -216,7 +217,7 @@ pub fn put_rects(
     requires { ⌜ (4 * count ≤ 7812) × (at ≤ 65536) ⌝ }
     ensures { λ r. ⌜ r ≤ 65536 ⌝ }
 {
-    if answer == 0 {
+    if answer == OK {
         let to = answer_text::number(out, at, 0);
         let then = answer_text::count(out, to, count);
         let last = put_list(list, 4 * count, out, then);

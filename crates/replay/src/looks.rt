@@ -60,7 +60,7 @@ fn target_len(p: Player, k: u8, ns: &[u32; 4200]) -> u64
 }
 
 // The call is lent the fronts of the store and of the target.
-fn asked(
+fn look_at(
     s: Session,
     k: u8,
     ns: &[u32; 4200],
@@ -85,11 +85,11 @@ fn ones() -> [u32; 65536] {
     [4294967295u32; 65536]
 }
 
-fn put(answer: u32, target: &[u32], len: usize, out: &mut [u8; 65536], at: usize) -> usize
+fn write_target(answer: u32, target: &[u32], len: usize, out: &mut [u8; 65536], at: usize) -> usize
     requires { ⌜ (len ≤ length (now target)) × (at ≤ 65536) ⌝ }
     ensures { λ r. ⌜ r ≤ 65536 ⌝ }
 {
-    pixels::put(answer, &target[0..len], out, at)
+    pixels::write_part(answer, &target[0..len], out, at)
 }
 
 fn looked(
@@ -105,9 +105,9 @@ fn looked(
 {
     let mut target = ones();
     let s = p.session;
-    let answer = asked(s, k, ns, store, p.lent, &mut target, len);
+    let answer = look_at(s, k, ns, store, p.lent, &mut target, len);
     p.has_target = false;
-    p.at = put(answer, &target, len, out, p.at);
+    p.at = write_target(answer, &target, len, out, p.at);
     p
 }
 

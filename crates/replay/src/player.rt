@@ -14,6 +14,7 @@ use crate::sheets;
 use crate::show;
 use bare_lines::geometry;
 use bare_lines::pixels;
+use geom::answers::OK;
 use script::Line;
 use script::kind;
 use windows::Done;
@@ -101,7 +102,7 @@ impl Player {
     {
         let session = written.session;
         self.session = session;
-        if counts && written.answer == 0 {
+        if counts && written.answer == OK {
             self.at = answer_text::counted(out, self.at, written.altered);
         } else {
             self.at = answer_text::answer(out, self.at, written.answer);
@@ -156,9 +157,9 @@ impl Player {
         } else if k <= kind::PICTURE {
             self.at = show::screen(line, ns, name, screen, out, at);
         } else if k <= kind::WITHIN {
-            self.at = geometry::asked(k, ns, out, at);
+            self.at = geometry::rect_line(k, ns, out, at);
         } else {
-            self.at = pixels::asked(line, ns, out, at);
+            self.at = pixels::pixel_line(line, ns, out, at);
         }
         self
     }

@@ -10,8 +10,9 @@ ghost use Rattle.replay.specs.inner.Sheets.{ReadsPart, sheetLen, PrintsP
 use crate::lend;
 use crate::player::Player;
 use bare_lines::numbers;
+use geom::Listing;
+use geom::answers::OK;
 use script::Line;
-use sheet::Count;
 use windows::Session;
 
 // The numbers of the line as bytes, of which each is one.
@@ -29,7 +30,7 @@ fn bytes_of(ns: &[u32], n: usize) -> [u8; 4096]
 }
 
 // The reader is lent the front of the list.
-fn read(bytes: &[u8], n: usize, list: &mut [u32], len: usize) -> Count
+fn read(bytes: &[u8], n: usize, list: &mut [u32], len: usize) -> Listing
     requires { ⌜ (n ≤ length (now bytes)) × (len ≤ length (now list)) ⌝ }
     ensures { λ r. ⌜ ReadsPart (take n (now (bytes .entry))) len (now (list .entry)) r (now (list .exit)) ⌝ }
 {
@@ -37,7 +38,7 @@ fn read(bytes: &[u8], n: usize, list: &mut [u32], len: usize) -> Count
 }
 
 // The bytes of the line are a sheet's.
-fn asked(ns: &[u32; 4200], n: usize, list: &mut [u32], len: usize) -> Count
+fn read_numbers(ns: &[u32; 4200], n: usize, list: &mut [u32], len: usize) -> Listing
     requires { ⌜ (n ≤ 4096) × ((i : ℕ) → i < n → num (now ns) i ≤ 255) × (len ≤ length (now list)) ⌝ }
     ensures { λ r. ⌜ ReadsPart (take n (now (ns .entry))) len (now (list .entry)) r (now (list .exit)) ⌝ }
 {
@@ -56,7 +57,7 @@ pub fn read_sheet(
     ensures { λ r. ⌜ Next (unlisted p) (p .session) r ⌝ }
 {
     let len = lend::list_len(p, 7812);
-    let found = asked(ns, line.count, list, len);
+    let found = read_numbers(ns, line.count, list, len);
     p.has_list = false;
     p.at = lend::put_rects(found.answer, found.count, list, out, p.at);
     p
@@ -74,7 +75,7 @@ fn sheet_len(p: Player) -> usize
 }
 
 // The call is lent the front of the buffer.
-fn printed(s: Session, ns: &[u32; 4200], bytes: &mut [u8], len: usize) -> Count
+fn printed(s: Session, ns: &[u32; 4200], bytes: &mut [u8], len: usize) -> Listing
     requires { ⌜ Given s × (len ≤ length (now bytes)) ⌝ }
     ensures { λ r. ⌜ PrintsPart (group s) (idOf (now (ns .entry))) len (now (bytes .entry)) r (now (bytes .exit)) ⌝ }
 {
@@ -86,11 +87,11 @@ fn buffer() -> [u8; 2048] {
     [0u8; 2048]
 }
 
-fn put(found: Count, bytes: &[u8], out: &mut [u8; 65536], at: usize) -> usize
+fn write_sheet(found: Listing, bytes: &[u8], out: &mut [u8; 65536], at: usize) -> usize
     requires { ⌜ (found .count ≤ length (now bytes)) × (at ≤ 65536) ⌝ }
     ensures { λ r. ⌜ r ≤ 65536 ⌝ }
 {
-    if found.answer == 0 {
+    if found.answer == OK {
         let to = answer_text::number(out, at, 0);
         let n = found.count;
         let then = answer_text::count(out, to, n);
@@ -109,6 +110,6 @@ pub fn sheet(mut p: Player, ns: &[u32; 4200], out: &mut [u8; 65536]) -> Player
     let len = sheet_len(p);
     let found = printed(s, ns, &mut bytes, len);
     p.has_sheet = false;
-    p.at = put(found, &bytes, out, p.at);
+    p.at = write_sheet(found, &bytes, out, p.at);
     p
 }

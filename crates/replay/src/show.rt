@@ -5,12 +5,13 @@ ghost use Rattle.windows.specs.View.{Given};
 ghost use Rattle.bare_lines.specs.Numbers.{Sound};
 use answer_text::picture;
 use bare_lines::numbers;
+use geom::answers::OK;
 use script::Line;
 use script::kind;
 use windows::Session;
 
 // A line of 0 and so many pixels from a place on.
-fn put(pixels: &[u32], from: usize, n: usize, out: &mut [u8; 65536], at: usize) -> usize
+fn write_pixels(pixels: &[u32], from: usize, n: usize, out: &mut [u8; 65536], at: usize) -> usize
     requires { ⌜ (from + n ≤ length (now pixels)) × (at ≤ 65536) ⌝ }
     ensures { λ r. ⌜ r ≤ 65536 ⌝ }
 {
@@ -38,7 +39,7 @@ pub fn screen(
         return answer_text::refused(out, at);
     }
     if line.kind == kind::SCREEN {
-        return put(screen, 0, n as usize, out, at);
+        return write_pixels(screen, 0, n as usize, out, at);
     }
     let empty = answer_text::flush(out, at);
     if picture::write(name, line.name, w, h, screen, n as usize, out) {
@@ -62,11 +63,11 @@ pub fn pixels(
     let id = numbers::id(ns);
     let placed = s.rect_of(id);
     let c = s.shared.c as usize;
-    if placed.answer == 0 {
+    if placed.answer == OK {
         if 16 * c <= lent {
             let rect = placed.rect;
             let n = rect.dims.w as usize * rect.dims.h as usize;
-            return put(store, id.0 as usize * c, n, out, at);
+            return write_pixels(store, id.0 as usize * c, n, out, at);
         }
     }
     answer_text::answer(out, at, 0)

@@ -20,21 +20,20 @@ use crate::values;
 use crate::values::RoqCreated;
 use crate::values::RoqDisplay;
 use crate::values::RoqPopped;
+use geom::Listing;
+use geom::Listing;
 use geom::Rect;
-use sheet::Count;
 use winbuf::Altered;
 use window::ids::WinId;
 use window::queue::back;
 use window::queue::front;
 use windows::InView;
-use windows::Listing;
 use windows::Placed;
 use windows::Session;
 use windows::inner::dimming;
 use windows::inner::drag;
 use windows::inner::events::tell;
-use windows::inner::maximise::plan_take;
-use windows::inner::maximise::take;
+use windows::inner::maximise;
 use windows::inner::one;
 use windows::inner::one::slot;
 use windows::inner::portion;
@@ -268,9 +267,9 @@ pub extern "C" fn roq_maximise(s: &mut Session, id: WinId, store: &mut [u32]) ->
     requires { ⌜ Given (now s) ⌝ }
     ensures { λ r. ⌜ MeetsStore (Call.Maximise (id .0) (now (store .entry))) (now (s .entry)) (done (now (s .exit)) r) (now (store .exit)) ⌝ }
 {
-    let t = plan_take(*s, id, store);
+    let t = maximise::plan(*s, id, store);
     let at = t.at;
-    let d = take((*s).windows[at], (*s).shared, t.what);
+    let d = maximise::apply((*s).windows[at], (*s).shared, t.what);
     let w = d.window;
     (*s).windows[at] = w;
     let k = d.shared;
@@ -308,7 +307,7 @@ pub extern "C" fn roq_route(s: &mut Session, e: RoqEvent) -> u32
         (*s).windows[at].queue.slots[k],
         (*s).windows[at].cursor,
         (*s).windows[at].queue.len,
-        (*s).shared.held,
+        (*s).shared.grab,
         aim.what,
     );
     let x = d.slot;
@@ -316,8 +315,8 @@ pub extern "C" fn roq_route(s: &mut Session, e: RoqEvent) -> u32
     let c = d.cursor;
     (*s).windows[at].cursor = c;
     (*s).windows[at].queue.len = d.len;
-    let h = d.held;
-    (*s).shared.held = h;
+    let h = d.grab;
+    (*s).shared.grab = h;
     d.answer
 }
 
@@ -346,16 +345,16 @@ pub extern "C" fn roq_pop(s: &mut Session, id: WinId) -> RoqPopped
 #[no_mangle]
 pub extern "C" fn roq_redraw(
     s: &mut Session,
-    told: bool,
+    forced: bool,
     width: u32,
     height: u32,
     store: &[u32],
     screen: &mut [u32],
 ) -> u32
     requires { ⌜ Given (now s) ⌝ }
-    ensures { λ r. ⌜ MeetsScreen (Call.Redraw told width height (now (store .entry)) (now (screen .entry))) (now (s .entry)) (done (now (s .exit)) r) (now (screen .exit)) ⌝ }
+    ensures { λ r. ⌜ MeetsScreen (Call.Redraw forced width height (now (store .entry)) (now (screen .entry))) (now (s .entry)) (done (now (s .exit)) r) (now (screen .exit)) ⌝ }
 {
-    let plan = redraw::plan(*s, told, width, height, store.len(), screen.len());
+    let plan = redraw::plan(*s, forced, width, height, store.len(), screen.len());
     let mut p: usize = 0;
     while p < plan.n {
         let at = redraw::place(plan.order, p);
@@ -379,11 +378,11 @@ pub extern "C" fn roq_redraw(
 }
 
 #[no_mangle]
-pub extern "C" fn roq_begin(s: &mut Session, told: bool) -> u32
+pub extern "C" fn roq_begin(s: &mut Session, forced: bool) -> u32
     requires { ⌜ Given (now s) ⌝ }
-    ensures { λ r. ⌜ Meets (Call.Begin told) (now (s .entry)) (done (now (s .exit)) r) ⌝ }
+    ensures { λ r. ⌜ Meets (Call.Begin forced) (now (s .entry)) (done (now (s .exit)) r) ⌝ }
 {
-    let d = portion::begin((*s).shared, told);
+    let d = portion::begin((*s).shared, forced);
     let k = d.shared;
     (*s).shared = k;
     d.answer
@@ -438,7 +437,7 @@ pub extern "C" fn roq_visible(s: &Session, id: WinId, list: &mut [u32]) -> Listi
 }
 
 #[no_mangle]
-pub extern "C" fn roq_sheet(s: &Session, id: WinId, bytes: &mut [u8]) -> Count
+pub extern "C" fn roq_sheet(s: &Session, id: WinId, bytes: &mut [u8]) -> Listing
     requires { ⌜ Given (now s) ⌝ }
     ensures { λ r. ⌜ Prints (group (now (s .entry))) (id .0) (now (bytes .entry)) r (now (bytes .exit)) ⌝ }
 {

@@ -3,6 +3,7 @@
 ghost use Rattle.winbuf.specs.Pixels.{lineStart, scanline, fillScanline, setScanline, region};
 ghost use Rattle.winbuf.specs.Bare.{Gives, regionStart};
 ghost use Rattle.roqshyn.specs.Parts.{Lies};
+use geom::answers::OK;
 use stride::region_of;
 use winbuf::Altered;
 use winbuf::scanline_range;
@@ -81,7 +82,7 @@ pub extern "C" fn roq_region(
 ) -> RoqPart
     ensures { λ r. ⌜ Lies (region (now (pixels .entry)) stride x y w h) (regionStart stride x y) (now (pixels .entry)) r ⌝ }
 {
-    let mut answer: u32 = 0;
+    let mut answer: u32 = OK;
     let count = region_of(pixels, stride, x, y, w, h, &mut answer).len();
     let mut start: usize = 0;
     if count != 0 {

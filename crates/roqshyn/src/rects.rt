@@ -9,6 +9,7 @@ use geom::Pos;
 use geom::Rect;
 use geom::Tested;
 use geom::United;
+use geom::answers::OK;
 
 // An intersection as numbers: `meets` is false and `rect` (0,0,0,0) where there is none.
 #[repr(C)]
@@ -61,7 +62,7 @@ pub extern "C" fn roq_intersect(a: Rect, b: Rect) -> RoqIntersection
     let found = a.intersect(b);
     match found {
         Intersection::Common(rect) => RoqIntersection {
-            answer: 0,
+            answer: OK,
             meets: true,
             rect,
         },

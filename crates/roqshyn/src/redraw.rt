@@ -8,7 +8,7 @@ ghost use lib.Dec.{eqb};
 ghost use lib.ListN.{length, getD};
 ghost use Rattle.geom.specs.Lists.{outsideAll, relative, listIntersect};
 ghost use Rattle.geom.specs.Rect16.{rectOf, Small};
-ghost use Rattle.window.specs.Held.{RepDamage};
+ghost use Rattle.window.specs.Represents.{RepDamage};
 ghost use Rattle.window.specs.inner.Ids.{noId};
 ghost use Rattle.rules.specs.Visible.{rectsOf};
 ghost use Rattle.rules.specs.Redraw.{drawRegions};
@@ -18,6 +18,9 @@ ghost use Rattle.windows.specs.View.{Given};
 ghost use Rattle.roqshyn.specs.inner.Redraw.{paintedAt, Flagged, LaidOut, PlansRedraw, SomeTurn, DrawsTurn, free};
 use due::Due;
 use due::Walk;
+use geom::answers::OK;
+use geom::answers::SCREEN_SIZE;
+use geom::answers::STORE_LENGTH;
 use geom::inner::bools::either;
 use geom::inner::rect16::Rect16;
 use order::rects;
@@ -98,16 +101,16 @@ fn lay_out(s: Session, full: bool) -> Layout
 // The questions are asked, of the lengths of store and screen.
 pub fn plan(
     s: Session,
-    told: bool,
+    forced: bool,
     width: u32,
     height: u32,
     store: usize,
     screen: usize,
 ) -> RedrawPlan
     requires { ⌜ Given s ⌝ }
-    ensures { λ r. ⌜ PlansRedraw s told width height store screen r ⌝ }
+    ensures { λ r. ⌜ PlansRedraw s forced width height store screen r ⌝ }
 {
-    let full = either(told, s.shared.due.owed);
+    let full = either(forced, s.shared.due.owed);
     let layout = lay_out(s, full);
     let ids = s.shared.order;
     let order = Order { ids };
@@ -116,21 +119,21 @@ pub fn plan(
         if screen_fits(width, height, screen) {
             return RedrawPlan {
                 n: s.shared.shown,
-                answer: 0,
+                answer: OK,
                 order,
                 layout,
             };
         }
         return RedrawPlan {
             n: 0,
-            answer: 8,
+            answer: SCREEN_SIZE,
             order,
             layout,
         };
     }
     RedrawPlan {
         n: 0,
-        answer: 1,
+        answer: STORE_LENGTH,
         order,
         layout,
     }
@@ -270,7 +273,7 @@ pub fn draw_turn(
 pub fn paid(due: Due, answer: u32) -> Due
     ensures { λ r. ⌜ r ≡ cond (eqb answer 0) (free due) due ⌝ }
 {
-    if answer == 0 {
+    if answer == OK {
         let walk = due.walk;
         let next = walk.next;
         let over = Walk {

@@ -1,19 +1,20 @@
 // The functions of one window where the exported call hands back something else: enums become numbers.
 ghost use mathlib.Core.Path.{_≡_};
 ghost use Prim.Native.Nat.{_≤_, _<_};
-ghost use Rattle.window.specs.Held.{RepCursor};
+ghost use Rattle.window.specs.Represents.{RepCursor};
 ghost use Rattle.rules.specs.Group.{idOr};
 ghost use Rattle.rules.specs.DisplayAt.{displayAt};
 ghost use Rattle.windows.specs.View.{group, Given, Starts, idOf};
 ghost use Rattle.windows.specs.inner.Aimed.{Aims};
 ghost use Rattle.roqshyn.specs.Events.{eventOf, Routes};
 ghost use Rattle.roqshyn.specs.Answers.{displayed};
-ghost use Rattle.roqshyn.specs.inner.One.{MakesAt, TakesFront};
+ghost use Rattle.roqshyn.specs.inner.One.{MakesAt, PopsFront};
 use crate::events;
 use crate::events::RoqEvent;
 use display::Located;
 use geom::Pos;
 use geom::Rect;
+use geom::answers::NO_WINDOW;
 use window::CursorPos;
 use window::Window;
 use window::ids::WinId;
@@ -60,7 +61,7 @@ pub struct Made {
 
 // What a pop makes of one window, field by field, and what it hands back.
 #[repr(C)]
-pub struct Taken {
+pub struct AfterPop {
     pub cursor: CursorPos,
     pub head: u8,
     pub len: u8,
@@ -125,9 +126,9 @@ pub fn create(win: Window, shared: Shared, id: WinId) -> Made
     }
 }
 
-pub fn pop(used: bool, cursor: CursorPos, head: u8, len: u8, first: Slot, id: WinId) -> Taken
+pub fn pop(used: bool, cursor: CursorPos, head: u8, len: u8, first: Slot, id: WinId) -> AfterPop
     requires { ⌜ RepCursor cursor × (head < 16) × (len ≤ 16) ⌝ }
-    ensures { λ r. ⌜ TakesFront (id .0) used cursor head len first r ⌝ }
+    ensures { λ r. ⌜ PopsFront (id .0) used cursor head len first r ⌝ }
 {
     let front = windows::inner::events::pop(used, cursor, head, len, first, id);
     let next = front.event;
@@ -137,7 +138,7 @@ pub fn pop(used: bool, cursor: CursorPos, head: u8, len: u8, first: Slot, id: Wi
         event,
     };
     let read = front.cursor;
-    Taken {
+    AfterPop {
         cursor: read,
         head: front.head,
         len: front.len,
@@ -153,6 +154,6 @@ pub fn aim(s: Session, e: RoqEvent) -> Aim
     let next = events::event_of(e);
     match next {
         NextEvent::Event(told) => aim_event(s, told),
-        NextEvent::Absent => nobody(11),
+        NextEvent::Absent => nobody(NO_WINDOW),
     }
 }

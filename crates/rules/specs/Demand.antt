@@ -20,7 +20,7 @@ use Rattle.geom.specs.Nearest.{nearestX, nearestY}
 use Rattle.rules.specs.Events.{route}
 use Rattle.rules.specs.Calls.{Call, Made, does, byRule, accepted, after}
 use Rattle.rules.specs.Book.{Book, page, bookOf, topmost}
-use Rattle.rules.specs.Ledger.{Ledger, waiting, heldBy, ledgerOf}
+use Rattle.rules.specs.Ledger.{Ledger, waiting, grabbed, ledgerOf}
 use Rattle.rules.specs.Conditions.{deed, Quiet, Sized, noRedraw, ends, wrote, beforeLast, written, unmarked}
 
 -- Pixels ----------------------------------------------------------------------------------------------------------------
@@ -130,7 +130,7 @@ ReleasedTo b l g h n px py none = Taken l g h (topmost b px py) (λ id. Event.Mo
 
 -- a MouseUp with button n: where it goes, "exactly when fewer than 16 events wait" there, "and never another window"
 abbrev pub Released : Book → Ledger → Group → Group → ℕ → ℕ → ℕ → Type 0
-Released b l g h n px py = ReleasedTo b l g h n px py (heldBy b (l .held))
+Released b l g h n px py = ReleasedTo b l g h n px py (grabbed b (l .grab))
 
 -- beyond the request: since a release is no press any more, it is promised as much, after every list of calls, with any button
 unfoldable pub Releases : ℕ → List Call → Type 0

@@ -22,7 +22,7 @@ use Rattle.winbuf.specs.Pixels.{smallLine, onLine, inSlice, smallArea, regionFi
 use Rattle.look.specs.declared.Look as View
 use Rattle.look.specs.Floats.{allowed}
 use Rattle.look.specs.View.{targetFits}
-use Rattle.sheet.specs.declared.Count.{Count}
+use Rattle.geom.specs.declared.Listing.{Listing}
 use Rattle.sheet.specs.Sheet as Bands
 use Rattle.sheet.specs.Sheet.{rects}
 use Rattle.sheet.specs.Bytes.{encode}
@@ -97,8 +97,8 @@ pressQuestions g px py = (5 is (small px && small py)) ∷ (11 is underPoint g p
 abbrev pub releaseQuestions : Group → ℕ → ℕ → List Question
 releaseQuestions g px py =
     (5 is (small px && small py))
-    ∷ (11 is (remembers g (g .held) || underPoint g px py))
-    ∷ (12 is roomOf g (takesRelease g (g .held) px py))
+    ∷ (11 is (remembers g (g .grab) || underPoint g px py))
+    ∷ (12 is roomOf g (takesRelease g (g .grab) px py))
     ∷ []
 
 -- "Resize routed: answer 0, nothing."; "21 when KeyFire is routed, asked before every other question."; a MouseMove
@@ -139,8 +139,8 @@ questions g (Resize id w h s) = (1 is whole g s) ∷ (3 is inUse g id) ∷ (5 is
 questions g (Fill id a v s) = (1 is whole g s) ∷ (3 is inUse g id) ∷ (5 is smallRect a) ∷ []
 questions g (Blit id a d stride s) = (1 is whole g s) ∷ (3 is inUse g id) ∷ (5 is smallRect a) ∷ (7 is leb 1 stride) ∷ []
 questions g (Route e) = routeQuestions g e
-questions g (Redraw told w h s screen) = (1 is whole g s) ∷ (8 is screenFits w h screen) ∷ []
-questions g (Begin told) = []
+questions g (Redraw forced w h s screen) = (1 is whole g s) ∷ (8 is screenFits w h screen) ∷ []
+questions g (Begin forced) = []
 questions g (Portion w h s screen) = (1 is whole g s) ∷ (8 is screenFits w h screen) ∷ (20 is begun (g .walk)) ∷ []
 questions g (Dim on) = []
 questions g (SetLayer id l) = (3 is inUse g id) ∷ (17 is leb l 1) ∷ []
@@ -332,7 +332,7 @@ pub record Started (c : ℕ) : Type 0 where
 
 -- the reader of a sheet: r is what it hands back, and `after` the lent list then. "18 when the bytes read break any
 -- of these rules."; "19 when … the reader's list [is shorter] than its rectangles, asked after 18."
-pub record ReadsSheet (bytes list : List ℕ) (r : Count) (after : List ℕ) : Type 0 where
+pub record ReadsSheet (bytes list : List ℕ) (r : Listing) (after : List ℕ) : Type 0 where
   pub either : ((s : Bands.Sheet) → IsSheet bytes s → ⊥) ⊎ ((s : Bands.Sheet) × IsSheet bytes s)
   pub broken : ((s : Bands.Sheet) → IsSheet bytes s → ⊥) → r .answer ≡ asked ((18 is false) ∷ [])
   pub sound : (s : Bands.Sheet) → IsSheet bytes s → r .answer ≡ asked ((18 is true) ∷ (19 is leb (4 * length (rects s)) (length list)) ∷ [])
@@ -346,4 +346,4 @@ pub record Demand1 : Type 0 where
   pub queries : (c : ℕ) (ks : List Call) (q : Query) → Replies (after c ks) q
   pub starts : (c : ℕ) → Started c
   pub bare : (b : Bare) → BareReplies b
-  pub reader : (bytes list : List ℕ) (r : Count) (after : List ℕ) → Reads bytes list r after → ReadsSheet bytes list r after
+  pub reader : (bytes list : List ℕ) (r : Listing) (after : List ℕ) → Reads bytes list r after → ReadsSheet bytes list r after

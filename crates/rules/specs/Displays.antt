@@ -59,12 +59,12 @@ abbrev pub withAt : Rect → Win → Win
 withAt r w = record { at = r; marked = w .marked; damage = w .damage; queue = w .queue; cursor = w .cursor }
 
 -- a window takes a display, position and size, by the rule of resize
-abbrev pub taken : Rect → Win → Win
-taken d w = withAt d (resizedWin (width d) (height d) w)
+abbrev pub resizedTo : Rect → Win → Win
+resizedTo d w = withAt d (resizedWin (width d) (height d) w)
 
 -- and its C pixels, from `base` of the store on
-abbrev pub takenStore : ℕ → ℕ → Rect → Rect → List ℕ → List ℕ
-takenStore base c old d s = resizedAt base c (width old) (height old) (width d) (height d) s
+abbrev pub resizedStore : ℕ → ℕ → Rect → Rect → List ℕ → List ℕ
+resizedStore base c old d s = resizedAt base c (width old) (height old) (width d) (height d) s
 
 -- question 6 of a window that takes a display
 abbrev pub fits : ℕ → Rect → Bool
@@ -72,7 +72,7 @@ fits c d = leb (width d * height d) c
 
 -- `update_dims` of one window: as it was but for its place, if it is not maximised
 abbrev pub updated : List Rect → Bool → Win → Win
-updated ds maximised w = cond maximised (taken (updatedAt ds maximised (w .at)) w) (withAt (updatedAt ds maximised (w .at)) w)
+updated ds maximised w = cond maximised (resizedTo (updatedAt ds maximised (w .at)) w) (withAt (updatedAt ds maximised (w .at)) w)
 
 -- Maximise --------------------------------------------------------------------------------------------------------------
 
@@ -82,14 +82,14 @@ displayOf g id = onOnly (locate (g .displays) (win g id .at))
 
 -- "Maximising sets a flag"
 abbrev pub maximisedOn : ℕ → Rect → Group → Group
-maximisedOn id d g = setMaximised id true (setWin id (some (taken d (win g id))) g)
+maximisedOn id d g = setMaximised id true (setWin id (some (resizedTo d (win g id))) g)
 
 -- it owes a full redraw; question 6 is of the size that the window takes
 unfoldable pub maximise : Group → ℕ → List ℕ → Outcome
 maximise g id s =
     leavesStore ((1 is whole g s) ∷ (3 is used g id) ∷ (6 is fits (g .c) (displayOf g id)) ∷ []) g
     (owing (maximisedOn id (displayOf g id) g))
-    s (takenStore (id * g .c) (g .c) (win g id .at) (displayOf g id) s)
+    s (resizedStore (id * g .c) (g .c) (win g id .at) (displayOf g id) s)
 
 -- Update all ------------------------------------------------------------------------------------------------------------
 
@@ -115,7 +115,7 @@ updateFits g id (some w) = not (isMaximised g id) || fits (g .c) (updatedAt (g .
 -- its pixels, and those of all from an id on
 abbrev pub updateStore : Group → ℕ → Option Win → List ℕ → List ℕ
 updateStore g id none s = s
-updateStore g id (some w) s = cond (isMaximised g id) (takenStore (id * g .c) (g .c) (w .at) (updatedAt (g .displays) true (w .at)) s) s
+updateStore g id (some w) s = cond (isMaximised g id) (resizedStore (id * g .c) (g .c) (w .at) (updatedAt (g .displays) true (w .at)) s) s
 
 abbrev pub updateStores : Group → ℕ → List (Option Win) → List ℕ → List ℕ
 updateStores g id [] s = s

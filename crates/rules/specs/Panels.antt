@@ -35,7 +35,7 @@ pub data Interleaves : List Act → List Act → List Act → Type 0 where
 -- What they leave ---------------------------------------------------------------------------------------------------------
 
 -- "session and store": the group that the session holds, and the store, which each call is lent as the last one left it
-pub record Held : Type 0 where
+pub record State : Type 0 where
   pub group : Group
   pub store : List ℕ
 
@@ -44,7 +44,7 @@ callOf id (fill a v) s = Calls.Fill id a v s
 callOf id (blit a d stride) s = Calls.Blit id a d stride s
 callOf id mark s = Calls.Mark id
 
-abbrev pub outcome : Held → Act → Outcome
+abbrev pub outcome : State → Act → Outcome
 outcome h a = does (h .group) (callOf (a .window) (a .write) (h .store))
 
 -- the store that a call leaves; a mark is lent none
@@ -53,10 +53,10 @@ left (fill a v) s o = o .store
 left (blit a d stride) s o = o .store
 left mark s o = s
 
-abbrev pub acted : Held → Act → Held
+abbrev pub acted : State → Act → State
 acted h a = record { group = outcome h a .group; store = left (a .write) (h .store) (outcome h a) }
 
-unfoldable pub played : Held → List Act → Held
+unfoldable pub played : State → List Act → State
 played h [] = h
 played h (a ∷ l) = played (acted h a) l
 
@@ -69,23 +69,23 @@ abbrev pub reply : Outcome → Reply
 reply o = record { answer = o .answer; altered = o .altered }
 
 -- the replies to the calls on a window, in their order
-unfoldable pub replies : ℕ → Held → List Act → List Reply
+unfoldable pub replies : ℕ → State → List Act → List Reply
 replies id h [] = []
 replies id h (a ∷ l) = cond (eqb (a .window) id) (reply (outcome h a) ∷ replies id (acted h a) l) (replies id (acted h a) l)
 
 -- the next redraw
-abbrev pub redrawn : Held → Bool → ℕ → ℕ → List ℕ → Outcome
-redrawn e told w h screen = does (e .group) (Calls.Redraw told w h (e .store) screen)
+abbrev pub redrawn : State → Bool → ℕ → ℕ → List ℕ → Outcome
+redrawn e forced w h screen = does (e .group) (Calls.Redraw forced w h (e .store) screen)
 
 -- The promise -----------------------------------------------------------------------------------------------------------
 
 -- the interleaving zs of a list us on window i and a list vs on window j, beside the one list after the other
-pub record Agrees (e : Held) (i j : ℕ) (us vs : List Write) (zs : List Act) : Type 0 where
+pub record Agrees (e : State) (i j : ℕ) (us vs : List Write) (zs : List Act) : Type 0 where
   -- "gives the same session and store"
   pub end : played e zs ≡ played e (map (on i) us ++ map (on j) vs)
   -- "and so the same next redraw": answer, screen and group, told or not, at any size and on any screen
-  pub redraw : (told : Bool) (w h : ℕ) (screen : List ℕ)
-      → redrawn (played e zs) told w h screen ≡ redrawn (played e (map (on i) us ++ map (on j) vs)) told w h screen
+  pub redraw : (forced : Bool) (w h : ℕ) (screen : List ℕ)
+      → redrawn (played e zs) forced w h screen ≡ redrawn (played e (map (on i) us ++ map (on j) vs)) forced w h screen
   -- each list is answered, and its altered pixels are counted, as if there were no other
   pub one : replies i e zs ≡ replies i e (map (on i) us)
   pub other : replies j e zs ≡ replies j e (map (on j) vs)

@@ -8,7 +8,7 @@ use lib.ListN.{length, drop}
 use Rattle.geom.specs.Questions.{_is_, asked}
 use Rattle.geom.specs.Geom.{width, height}
 use Rattle.geom.specs.Lists.{anyHas, numbers, Disjoint}
-use Rattle.sheet.specs.declared.Count.{Count}
+use Rattle.geom.specs.declared.Listing.{Listing}
 use Rattle.sheet.specs.Sheet.{Sheet, has, rects, Valid}
 use Rattle.sheet.specs.Bytes.{encode}
 use Rattle.sheet.specs.Canon.{sheetOf}
@@ -68,7 +68,7 @@ pub record Printable (g : Group) (id : ℕ) : Type 0 where
   pub written : (lent : List ℕ) → 2048 ≤ length lent
       → (sheet g id lent .answer ≡ 0) × (sheet g id lent .count ≡ length (encode (region g id)))
       × (sheet g id lent .bytes ≡ encode (region g id) ++ drop (length (encode (region g id))) lent)
-  pub read : (list : List ℕ) (r : Count) (list′ : List ℕ) → 1984 ≤ length list → Reads (encode (region g id)) list r list′
+  pub read : (list : List ℕ) (r : Listing) (list′ : List ℕ) → 1984 ≤ length list → Reads (encode (region g id)) list r list′
       → (r ≡ answered 0 (length (rects (region g id))))
       × (list′ ≡ numbers (rects (region g id)) ++ drop (4 * length (rects (region g id))) list)
 

@@ -4,7 +4,7 @@ use mathlib.Core.Path.{_≡_}
 use mathlib.Core.List.{List, _++_}
 use lib.ListN.{length, drop}
 use Rattle.geom.specs.Lists.{numbers}
-use Rattle.sheet.specs.declared.Count.{Count}
+use Rattle.geom.specs.declared.Listing.{Listing}
 use Rattle.sheet.specs.Sheet.{Sheet, Valid, rects}
 use Rattle.sheet.specs.Bytes.{encode}
 
@@ -14,12 +14,12 @@ pub record IsSheet (bytes : List ℕ) (s : Sheet) : Type 0 where
   pub same : bytes ≡ encode s
 
 -- an answer with a count
-abbrev pub answered : ℕ → ℕ → Count
+abbrev pub answered : ℕ → ℕ → Listing
 answered n count = record { answer = n; count = count }
 
 -- The reader, of the bytes and the lent list; r is what it hands back, and `after` is the list then. "The reader the rectangle
 -- count, and what lies past it is untouched"
-pub data Reads (bytes list : List ℕ) (r : Count) (after : List ℕ) : Type 0 where
+pub data Reads (bytes list : List ℕ) (r : Listing) (after : List ℕ) : Type 0 where
   -- "18 when the bytes read break any of these rules"
   broken : ((s : Sheet) → IsSheet bytes s → ⊥) → r ≡ answered 18 0 → after ≡ list → Reads bytes list r after
   -- "19 when … the reader's list [is shorter] than its rectangles, asked after 18"

@@ -15,7 +15,7 @@ use geom::inner::rect16::Rect16;
 use window::ids::WinId;
 
 // The three numbers of point i.
-fn put(answers: &mut [u32], i: usize, id: u32, x: u32, y: u32)
+fn write_hit(answers: &mut [u32], i: usize, id: u32, x: u32, y: u32)
     requires { ⌜ 3 * i + 3 ≤ length (now answers) ⌝ }
     ensures { λ _. ⌜ now (answers .exit) ≡ sets (now (answers .entry)) (3 * i) (id ∷ x ∷ y ∷ []) ⌝ }
 {
@@ -32,7 +32,7 @@ fn nobody(answers: &mut [u32], n: usize)
 {
     let mut i: usize = 0;
     while i < n {
-        put(answers, i, 16, 0, 0);
+        write_hit(answers, i, 16, 0, 0);
         i += 1;
     }
 }
@@ -47,7 +47,7 @@ fn look(id: WinId, r: Rect, points: &[u32], answers: &mut [u32], i: usize)
         let y = points[2 * i + 1];
         let hit = r.contains(Pos::new(x, y));
         if hit.yes {
-            put(answers, i, id.0, x - r.pos.x, y - r.pos.y);
+            write_hit(answers, i, id.0, x - r.pos.x, y - r.pos.y);
         }
     }
 }

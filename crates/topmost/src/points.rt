@@ -1,6 +1,7 @@
 // The questions of many points, x and y in turn.
 ghost use mathlib.Core.Path.{_≡_};
 ghost use Rattle.rules.specs.Hits.{allSmall, fit};
+use geom::inner::small::MOST;
 
 // Question 5: is every number given at most 32,767?
 pub fn all_small(numbers: &[u32]) -> bool
@@ -8,7 +9,7 @@ pub fn all_small(numbers: &[u32]) -> bool
 {
     let mut i: usize = 0;
     while i < numbers.len() {
-        if numbers[i] > 32767 {
+        if numbers[i] > MOST {
             return false;
         }
         i += 1;

@@ -4,7 +4,7 @@ ghost use mathlib.Core.Path.{_≡_};
 ghost use Prim.Native.Nat.{_-_, _<_};
 ghost use Rattle.rules.specs.Order.{forget};
 ghost use Rattle.geom.specs.Nearest.{cut};
-ghost use Rattle.order.specs.Ids.{ids, heldOf};
+ghost use Rattle.order.specs.Ids.{ids, grabOf};
 ghost use Rattle.order.specs.inner.Frames.{frameAt, Shown};
 ghost use Rattle.topmost.specs.inner.Topmost.{hitOf, takerAt};
 use crate::Hit;
@@ -17,13 +17,13 @@ use window::ids::WinId;
 pub const NOBODY: WinId = WinId(16);
 
 // Who is remembered once a window is hidden: any other window stays.
-pub fn forget(held: WinId, id: WinId) -> WinId
-    ensures { λ r. ⌜ heldOf r ≡ forget (id .0) (heldOf held) ⌝ }
+pub fn forget(grab: WinId, id: WinId) -> WinId
+    ensures { λ r. ⌜ grabOf r ≡ forget (id .0) (grabOf grab) ⌝ }
 {
-    if held.0 == id.0 {
+    if grab.0 == id.0 {
         return NOBODY;
     }
-    held
+    grab
 }
 
 // The window `held`, if it is one and has pixels; else the topmost one at the point.
@@ -31,18 +31,18 @@ pub fn taker(
     areas: [Rect16; 16],
     order: [WinId; 16],
     shown: usize,
-    held: WinId,
+    grab: WinId,
     x: u32,
     y: u32,
 ) -> Hit
     requires { ⌜ Shown areas order shown ⌝ }
-    ensures { λ r. ⌜ hitOf r ≡ takerAt (frameAt areas) x y (ids shown order) (heldOf held) ⌝ }
+    ensures { λ r. ⌜ hitOf r ≡ takerAt (frameAt areas) x y (ids shown order) (grabOf grab) ⌝ }
 {
-    if held.0 < 16 {
-        let at = held.0 as usize;
+    if grab.0 < 16 {
+        let at = grab.0 as usize;
         let area = areas[at];
         if !is_empty(area.rect()) {
-            return Hit::Window(held);
+            return Hit::Window(grab);
         }
     }
     topmost(areas, order, shown, x, y)

@@ -146,7 +146,7 @@ fn write(
 {
     let k = table::first_met(x, y, w, h, t, i, n);
     if k == n {
-        numbers::put(out, place, table::relative(x, y, w, h, t));
+        numbers::write_rect(out, place, table::relative(x, y, w, h, t));
         return place + 1;
     }
     let right = x + w;

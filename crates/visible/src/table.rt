@@ -20,7 +20,7 @@ use geom::inner;
 use geom::inner::numbers;
 
 // Writes a rectangle at place k.
-fn put(table: &mut [u32; 68], k: usize, r: Rect)
+fn write_rect(table: &mut [u32; 68], k: usize, r: Rect)
     requires { ⌜ k ≤ 16 ⌝ }
     ensures { λ _. ⌜ now (table .exit) ≡ sets (now (table .entry)) (4 * k) (numbers (r ∷ [])) ⌝ }
 {
@@ -38,7 +38,7 @@ fn keep(at: Rect, r: Rect, table: &mut [u32; 68], k: usize) -> usize
     ensures { λ _. ⌜ now (table .exit) ≡ cond (meets at r) (sets (now (table .entry)) (4 * k) (numbers (r ∷ []))) (now (table .entry)) ⌝ }
 {
     if overlap(at, r) {
-        put(table, k, r);
+        write_rect(table, k, r);
         return k + 1;
     }
     k
@@ -49,7 +49,7 @@ pub fn gather(at: Rect, above: &[u32], n: usize, table: &mut [u32; 68]) -> usize
     requires { ⌜ Fits at × Lent n (now above) × (n ≤ 16) × (length (now table) ≡ 68) ⌝ }
     ensures { λ k. ⌜ Gathered at n (now (above .entry)) k (now (table .exit)) ⌝ }
 {
-    put(table, 16, at);
+    write_rect(table, 16, at);
     let mut k: usize = 0;
     let mut i: usize = 0;
     while i < n {

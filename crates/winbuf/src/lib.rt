@@ -4,6 +4,9 @@
 ghost use mathlib.Core.Path.{_≡_};
 ghost use Rattle.winbuf.specs.Pixels.{lineStart, noPart, scanlineRange, scanline, fillScanline, setScanline, region};
 ghost use Rattle.winbuf.specs.Bare.{Gives, Hands, none, regionStart};
+use geom::answers::OK;
+use geom::answers::OUTSIDE_PIXELS;
+use geom::answers::TOO_LARGE;
 use geom::inner::small::small_area;
 use inner::least;
 use inner::place::Place;
@@ -53,11 +56,17 @@ pub fn scanline_range(
 {
     let place = line_place(total, width, height, line, ofs, len);
     match place {
-        Place::Large => no_part(5),
-        Place::Beside => { if width == 0 { no_part(0) } else { no_part(13) } }
-        Place::Outside => no_part(13),
+        Place::Large => no_part(TOO_LARGE),
+        Place::Beside => {
+            if width == 0 {
+                no_part(OK)
+            } else {
+                no_part(OUTSIDE_PIXELS)
+            }
+        }
+        Place::Outside => no_part(OUTSIDE_PIXELS),
         Place::Found { start, count } => ScanlineRange {
-            answer: 0,
+            answer: OK,
             start,
             count: count as usize,
         },
@@ -109,7 +118,10 @@ pub fn fill_scanline(
         Place::Outside => unaltered(13),
         Place::Found { start, count } => {
             let altered = fill_part(pixels, start, count, value);
-            Altered { answer: 0, altered }
+            Altered {
+                answer: OK,
+                altered,
+            }
         }
     }
 }
@@ -134,7 +146,10 @@ pub fn set_scanline(
         Place::Found { start, count } => {
             let n = least(count as usize, data.len()) as u16;
             let altered = set_part(pixels, start, data, 0, n);
-            Altered { answer: 0, altered }
+            Altered {
+                answer: OK,
+                altered,
+            }
         }
     }
 }
@@ -155,14 +170,14 @@ pub fn region<'a>(
         if region_fits(pixels.len(), stride, x, y, w, h) {
             let start = x as usize + y as usize * stride;
             let count = (h as usize - 1) * stride + w as usize;
-            *answer = 0;
+            *answer = OK;
             &pixels[start..start + count]
         } else {
-            *answer = 13;
+            *answer = OUTSIDE_PIXELS;
             &pixels[..0]
         }
     } else {
-        *answer = 5;
+        *answer = TOO_LARGE;
         &pixels[..0]
     }
 }

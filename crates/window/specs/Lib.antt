@@ -1,4 +1,4 @@
 -- What everybody must believe of one window.
 pub mod Window
-pub mod Held
+pub mod Represents
 pub mod inner

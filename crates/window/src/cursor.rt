@@ -2,7 +2,7 @@
 ghost use mathlib.Core.Path.{_≡_};
 ghost use Prim.Native.Nat.{_≤_};
 ghost use Rattle.window.specs.Window.{cursorAtOrigin, cursorTo, moveOf, cursorRead};
-ghost use Rattle.window.specs.Held.{RepCursor};
+ghost use Rattle.window.specs.Represents.{RepCursor};
 use crate::CursorPos;
 use crate::Event;
 

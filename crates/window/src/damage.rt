@@ -8,7 +8,7 @@ ghost use Rattle.geom.specs.Geom.{rect, left, top, right, bottom, union};
 ghost use Rattle.geom.specs.inner.Fits.{Fits};
 ghost use Rattle.geom.specs.Rect16.{Small, rectOf};
 ghost use Rattle.window.specs.Window as rule;
-ghost use Rattle.window.specs.Held.{Low, rects, RepDamage};
+ghost use Rattle.window.specs.Represents.{Low, rects, RepDamage};
 ghost use Rattle.window.specs.inner.Changes.{MergedInto, JoinedTo, Dirtied};
 use geom::Rect;
 use geom::inner;

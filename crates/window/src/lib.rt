@@ -4,7 +4,7 @@
 ghost use mathlib.Core.Path.{_≡_};
 ghost use mathlib.Core.Bool.{false};
 ghost use Rattle.window.specs.Window.{newWin};
-ghost use Rattle.window.specs.Held.{winOf, RepWindow};
+ghost use Rattle.window.specs.Represents.{winOf, RepWindow};
 use damage::Damage;
 use geom::inner::rect16::Rect16;
 use queue::Queue;

@@ -2,7 +2,7 @@
 ghost use mathlib.Core.Path.{_≡_};
 ghost use mathlib.Core.List.{[]};
 ghost use Prim.Native.Nat.{_≤_, _<_};
-ghost use Rattle.window.specs.Held.{RepQueue, events, place};
+ghost use Rattle.window.specs.Represents.{RepQueue, events, place};
 ghost use Rattle.window.specs.inner.Changes.{Queued, PushedTo, PoppedFrom};
 use crate::Event;
 use crate::slots;

@@ -1,7 +1,7 @@
 // An event in a queue: `slotOf` (specs/inner/Changes.antt) and `eventOf` (specs/Held.antt) in code.
 ghost use mathlib.Core.Path.{_≡_};
 ghost use Prim.Native.Nat.{_≤_};
-ghost use Rattle.window.specs.Held.{eventOf};
+ghost use Rattle.window.specs.Represents.{eventOf};
 ghost use Rattle.window.specs.inner.Changes.{Queued, slot, slotOf};
 use crate::Event;
 

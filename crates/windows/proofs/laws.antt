@@ -13,7 +13,7 @@ pub mod Layered
 pub mod Hidden
 pub mod Store
 pub mod Pixels
-pub mod Dims
+pub mod Maximised
 pub mod Planned
 pub mod Updated
 pub mod Turns

@@ -8,7 +8,7 @@ use mathlib.Core.List.{List, [], _∷_, _++_}
 use mathlib.Core.Option.{some}
 use Rattle.geom.specs.Questions.{_is_, asked}
 use Rattle.geom.specs.Lists.{numbers}
-use Rattle.sheet.specs.declared.Count.{Count}
+use Rattle.geom.specs.declared.Listing.{Listing}
 use Rattle.window.specs.declared.ids.WinId.{WinId}
 use Rattle.look.specs.declared.Look as View
 use Rattle.rules.specs.Group.{Group, allowedC, fresh}
@@ -17,7 +17,7 @@ use Rattle.rules.specs.Panels.{Write, callOf}
 use Rattle.rules.specs.Conditions.{lentStore, lentScreen}
 use Rattle.rules.specs.Demand1 as Rule
 use Rattle.rules.specs.Demand1.{questions, Query, queryQuestions, Reply, reply, refusal, locatedNumbers}
-use Rattle.display.specs.Held.{locatedOf}
+use Rattle.display.specs.Represents.{locatedOf}
 use Rattle.windows.specs.declared.Session.{Session}
 use Rattle.windows.specs.declared.Done.{Done}
 use Rattle.windows.specs.declared.Written.{Written}
@@ -26,7 +26,7 @@ use Rattle.windows.specs.declared.Created.{Created}
 use Rattle.windows.specs.declared.NextEvent.the-variants as NextEvent
 use Rattle.windows.specs.declared.Popped.{Popped}
 use Rattle.windows.specs.declared.Placed.{Placed}
-use Rattle.windows.specs.declared.Listing.{Listing}
+use Rattle.geom.specs.declared.Listing.{Listing}
 use Rattle.windows.specs.declared.InView.{InView}
 use Rattle.windows.specs.declared.ForPos.{ForPos}
 use Rattle.windows.specs.View.{group, Meets, MeetsStore, MeetsAltered, MeetsMark, MeetsScreen, MeetsId, MeetsEvent, Starts, Lists, Shares, Prints, Hits, Looks, Locates, placed}
@@ -80,7 +80,7 @@ pub record NextCall (s : Session) : Type 0 where
       → Replied s (Rule.Visible id lent) (reply (r .answer) left (r .count ∷ []))
   pub share : (id : ℕ) (r : InView) → Shares (group s) id r
       → Replied s (Rule.Share id) (reply (r .answer) [] (r .percent ∷ r .remainder ∷ []))
-  pub sheet : (id : ℕ) (lent left : List ℕ) (r : Count) → Prints (group s) id lent r left
+  pub sheet : (id : ℕ) (lent left : List ℕ) (r : Listing) → Prints (group s) id lent r left
       → Replied s (Rule.Sheet id lent) (reply (r .answer) left (r .count ∷ []))
   pub hits : (points lent left : List ℕ) (a : ℕ) → Hits (group s) points lent a left
       → Replied s (Rule.Hits points lent) (reply a left [])

@@ -36,8 +36,8 @@ pub record SameEnd (t : Session) (q : List ℕ) (t′ : Session) (q′ : List �
   pub store : q ≡ q′
   -- "and so the same next redraw": r is a redraw of the one end and r′ of the other, with the same arguments and lent the same screen. They
   -- answer the same, and leave the same screen, and sessions that hold the same group
-  pub redraw : (told : Bool) (w h : ℕ) (screen : List ℕ) (r r′ : Made) (u u′ : Session)
-      → r .call ≡ Redraw told w h q screen → r′ .call ≡ Redraw told w h q′ screen → Kept r t u → Kept r′ t′ u′
+  pub redraw : (forced : Bool) (w h : ℕ) (screen : List ℕ) (r r′ : Made) (u u′ : Session)
+      → r .call ≡ Redraw forced w h q screen → r′ .call ≡ Redraw forced w h q′ screen → Kept r t u → Kept r′ t′ u′
       → (r .answer ≡ r′ .answer) × (r .screen ≡ r′ .screen) × (group u ≡ group u′)
 
 -- "From any one session and store, for every two lists of fills, blits and marks, one on each of two different windows, every interleaving

@@ -14,7 +14,7 @@ use Rattle.rules.specs.Conditions.{lentStore, lentScreen, beforeLast}
 use Rattle.rules.specs.Demand.{pixelAt, pixelOf, Ended, Two, Repainted, Press, pressAt, Pressed, Released, ListShows}
 use Rattle.windows.specs.declared.Session.{Session}
 use Rattle.windows.specs.declared.Done.{Done}
-use Rattle.windows.specs.declared.Listing.{Listing}
+use Rattle.geom.specs.declared.Listing.{Listing}
 use Rattle.windows.specs.View.{group, Meets, done, Starts, Lists}
 
 -- The calls that were made ----------------------------------------------------------------------------------------------

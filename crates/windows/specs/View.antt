@@ -9,12 +9,12 @@ use Rattle.geom.specs.Questions.{_is_, asked}
 use Rattle.geom.specs.declared.Rect.{Rect}
 use Rattle.geom.specs.Geom.{rect, isEmpty, meets, common}
 use Rattle.winbuf.specs.declared.Altered.{Altered}
-use Rattle.sheet.specs.declared.Count.{Count}
+use Rattle.geom.specs.declared.Listing.{Listing}
 use Rattle.look.specs.declared.Look.{Look}
 use Rattle.window.specs.declared.Window.{Window}
 use Rattle.window.specs.declared.Event.{Event}
 use Rattle.window.specs.Window.{Win}
-use Rattle.window.specs.Held.{winOf, RepWindow, withEntries}
+use Rattle.window.specs.Represents.{winOf, RepWindow, withEntries}
 use Rattle.rules.specs.Group.{Group, start, used, win, withMark}
 use Rattle.rules.specs.Group as Rule
 use Rattle.rules.specs.Share.{share}
@@ -27,8 +27,8 @@ use Rattle.rules.specs.Store.{dirtied, bounds}
 use Rattle.rules.specs.Calls.{Call, Mark, does, after}
 use Rattle.rules.specs.Panels.{Write, fill, blit, mark, callOf}
 use Rattle.due.specs.declared.Walk.{Walk}
-use Rattle.order.specs.Ids.{ids, heldOf}
-use Rattle.display.specs.Held.{regions, RepDisplays, locatedOf}
+use Rattle.order.specs.Ids.{ids, grabOf}
+use Rattle.display.specs.Represents.{regions, RepDisplays, locatedOf}
 use Rattle.windows.specs.declared.Session.{Session}
 use Rattle.windows.specs.declared.Done.{Done}
 use Rattle.windows.specs.declared.Written.{Written}
@@ -39,7 +39,7 @@ use Rattle.windows.specs.declared.NextEvent.{NextEvent}
 use Rattle.windows.specs.declared.NextEvent.the-variants as NextEvent
 use Rattle.windows.specs.declared.Popped.{Popped}
 use Rattle.windows.specs.declared.Placed.{Placed}
-use Rattle.windows.specs.declared.Listing.{Listing}
+use Rattle.geom.specs.declared.Listing.{Listing}
 use Rattle.windows.specs.declared.InView.{InView}
 use Rattle.windows.specs.declared.ForPos.{ForPos}
 
@@ -64,7 +64,7 @@ group s =
       owed = s .shared .due .owed;
       walk = walkOf (s .shared .due .walk);
       dimmed = s .shared .dimmed;
-      held = heldOf (s .shared .held);
+      grab = grabOf (s .shared .grab);
       layers = s .shared .layers;
       displays = regions (s .displays);
       maximised = s .shared .maximised;
@@ -119,8 +119,8 @@ ruled (blit a d stride) w = blitWin a w
 ruled mark w = withMark w
 
 -- the window with the mark and the damage of v. All else of it is as it was, also its array of areas past the entries
-abbrev pub holding : Win → Window → Window
-holding v w =
+abbrev pub grabbing : Win → Window → Window
+grabbing v w =
     record {
       queue = w .queue;
       damage = withEntries (v .damage) (w .damage);
@@ -134,7 +134,7 @@ holding v w =
 abbrev pub rewritten : ℕ → Write → Session → Session
 rewritten id u s =
     record {
-      windows = set (s .windows) id (holding (ruled u (winOf (windowAt s id))) (windowAt s id));
+      windows = set (s .windows) id (grabbing (ruled u (winOf (windowAt s id))) (windowAt s id));
       shared = s .shared;
       displays = s .displays;
     }
@@ -215,7 +215,7 @@ pub record Shares (g : Group) (id : ℕ) (r : InView) : Type 0 where
   pub remainder : r .remainder ≡ share g id .remainder
 
 -- the sheet of the visible part: answer, byte count and the lent buffer are the rule's
-pub record Prints (g : Group) (id : ℕ) (lent : List ℕ) (r : Count) (after : List ℕ) : Type 0 where
+pub record Prints (g : Group) (id : ℕ) (lent : List ℕ) (r : Listing) (after : List ℕ) : Type 0 where
   pub answer : r .answer ≡ sheet g id lent .answer
   pub count : r .count ≡ sheet g id lent .count
   pub bytes : after ≡ sheet g id lent .bytes

@@ -2,9 +2,9 @@
 pub mod One
 pub mod Frames
 pub mod Drawing
-pub mod Walk
+pub mod Sharing
 pub mod Pixels
-pub mod Dims
+pub mod Maximise
 pub mod Drag
 pub mod Events
 pub mod Aimed

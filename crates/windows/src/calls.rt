@@ -5,7 +5,7 @@ ghost use Prim.Native.Nat.{_<_};
 ghost use Rattle.rules.specs.Calls.{Call};
 ghost use Rattle.rules.specs.Panels.{Write};
 ghost use Rattle.windows.specs.View.{done, written, windowAt, Given, Meets, MeetsStore, MeetsAltered, MeetsMark, MeetsScreen, MeetsEvent};
-ghost use Rattle.windows.specs.inner.One.{put};
+ghost use Rattle.windows.specs.inner.One.{withWindow};
 ghost use Rattle.windows.specs.inner.Pixels.{setDamage};
 use crate::Changed;
 use crate::Done;
@@ -33,9 +33,9 @@ use window::queue::front;
 
 impl Session {
     // What a function of one window made, put in its place.
-    fn put(mut self, at: usize, d: Changed) -> Done
+    fn with_window(mut self, at: usize, d: Changed) -> Done
         requires { ⌜ Given self × (at < 16) ⌝ }
-        ensures { λ r. ⌜ r ≡ done (put at (d .window) (d .shared) self) (d .answer) ⌝ }
+        ensures { λ r. ⌜ r ≡ done (withWindow at (d .window) (d .shared) self) (d .answer) ⌝ }
     {
         let window = d.window;
         self.windows[at] = window;
@@ -50,7 +50,7 @@ impl Session {
     // The damage that a fill or a blit made, put in its window.
     fn put_damage(mut self, at: usize, d: Painted) -> Written
         requires { ⌜ Given self × (at < 16) ⌝ }
-        ensures { λ r. ⌜ r ≡ written (put at (setDamage (d .damage) (windowAt self at)) (self .shared) self) (d .result) ⌝ }
+        ensures { λ r. ⌜ r ≡ written (withWindow at (setDamage (d .damage) (windowAt self at)) (self .shared) self) (d .result) ⌝ }
     {
         let damage = d.damage;
         let mut window = self.windows[at];
@@ -70,7 +70,7 @@ impl Session {
     {
         let at = slot(id);
         let d = one::show(self.windows[at], self.shared, id);
-        self.put(at, d)
+        self.with_window(at, d)
     }
 
     // A shown window goes to the top of its layer; a press stays with its window.
@@ -80,7 +80,7 @@ impl Session {
     {
         let at = slot(id);
         let d = one::raise(self.windows[at], self.shared, id);
-        self.put(at, d)
+        self.with_window(at, d)
     }
 
     pub fn hide(self, id: WinId) -> Done
@@ -89,7 +89,7 @@ impl Session {
     {
         let at = slot(id);
         let d = one::hide(self.windows[at], self.shared, id);
-        self.put(at, d)
+        self.with_window(at, d)
     }
 
     pub fn drop(self, id: WinId) -> Done
@@ -98,7 +98,7 @@ impl Session {
     {
         let at = slot(id);
         let d = one::drop(self.windows[at], self.shared, id);
-        self.put(at, d)
+        self.with_window(at, d)
     }
 
     pub fn mark(self, id: WinId) -> Done
@@ -107,7 +107,7 @@ impl Session {
     {
         let at = slot(id);
         let d = one::mark(self.windows[at], self.shared, id);
-        self.put(at, d)
+        self.with_window(at, d)
     }
 
     pub fn move_window(self, id: WinId, pos: Pos) -> Done
@@ -116,7 +116,7 @@ impl Session {
     {
         let at = slot(id);
         let d = one::move_window(self.windows[at], self.shared, id, pos.x, pos.y);
-        self.put(at, d)
+        self.with_window(at, d)
     }
 
     // The window goes elsewhere; it is drawn again, and what it uncovered of those below, not everything.
@@ -146,7 +146,7 @@ impl Session {
     {
         let at = slot(id);
         let d = one::set_layer(self.windows[at], self.shared, id, layer);
-        self.put(at, d)
+        self.with_window(at, d)
     }
 
     pub fn resize(self, id: WinId, size: Dims, store: &mut [u32]) -> Done
@@ -155,7 +155,7 @@ impl Session {
     {
         let at = slot(id);
         let d = store::resize(self.windows[at], self.shared, id, size.w, size.h, store);
-        self.put(at, d)
+        self.with_window(at, d)
     }
 
     pub fn fill(self, id: WinId, area: Rect, colour: u32, store: &mut [u32]) -> Written
@@ -196,10 +196,10 @@ impl Session {
         requires { ⌜ Given self ⌝ }
         ensures { λ r. ⌜ MeetsStore (Call.Maximise (id .0) (now (store .entry))) self r (now (store .exit)) ⌝ }
     {
-        let t = maximise::plan_take(self, id, store);
+        let t = maximise::plan(self, id, store);
         let at = t.at;
-        let d = maximise::take(self.windows[at], self.shared, t.what);
-        self.put(at, d)
+        let d = maximise::apply(self.windows[at], self.shared, t.what);
+        self.with_window(at, d)
     }
 
     // Windows keep to the displays: a maximised one takes the display of its position or the closest, another that is on none comes to the closest.
@@ -235,7 +235,7 @@ impl Session {
         let mut queue = window.queue;
         let to = back(queue.head, queue.len);
         let old = queue.slots[to];
-        let d = events::tell(old, window.cursor, queue.len, self.shared.held, aim.what);
+        let d = events::tell(old, window.cursor, queue.len, self.shared.grab, aim.what);
         let slot = d.slot;
         queue.slots[to] = slot;
         queue.len = d.len;
@@ -243,14 +243,14 @@ impl Session {
         let cursor = d.cursor;
         window.cursor = cursor;
         let mut shared = self.shared;
-        let held = d.held;
-        shared.held = held;
+        let grab = d.grab;
+        shared.grab = grab;
         let told = Changed {
             window,
             shared,
             answer: d.answer,
         };
-        self.put(at, told)
+        self.with_window(at, told)
     }
 
     pub fn pop(mut self, id: WinId) -> Popped
@@ -279,24 +279,24 @@ impl Session {
 
     pub fn redraw(
         self,
-        told: bool,
+        forced: bool,
         store: &[u32],
         screen: &mut [u32],
         width: u32,
         height: u32,
     ) -> Done
         requires { ⌜ Given self ⌝ }
-        ensures { λ r. ⌜ MeetsScreen (Call.Redraw told width height (now (store .entry)) (now (screen .entry))) self r (now (screen .exit)) ⌝ }
+        ensures { λ r. ⌜ MeetsScreen (Call.Redraw forced width height (now (store .entry)) (now (screen .entry))) self r (now (screen .exit)) ⌝ }
     {
-        let d = redraw::draw(self, told, width, height, store, screen);
+        let d = redraw::draw(self, forced, width, height, store, screen);
         redraw::settled(self, d)
     }
 
-    pub fn begin(mut self, told: bool) -> Done
+    pub fn begin(mut self, forced: bool) -> Done
         requires { ⌜ Given self ⌝ }
-        ensures { λ r. ⌜ Meets (Call.Begin told) self r ⌝ }
+        ensures { λ r. ⌜ Meets (Call.Begin forced) self r ⌝ }
     {
-        let d = portion::begin(self.shared, told);
+        let d = portion::begin(self.shared, forced);
         let shared = d.shared;
         self.shared = shared;
         Done {
@@ -333,6 +333,6 @@ impl Session {
             store,
             screen,
         );
-        self.put(at, d)
+        self.with_window(at, d)
     }
 }

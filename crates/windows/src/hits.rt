@@ -2,6 +2,9 @@
 ghost use Rattle.windows.specs.View.{group, Given, Hits};
 use crate::Session;
 use crate::inner::frames::frames;
+use geom::answers::OK;
+use geom::answers::POINTS;
+use geom::answers::TOO_LARGE;
 use topmost::points;
 
 impl Session {
@@ -18,10 +21,10 @@ impl Session {
                 let order = self.shared.order;
                 let n = points.len() / 2;
                 topmost::hits::hits(areas, order, self.shared.shown, points, answers, n);
-                return 0;
+                return OK;
             }
-            return 25;
+            return POINTS;
         }
-        5
+        TOO_LARGE
     }
 }

@@ -21,13 +21,13 @@ use window::Window;
 use window::ids::WinId;
 
 mod calls;
-mod group;
 mod hits;
 pub mod inner;
-mod list;
+mod looks;
 mod share;
 mod sheets;
-mod zoom;
+mod start;
+mod visible_list;
 
 // What the windows share: the render order, which holds the shown ones in its first `shown` places, lowest first; C; the
 // focus; whether dimming is on; `held`, the window that took the last MouseDown, while it is remembered, else `NOBODY`;
@@ -40,7 +40,7 @@ pub struct Shared {
     pub c: u32,
     pub focus: WinId,
     pub dimmed: bool,
-    pub held: WinId,
+    pub grab: WinId,
     pub due: Due,
     pub layers: [u8; 16],
     pub maximised: [bool; 16],
@@ -120,13 +120,6 @@ pub struct Popped {
     pub session: Session,
     pub answer: u32,
     pub event: NextEvent,
-}
-
-// The answer, and how many rectangles a visible list then holds: none where the call was refused.
-#[repr(C)]
-pub struct Listing {
-    pub answer: u32,
-    pub count: usize,
 }
 
 // The share of a window that is in view, as whole percent and what is left over of w × h; both are 0 where the answer is 3 or 24.

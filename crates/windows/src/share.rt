@@ -7,6 +7,9 @@ ghost use Rattle.order.specs.inner.Order.{renderIdx};
 use crate::InView;
 use crate::Session;
 use crate::inner::frames::frames;
+use geom::answers::NOT_IN_VIEW;
+use geom::answers::OK;
+use geom::answers::UNKNOWN_ID;
 use geom::inner::is_empty;
 use order::RenderIdx;
 use order::get_render_idx;
@@ -28,7 +31,7 @@ impl Session {
         let r = area.rect();
         if is_empty(r) {
             return InView {
-                answer: 24,
+                answer: NOT_IN_VIEW,
                 percent: 0,
                 remainder: 0,
             };
@@ -39,7 +42,7 @@ impl Session {
         let seen = 100 * visible::list::pixels(r, &numbers, n) as u32;
         let size = r.dims.w * r.dims.h;
         InView {
-            answer: 0,
+            answer: OK,
             percent: seen / size,
             remainder: seen % size,
         }
@@ -50,7 +53,7 @@ impl Session {
         requires { ⌜ Given self ⌝ }
         ensures { λ r. ⌜ Shares (group self) (id .0) r ⌝ }
     {
-        let mut answer: u32 = 3;
+        let mut answer: u32 = UNKNOWN_ID;
         let k = id.0;
         if k < 16 {
             let at = k as usize;
@@ -63,7 +66,7 @@ impl Session {
                 if let RenderIdx::At(p) = idx {
                     return self.share_shown(id, p);
                 }
-                answer = 24;
+                answer = NOT_IN_VIEW;
             }
         }
         InView {

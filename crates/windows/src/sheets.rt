@@ -6,16 +6,17 @@ ghost use Rattle.order.specs.Ids.{ids};
 ghost use Rattle.order.specs.inner.Order.{renderIdx};
 use crate::Session;
 use crate::inner::frames::frames;
+use geom::Listing;
+use geom::answers::UNKNOWN_ID;
 use order::RenderIdx;
 use order::get_render_idx;
 use order::rects;
-use sheet::Count;
 use window::ids::Place;
 use window::ids::WinId;
 
 impl Session {
     // The sheet of a window in use, which stands at a place of the order, so that at most 15 windows are above it.
-    fn sheet_shown(self, id: WinId, p: Place, bytes: &mut [u8]) -> Count
+    fn sheet_shown(self, id: WinId, p: Place, bytes: &mut [u8]) -> Listing
         requires { ⌜ Given self × (some (p .0) ≡ renderIdx (id .0) (ids (self .shared .shown) (self .shared .order))) ⌝ }
         ensures { λ r. ⌜ Prints (group self) (id .0) (now (bytes .entry)) r (now (bytes .exit)) ⌝ }
     {
@@ -33,7 +34,7 @@ impl Session {
 
     // The sheet of a window's visible part, from the front of the buffer; its rest is untouched. A hidden window has the sheet without bands, "one
     // zero byte".
-    pub fn sheet(self, id: WinId, bytes: &mut [u8]) -> Count
+    pub fn sheet(self, id: WinId, bytes: &mut [u8]) -> Listing
         requires { ⌜ Given self ⌝ }
         ensures { λ r. ⌜ Prints (group self) (id .0) (now (bytes .entry)) r (now (bytes .exit)) ⌝ }
     {
@@ -53,8 +54,8 @@ impl Session {
                 return sheet::inner::write::write(&numbers, 0, 0, bytes);
             }
         }
-        Count {
-            answer: 3,
+        Listing {
+            answer: UNKNOWN_ID,
             count: 0,
         }
     }

@@ -19,7 +19,7 @@ use Rattle.geom.proofs.geometry.Facts.{solid}
 use Rattle.rules.specs.Displays.{onScreen, roomFor}
 use Rattle.display.specs.declared.Displays.{Displays}
 use Rattle.display.specs.declared.Added.{Added}
-use Rattle.display.specs.Held.{regions, OnScreen, RepDisplays, Adds}
+use Rattle.display.specs.Represents.{regions, OnScreen, RepDisplays, Adds}
 use Rattle.display.proofs.laws.Regions.{count, screen-solid}
 
 -- question 15

@@ -16,7 +16,7 @@ use Rattle.geom.proofs.basics.Lists.{All, all-imp}
 use Rattle.geom.proofs.geometry.Facts.{says-empty}
 use Rattle.geom.proofs.geometry.Displays.{display-in}
 use Rattle.display.specs.declared.Displays.{Displays}
-use Rattle.display.specs.Held.{regions, OnScreen, RepDisplays}
+use Rattle.display.specs.Represents.{regions, OnScreen, RepDisplays}
 
 abbrev pub region : Displays → ℕ → Rect
 region d i = rectOf (getD (d .areas) i noRect16)

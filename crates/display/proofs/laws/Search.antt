@@ -15,7 +15,7 @@ use Rattle.geom.specs.Geom.{contains}
 use Rattle.geom.specs.Nearest.{nearestX, nearestY, apart}
 use Rattle.geom.specs.Displays.{firstOn, away², closestOf, closestTo}
 use Rattle.display.specs.declared.Displays.{Displays}
-use Rattle.display.specs.Held.{regions, OnScreen, RepDisplays}
+use Rattle.display.specs.Represents.{regions, OnScreen, RepDisplays}
 use Rattle.display.proofs.laws.Regions.{region, next, last, longer, all}
 
 -- The first that contains the position ---------------------------------------------------------------------------------

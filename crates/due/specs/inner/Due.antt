@@ -21,7 +21,7 @@ owing u shown = settled true (walkAt 0 (u .walk .on) true) shown
 
 -- "full if told so or owed"
 abbrev pub begun : Bool → Due → ℕ → Due
-begun told u shown = settled (u .owed) (walkAt 0 true (told || u .owed)) shown
+begun forced u shown = settled (u .owed) (walkAt 0 true (forced || u .owed)) shown
 
 -- one window further
 abbrev pub further : Due → ℕ → Due

@@ -17,7 +17,7 @@ pub fn rect_at(list: &[u32], i: usize) -> Rect
 }
 
 // Writes the four numbers of a rectangle. A place holds four numbers.
-pub fn put(list: &mut [u32], place: usize, r: Rect)
+pub fn write_rect(list: &mut [u32], place: usize, r: Rect)
     requires { ⌜ 4 * (place + 1) ≤ length (now list) ⌝ }
     ensures { λ _. ⌜ now (list .exit) ≡ sets (now (list .entry)) (4 * place) (numbers (r ∷ [])) ⌝ }
 {

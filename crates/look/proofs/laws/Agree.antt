@@ -15,7 +15,7 @@ use Rattle.look.specs.declared.Zoom.{Zoom}
 use Rattle.look.specs.declared.Zoom.the-variants.{Factor, Fit}
 use Rattle.look.specs.Floats.{power, isFactor, isCorner, allows, allowed}
 use Rattle.look.specs.Fit.{fits, passesNeither, fitFactor}
-use Rattle.look.specs.View.{Taken, takes, takenOf, place}
+use Rattle.look.specs.View.{Lens, lens, lensOf, place}
 use Rattle.look.specs.Quarters.{IsQuarters, quarters, stepOf, fitsQuarters, fitsBoth, fitQuarters, stepsBy, stepsOf, placeQuarters}
 use Rattle.look.specs.Agree.{Small, Axis, across, downward, corner, quarterCorner, Agree}
 use Rattle.look.proofs.laws.Exact.{of-whole, of-mul, of-div, of-add}
@@ -86,7 +86,7 @@ module _ (s : Sizes) (small : Small s) where
 
 -- What a look comes to in f64 and in whole quarters -----------------------------------------------------------------------
 
-pub record Same (t : Taken) (s : Steps) : Type 0 where
+pub record Same (t : Lens) (s : Steps) : Type 0 where
   pub at : (a : Axis) → IsQuarters (corner a t) (quarterCorner a s) × (quarterCorner a s ≤ 131068)
   pub f : ℕ
   pub factor : IsQuarters (t .factor) f
@@ -96,7 +96,7 @@ axes : (P : Axis → Type 0) → P across → P downward → (a : Axis) → P a
 axes P p q across = p
 axes P p q downward = q
 
-pub same : (z : Zoom) (x y : Float) (s : Sizes) → allows z x y ≡ true → Small s → Same (takes z x y s) (stepsBy z x y s)
+pub same : (z : Zoom) (x y : Float) (s : Sizes) → allows z x y ≡ true → Small s → Same (lens z x y s) (stepsBy z x y s)
 same (Factor f) x y s ok small =
     let t = fst (isFactor f) (isCorner x && isCorner y) ok in
     let r = snd (isFactor f) (isCorner x && isCorner y) ok in
@@ -117,6 +117,6 @@ pub agree : Agree
 unfolding allowed
 agree l s ok small a i below =
     let r = same (l .zoom) (l .x) (l .y) s ok small in
-    let t = takenOf l s in
+    let t = lensOf l s in
     let u = stepsOf l s in
     placed (corner a t) (t .factor) (quarterCorner a u) (r .f) (u .step) i (r .at a .0) (r .factor) (r .step) (r .at a .1) below

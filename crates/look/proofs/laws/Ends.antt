@@ -16,7 +16,7 @@ use Rattle.look.specs.declared.Steps.{Steps}
 use Rattle.look.specs.declared.whole.Whole.{Whole}
 use Rattle.look.specs.declared.whole.Whole.the-variants as Whole
 use Rattle.look.specs.Floats.{allowed}
-use Rattle.look.specs.View.{windowPixel, shown, takenOf, place, view, isSide, targetFits}
+use Rattle.look.specs.View.{windowPixel, shown, lensOf, place, view, isSide, targetFits}
 use Rattle.look.specs.Quarters.{stepsOf, placeQuarters}
 use Rattle.look.specs.Agree.{Small, across, downward, EachPixel}
 use Rattle.look.specs.inner.Steps.{pickWhole, wholeOf, Stepping, Looks}
@@ -25,9 +25,9 @@ use Rattle.look.proofs.laws.Picture.{length-picture, getD-picture, pict
 
 -- What the tests say ----------------------------------------------------------------------------------------------------
 
-pub taken : (l : Look) (s : Sizes) (t : Steps) → wholeOf l s ≡ Whole.Steps t → (allowed l ≡ true) × (stepsOf l s ≡ t)
+pub stepped : (l : Look) (s : Sizes) (t : Steps) → wholeOf l s ≡ Whole.Steps t → (allowed l ≡ true) × (stepsOf l s ≡ t)
 unfolding wholeOf
-taken l s t e = go (allowed l) e
+stepped l s t e = go (allowed l) e
   where
     go : (z : Bool) → pickWhole z (Whole.Steps (stepsOf l s)) Whole.Wrong ≡ Whole.Steps t → (z ≡ true) × (stepsOf l s ≡ t)
     go true e = (refl, (cc))
@@ -68,7 +68,7 @@ module _ (l : Look) (s : Sizes) (ok : allowed l ≡ true) (small : Small s) wher
   unfolding view
   quarters-view base store =
       let t = stepsOf l s in
-      let u = takenOf l s in
+      let u = lensOf l s in
       picture-ext (λ i j. windowPixel base (s .w) (s .h) store (placeQuarters (t .x) (t .step) i) (placeQuarters (t .y) (t .step) j))
       (λ i j. windowPixel base (s .w) (s .h) store (place (u .x) (u .factor) i) (place (u .y) (u .factor) j)) (s .tw) (s .th)
       (λ i j a b. sym (λ k. windowPixel base (s .w) (s .h) store (agree l s ok small across i (omega (arith, small .tw)) k) (agree l s ok small downward j (omega (arith, small .th)) k)))
@@ -90,6 +90,6 @@ module _ (l : Look) (s : Sizes) (base : ℕ) (store t : List ℕ) where
 pub each-pixel : EachPixel
 unfolding view
 each-pixel l s base store =
-    let t = takenOf l s in
+    let t = lensOf l s in
     let f : ℕ → ℕ → ℕ = λ i j. windowPixel base (s .w) (s .h) store (place (t .x) (t .factor) i) (place (t .y) (t .factor) j) in
     record { size = length-picture f (s .tw) (s .th) ∙ mul-comm (s .th) (s .tw); each = λ i j a b. getD-picture f (s .tw) (s .th) i j a b }

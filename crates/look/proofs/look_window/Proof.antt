@@ -14,7 +14,7 @@ use Rattle.look.specs.View.{shown, targetFits}
 use Rattle.look.specs.Quarters.{stepsOf, placeQuarters}
 use Rattle.look.specs.Agree.{Small}
 use Rattle.look.specs.inner.Steps.{Stepping, Looks}
-use Rattle.look.proofs.laws.Ends.{taken, wrong, fitting, stepping, quarters-view, says-22, says-23, says-0}
+use Rattle.look.proofs.laws.Ends.{stepped, wrong, fitting, stepping, quarters-view, says-22, says-23, says-0}
 use Rattle.look.proofs.look_window.Statement.{statement}
 use Rattle.look.proofs.look_window.Tie as tie
 
@@ -76,7 +76,7 @@ steps : (c : tie.Then1) → let l = entry c .args .look in
 unfolding sizes
 steps c =
     let w = c .before .before .before in
-    taken (w .before .before .before .before .before .args .look) (sizes c) _ (sym (w .before .before .whole-of .ensures) ∙ w .whole .given .1)
+    stepped (w .before .before .before .before .before .args .look) (sizes c) _ (sym (w .before .before .whole-of .ensures) ∙ w .whole .given .1)
 
 cast-look-rows : tie.Need-cast-look-rows
 unfolding sizes
@@ -105,7 +105,7 @@ returns-3 c =
     let a = w .before .before .before .before .before .args in
     let s : Sizes = record { w = a .w; h = a .h; tw = a .tw; th = a .th } in
     says-23 (a .look) s (a .base) (a .store .now) (a .target .now)
-    (taken (a .look) s _ (sym (w .before .before .whole-of .ensures) ∙ w .whole .given .1) .0) (sym (c .before .target-fits .ensures) ∙ c .if1 .left)
+    (stepped (a .look) s _ (sym (w .before .before .whole-of .ensures) ∙ w .whole .given .1) .0) (sym (c .before .target-fits .ensures) ∙ c .if1 .left)
 
 pub look-window-spec : {M : Type 1} → statement M
 look-window-spec =

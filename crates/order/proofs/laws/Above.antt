@@ -13,7 +13,7 @@ use Rattle.geom.specs.Geom.{rect}
 use Rattle.geom.specs.Rect16.{rectOf, noRect16, Small}
 use Rattle.window.specs.declared.damage.Damage.{Damage}
 use Rattle.window.specs.declared.ids.WinId.{WinId}
-use Rattle.window.specs.Held.{rects, Low, RepDamage}
+use Rattle.window.specs.Represents.{rects, Low, RepDamage}
 use Rattle.window.specs.inner.Ids.{noId}
 use Rattle.rules.specs.Redraw.{none?}
 use Rattle.order.specs.Ids.{ids}

@@ -8,7 +8,7 @@ use lib.Seq.{length-sets, take-suc, take-all}
 use Rattle.geom.specs.declared.Rect.{Rect}
 use Rattle.geom.specs.Lists.{numbers}
 use Rattle.geom.specs.inner.Fits.{Fits}
-use Rattle.window.specs.Held.{Low}
+use Rattle.window.specs.Represents.{Low}
 use Rattle.rules.specs.inner.Lent.{AllFit, Lent}
 use Rattle.rules.proofs.Lent.{stored, rects-put}
 use Rattle.order.specs.declared.rects.Rects.{Rects}

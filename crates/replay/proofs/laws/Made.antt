@@ -7,7 +7,7 @@ use native.Mathlib.Omega.{arith}
 use lib.ListN.{length, take, drop}
 use lib.Seq.{length-take-le}
 use Rattle.look.specs.declared.Look.{Look}
-use Rattle.sheet.specs.declared.Count.{Count}
+use Rattle.geom.specs.declared.Listing.{Listing}
 use Rattle.sheet.specs.Reader.{Reads}
 use Rattle.script.specs.declared.shape.Line.{Line}
 use Rattle.rules.specs.Group.{Group, sessionC}
@@ -15,7 +15,7 @@ use Rattle.rules.specs.Look.{look}
 use Rattle.rules.specs.Calls.{Call}
 use Rattle.windows.specs.declared.Session.{Session}
 use Rattle.windows.specs.declared.Done.{Done}
-use Rattle.windows.specs.declared.Listing.{Listing}
+use Rattle.geom.specs.declared.Listing.{Listing}
 use Rattle.windows.specs.View.{group, Meets, MeetsStore, MeetsScreen, Starts, Lists, Hits, Looks, Prints}
 use Rattle.replay.specs.declared.player.Player.{Player}
 use Rattle.replay.specs.Ready.{Ready, Next, lendStore}
@@ -97,13 +97,13 @@ look-part g k ns store lent lent′ id j tw th n m l target last a e i f z w t d
       shown = (λ x. h .target x ++ drop (sym d x) target) ∙ (λ x. look g (i x) (f x) (take (sym e x) store) (take (sym d x) target) (here x) (next x) .target ++ drop n target);
     }
 
-pub read-part : (bytes : List ℕ) (n m : ℕ) (list last : List ℕ) (r : Count) → n ≡ m → n ≤ length list
+pub read-part : (bytes : List ℕ) (n m : ℕ) (list last : List ℕ) (r : Listing) → n ≡ m → n ≤ length list
     → Reads bytes (take m (drop 0 list)) r last → ReadsPart bytes n list r (take 0 list ++ (last ++ drop m (drop 0 list)))
 read-part bytes n m list last r e l h =
     subst (λ (m : ℕ). Reads bytes (take m (drop 0 list)) r last → ReadsPart bytes n list r (take 0 list ++ (last ++ drop m (drop 0 list)))) e
     (λ q. record { front = last; reads = q; listed = refl; room = omega (arith, read-room bytes (take n list) last r q, length-take-le n list l) }) h
 
-pub print-part : (g : Group) (id j n m : ℕ) (bytes last : List ℕ) (r : Count) → j ≡ id → n ≡ m → n ≤ length bytes
+pub print-part : (g : Group) (id j n m : ℕ) (bytes last : List ℕ) (r : Listing) → j ≡ id → n ≡ m → n ≤ length bytes
     → Prints g j (take m (drop 0 bytes)) r last → PrintsPart g id n bytes r (take 0 bytes ++ (last ++ drop m (drop 0 bytes)))
 print-part g id j n m bytes last r i e l h =
     subst (λ (m : ℕ). Prints g j (take m (drop 0 bytes)) r last → PrintsPart g id n bytes r (take 0 bytes ++ (last ++ drop m (drop 0 bytes)))) e

@@ -12,7 +12,7 @@ use Rattle.geom.specs.Questions.{_is_, asked}
 use Rattle.geom.specs.Geom.{rect}
 use Rattle.geom.proofs.basics.Questions.{asked₂}
 use Rattle.geom.proofs.basics.Tests.{snd, on-cond, on-test, says-le}
-use Rattle.sheet.specs.declared.Count.{Count}
+use Rattle.geom.specs.declared.Listing.{Listing}
 use Rattle.sheet.specs.Sheet.{rects}
 use Rattle.sheet.specs.Bytes.{encode}
 use Rattle.sheet.specs.Reader.{Reads, broken, short, whole}
@@ -68,10 +68,10 @@ hits-room g points l e =
 -- A sheet that is read --------------------------------------------------------------------------------------------------
 
 -- its list holds four numbers for each rectangle
-pub read-room : (bytes list after : List ℕ) (r : Count) → Reads bytes list r after → 4 * r .count ≤ length list
-read-room bytes list after r (broken n e a) = let c : r .count ≡ 0 = ap (λ (k : Count). k .count) e in omega arith
-read-room bytes list after r (short s i l e a) = let c : r .count ≡ 0 = ap (λ (k : Count). k .count) e in omega arith
-read-room bytes list after r (whole s i l e a) = let c : r .count ≡ length (rects s) = ap (λ (k : Count). k .count) e in omega arith
+pub read-room : (bytes list after : List ℕ) (r : Listing) → Reads bytes list r after → 4 * r .count ≤ length list
+read-room bytes list after r (broken n e a) = let c : r .count ≡ 0 = ap (λ (k : Listing). k .count) e in omega arith
+read-room bytes list after r (short s i l e a) = let c : r .count ≡ 0 = ap (λ (k : Listing). k .count) e in omega arith
+read-room bytes list after r (whole s i l e a) = let c : r .count ≡ length (rects s) = ap (λ (k : Listing). k .count) e in omega arith
 
 -- A sheet that is printed -----------------------------------------------------------------------------------------------
 

@@ -4,14 +4,14 @@ use mathlib.Core.Path.{_≡_}
 use mathlib.Core.Bool.{cond}
 use mathlib.Core.List.{List, _++_}
 use lib.ListN.{take, drop}
-use Rattle.sheet.specs.declared.Count.{Count}
+use Rattle.geom.specs.declared.Listing.{Listing}
 use Rattle.sheet.specs.Reader.{Reads}
 use Rattle.rules.specs.Group.{Group}
 use Rattle.rules.specs.Sheets.{sheet}
 use Rattle.replay.specs.declared.player.Player.{Player}
 
 -- the reader, lent the first n numbers of the list, of which it leaves `front`
-pub record ReadsPart (bytes : List ℕ) (n : ℕ) (list : List ℕ) (r : Count) (after : List ℕ) : Type 0 where
+pub record ReadsPart (bytes : List ℕ) (n : ℕ) (list : List ℕ) (r : Listing) (after : List ℕ) : Type 0 where
   pub front : List ℕ
   pub reads : Reads bytes (take n list) r front
   pub listed : after ≡ front ++ drop n list
@@ -22,7 +22,7 @@ abbrev pub sheetLen : Player → ℕ
 sheetLen p = cond (p .«has_sheet») (p .sheet) 2048
 
 -- the writer, lent the first n bytes of the buffer
-pub record PrintsPart (g : Group) (id n : ℕ) (bytes : List ℕ) (r : Count) (after : List ℕ) : Type 0 where
+pub record PrintsPart (g : Group) (id n : ℕ) (bytes : List ℕ) (r : Listing) (after : List ℕ) : Type 0 where
   pub answer : r .answer ≡ sheet g id (take n bytes) .answer
   pub count : r .count ≡ sheet g id (take n bytes) .count
   pub printed : after ≡ sheet g id (take n bytes) .bytes ++ drop n bytes

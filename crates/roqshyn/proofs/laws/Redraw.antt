@@ -23,7 +23,7 @@ use Rattle.window.specs.declared.Window.{Window}
 use Rattle.window.specs.declared.damage.Damage.{Damage}
 use Rattle.window.specs.declared.ids.WinId.{WinId}
 use Rattle.window.specs.Window.{Win}
-use Rattle.window.specs.Held.{rects, RepDamage}
+use Rattle.window.specs.Represents.{rects, RepDamage}
 use Rattle.window.specs.inner.Ids.{noId}
 use Rattle.rules.specs.Group.{win, setWin}
 use Rattle.rules.specs.Order.{above}
@@ -37,7 +37,7 @@ use Rattle.due.specs.declared.Due.{Due}
 use Rattle.order.specs.inner.Rects.{dirtyOf}
 use Rattle.windows.specs.declared.Session.{Session}
 use Rattle.windows.specs.View.{group, blank, windowAt, done, Rep, Given, MeetsScreen}
-use Rattle.windows.specs.inner.Walk.{noted, sharing, wiped}
+use Rattle.windows.specs.inner.Sharing.{noted, sharing, wiped}
 use Rattle.windows.proofs.laws.Session.{win-at, putWindow, put-group, put-rep, is-whole, isnt-whole, refuses}
 use Rattle.windows.proofs.laws.One.{put-back}
 use Rattle.windows.proofs.laws.Places.{order-length, id-at, id-low, is-used, win-there, above-there}
@@ -176,41 +176,41 @@ module _ {s : Session} {damage : Damage} {l : Layout} {at p : ℕ} (o : OnTurn s
 
 -- The plan ------------------------------------------------------------------------------------------------------------
 
-module _ (s : Session) (told : Bool) (sw sh store screen : ℕ) (h : Given s) where
+module _ (s : Session) (forced : Bool) (sw sh store screen : ℕ) (h : Given s) where
   pub no-screen : store ≡ 16 * s .shared .c → leb 1 sw && small sw && (leb 1 sh && small sh) && eqb screen (sw * sh) ≡ false
-      → Refused s told sw sh store screen 8
+      → Refused s forced sw sh store screen 8
   unfolding does Draw.redraw
   no-screen w f pixels shown e k =
       let y : whole (group s) pixels ≡ true = is-whole s pixels (e ∙ w) in
       let n : screenFits sw sh shown ≡ false = subst (λ (i : ℕ). leb 1 sw && small sw && (leb 1 sh && small sh) && eqb i (sw * sh) ≡ false) (sym k) f in
-      record { meets = refuses (Redraw told sw sh pixels shown) s 7 h (rw (y, n)); shown = rw (y, n) }
+      record { meets = refuses (Redraw forced sw sh pixels shown) s 7 h (rw (y, n)); shown = rw (y, n) }
 
-  pub no-store : (store ≡ 16 * s .shared .c → ⊥) → Refused s told sw sh store screen 1
+  pub no-store : (store ≡ 16 * s .shared .c → ⊥) → Refused s forced sw sh store screen 1
   unfolding does Draw.redraw
   no-store w pixels shown e k =
       let y : whole (group s) pixels ≡ false = isnt-whole s pixels (λ q. w (sym e ∙ q)) in
-      record { meets = refuses (Redraw told sw sh pixels shown) s 0 h (rw y); shown = rw y }
+      record { meets = refuses (Redraw forced sw sh pixels shown) s 0 h (rw y); shown = rw y }
 
 -- All turns -----------------------------------------------------------------------------------------------------------
 
 -- before turn p: what is left to draw and to clear gives what the rule gives, and the windows from place p on are as
 -- they were
-pub record Redrawing (first : Session) (told : Bool) (sw sh : ℕ) (store lent : List ℕ) (t : RedrawPlan) (p : ℕ) (s : Session) (screen : List ℕ) : Type 0 where
+pub record Redrawing (first : Session) (forced : Bool) (sw sh : ℕ) (store lent : List ℕ) (t : RedrawPlan) (p : ℕ) (s : Session) (screen : List ℕ) : Type 0 where
   pub given : Given first
-  pub plan : PlansRedraw first told sw sh (length store) (length lent) t
+  pub plan : PlansRedraw first forced sw sh (length store) (length lent) t
   pub few : p ≤ t .n
   pub rep : Rep s
   pub shared : s .shared ≡ first .shared
   pub untouched : (q : ℕ) → p ≤ q → q < first .shared .shown
       → windowAt s (getD (first .shared .order) q noId .0) ≡ windowAt first (getD (first .shared .order) q noId .0)
-  pub drawing : Drawing first (told || first .shared .due .owed) store sw sh lent screen p
-  pub cleaning : cleanAll (told || first .shared .due .owed) (drop p (group first .order)) (group s)
-      ≡ cleanAll (told || first .shared .due .owed) (group first .order) (group first)
+  pub drawing : Drawing first (forced || first .shared .due .owed) store sw sh lent screen p
+  pub cleaning : cleanAll (forced || first .shared .due .owed) (drop p (group first .order)) (group s)
+      ≡ cleanAll (forced || first .shared .due .owed) (group first .order) (group first)
   pub same : p ≡ 0 → (s ≡ first) × (screen ≡ lent)
 
-pub begins : (s : Session) (told : Bool) (sw sh : ℕ) (store screen : List ℕ) (t : RedrawPlan) → Given s → PlansRedraw s told sw sh (length store) (length screen) t
-    → Redrawing s told sw sh store screen t 0 s screen
-begins s told sw sh store screen t h q =
+pub begins : (s : Session) (forced : Bool) (sw sh : ℕ) (store screen : List ℕ) (t : RedrawPlan) → Given s → PlansRedraw s forced sw sh (length store) (length screen) t
+    → Redrawing s forced sw sh store screen t 0 s screen
+begins s forced sw sh store screen t h q =
     record {
       given = h;
       plan = q;
@@ -242,10 +242,10 @@ both-cleared : (full : Bool) (w : Window) (b : Bool) → full || w .marked ≡ b
 both-cleared full w true e = refl
 both-cleared full w false e = λ i. record { queue = w .queue; damage = w .damage; at = w .at; cursor = w .cursor; used = w .used; marked = sym (nor-snd full (w .marked) e) i }
 
-module _ {first : Session} {told : Bool} {sw sh : ℕ} {store lent : List ℕ} {t : RedrawPlan} {p : ℕ} {s : Session} {screen : List ℕ}
-    (q : Redrawing first told sw sh store lent t p s screen) where
+module _ {first : Session} {forced : Bool} {sw sh : ℕ} {store lent : List ℕ} {t : RedrawPlan} {p : ℕ} {s : Session} {screen : List ℕ}
+    (q : Redrawing first forced sw sh store lent t p s screen) where
   abbrev full : Bool
-  full = told || first .shared .due .owed
+  full = forced || first .shared .due .owed
 
   laid : LaidOut first (t .layout .full) (t .layout)
   laid = subst (λ (f : Bool). LaidOut first f (t .layout)) (sym (q .plan .layout .is-full)) (q .plan .layout)
@@ -336,7 +336,7 @@ module _ {first : Session} {told : Bool} {sw sh : ℕ} {store lent : List ℕ} {
 
       pub goes-on : (r : Cleared) (screen′ : List ℕ) → length screen′ ≡ length screen
           → DrawsTurn (w .damage) (t .layout) at p sw sh store screen r screen′
-          → Redrawing first told sw sh store lent t (p + 1) (written (r .marked) (r .len)) screen′
+          → Redrawing first forced sw sh store lent t (p + 1) (written (r .marked) (r .len)) screen′
       goes-on r screen′ size d =
           let o = d first its-turn in
           let f : t .layout .full ≡ full = q .plan .layout .is-full in
@@ -349,7 +349,7 @@ module _ {first : Session} {told : Bool} {sw sh : ℕ} {store lent : List ℕ} {
           ∙ ap (λ (x : Window). putWindow at x s) (both-cleared full w drawn refl) in
           let e : screen′ ≡ drawWindow (group first) full store sw sh (getD (group first .order) p 0) screen =
           o .0 ∙ (λ i. drawWindow (group first) (f i) store sw sh ((number ∙ sym (id-at first (q .given) p in-order its-id refl)) i) screen) in
-          subst (λ (x : Session). Redrawing first told sw sh store lent t (p + 1) x screen′) (sym state)
+          subst (λ (x : Session). Redrawing first forced sw sh store lent t (p + 1) x screen′) (sym state)
           (record {
             given = q .given;
             plan = q .plan;
@@ -366,7 +366,7 @@ module _ {first : Session} {told : Bool} {sw sh : ℕ} {store lent : List ℕ} {
           })
 
   abbrev Met : Session → ℕ → List ℕ → Type 0
-  Met x n ys = MeetsScreen (Redraw told sw sh store lent) first (done x n) ys
+  Met x n ys = MeetsScreen (Redraw forced sw sh store lent) first (done x n) ys
 
   abbrev noting : Due → Session
   noting x = sharing (noted x (s .shared)) s
@@ -384,7 +384,7 @@ module _ {first : Session} {told : Bool} {sw sh : ℕ} {store lent : List ℕ} {
           let g : group s ≡ cleanAll full (group first .order) (group first) = ap (λ (os : List ℕ). cleanAll full os (group s)) (sym none-left) ∙ q .cleaning in
           let c = pays s (cleanAll full (group first .order) (group first)) (g, q .rep) in
           let m : Met (withoutDebt s) 0 screen =
-          draws first told sw sh store lent (q .given) full refl screen (is-whole first store (k .1 .whole)) (k .1 .fits) (draw-end (q .given) (q .drawing) all) _
+          draws first forced sw sh store lent (q .given) full refl screen (is-whole first store (k .1 .whole)) (k .1 .fits) (draw-end (q .given) (q .drawing) all) _
           (record { answer = refl; clean = λ _. c; same = λ n. absurd (n refl) }) in
           let u-is : u ≡ free (s .shared .due) = pay ∙ ap (λ (b : Bool). cond b (free (s .shared .due)) (s .shared .due)) (eq-eqb (t .answer) 0 e) in
           subst (λ (n : ℕ). Met (noting u) n screen) (sym e) (subst (λ (x : Due). Met (noting x) 0 screen) (sym u-is) m)

@@ -9,21 +9,21 @@ use Rattle.windows.specs.declared.Session.{Session}
 use Rattle.windows.specs.declared.Shared.{Shared}
 use Rattle.windows.specs.declared.FreeSlot.{FreeSlot}
 use Rattle.windows.specs.View.{windowAt, Given}
-use Rattle.windows.specs.inner.One.{At, Free, put}
+use Rattle.windows.specs.inner.One.{At, Free, withWindow}
 use Rattle.windows.specs.inner.Aimed.{AtFront}
 use Rattle.roqshyn.specs.declared.values.Made.{Made}
-use Rattle.roqshyn.specs.declared.values.Taken.{Taken}
+use Rattle.roqshyn.specs.declared.values.AfterPop.{AfterPop}
 use Rattle.roqshyn.specs.Answers.{Creates, Pops}
 
 -- in every session that holds it, at a place for the next window
 abbrev pub MakesAt : ℕ → Window → Shared → Made → Type 0
 MakesAt id w k r =
     (s : Session) (f : FreeSlot) → Given s → Free s f → f .id .0 ≡ id → windowAt s (f .at) ≡ w → s .shared ≡ k
-    → Creates s (put (f .at) (r .window) (r .shared) s) (r .created)
+    → Creates s (withWindow (f .at) (r .window) (r .shared) s) (r .created)
 
 -- a window after a pop: another cursor, and a queue from another place on
-abbrev pub taken : Taken → Window → Window
-taken r w =
+abbrev pub afterPop : AfterPop → Window → Window
+afterPop r w =
     record {
       queue = record { slots = w .queue .slots; head = r .head; len = r .len };
       damage = w .damage;
@@ -34,8 +34,8 @@ taken r w =
     }
 
 -- in every session that holds a window with these fields
-abbrev pub TakesFront : ℕ → Bool → CursorPos → ℕ → ℕ → Slot → Taken → Type 0
-TakesFront id used cursor head len first r =
+abbrev pub PopsFront : ℕ → Bool → CursorPos → ℕ → ℕ → Slot → AfterPop → Type 0
+PopsFront id used cursor head len first r =
     (w : Window) → AtFront used cursor head len first w
     → (s : Session) (at : ℕ) → Given s → At id at → windowAt s at ≡ w
-    → Pops id s (put at (taken r w) (s .shared) s) (r .popped)
+    → Pops id s (withWindow at (afterPop r w) (s .shared) s) (r .popped)

@@ -52,15 +52,15 @@ pub record Fitting (s : Session) (sw sh store screen : ℕ) : Type 0 where
 -- the redraw is refused with this answer, whatever store and screen of these lengths hold, and leaves them and the
 -- session as they are
 abbrev pub Refused : Session → Bool → ℕ → ℕ → ℕ → ℕ → ℕ → Type 0
-Refused s told sw sh store screen answer =
-    (pixels shown : List ℕ) → length pixels ≡ store → length shown ≡ screen → MeetsScreen (Redraw told sw sh pixels shown) s (done s answer) shown
+Refused s forced sw sh store screen answer =
+    (pixels shown : List ℕ) → length pixels ≡ store → length shown ≡ screen → MeetsScreen (Redraw forced sw sh pixels shown) s (done s answer) shown
 
 -- as many turns as windows are shown, or none where the redraw is refused
-pub record PlansRedraw (s : Session) (told : Bool) (sw sh store screen : ℕ) (r : RedrawPlan) : Type 0 where
+pub record PlansRedraw (s : Session) (forced : Bool) (sw sh store screen : ℕ) (r : RedrawPlan) : Type 0 where
   pub order : r .order .ids ≡ s .shared .order
-  pub layout : LaidOut s (told || s .shared .due .owed) (r .layout)
+  pub layout : LaidOut s (forced || s .shared .due .owed) (r .layout)
   pub accepted : r .answer ≡ 0 → (r .n ≡ s .shared .shown) × Fitting s sw sh store screen
-  pub refused : (r .answer ≡ 0 → ⊥) → (r .n ≡ 0) × Refused s told sw sh store screen (r .answer)
+  pub refused : (r .answer ≡ 0 → ⊥) → (r .n ≡ 0) × Refused s forced sw sh store screen (r .answer)
 
 -- it is the turn of the window at place p of the order of s, which has this number and this damage
 pub record OnTurn (s : Session) (damage : Damage) (l : Layout) (at p : ℕ) : Type 0 where

@@ -28,7 +28,7 @@ page-rect : (b : Book) (id : ℕ) (o : Option Page) → pageRect (updatedPage b 
 page-rect b id none = refl
 page-rect b id (some p) = go (flag b id) (updatedAt (b .displays) (flag b id) (p .at))
   where
-    go : (t : Bool) (r : Rect) → pageRect (some (cond t (Book.taken r p) (placed r p))) ≡ some r
+    go : (t : Bool) (r : Rect) → pageRect (some (cond t (Book.resizedTo r p) (placed r p))) ≡ some r
     go true r = refl
     go false r = refl
 
@@ -36,7 +36,7 @@ win-rect : (g : Group) (id : ℕ) (o : Option Win) → winRect (updatedWin g id 
 win-rect g id none = refl
 win-rect g id (some w) = go (isMaximised g id) (updatedAt (g .displays) (isMaximised g id) (w .at))
   where
-    go : (t : Bool) (r : Rect) → winRect (some (cond t (Rule.taken r w) (withAt r w))) ≡ some r
+    go : (t : Bool) (r : Rect) → winRect (some (cond t (Rule.resizedTo r w) (withAt r w))) ≡ some r
     go true r = refl
     go false r = refl
 

@@ -52,7 +52,7 @@ module _ (b : Book) (g : Group) (s : List ℕ) (ok : Ok g) (sim : Sim b g s) whe
     -- the page of an id in use, in the group's words
     page-is : (id : ℕ) → used g id ≡ true
         → page (Book.allUpdated b) id
-        ≡ cond (isMaximised g id) (Book.taken (updatedAt (g .displays) (isMaximised g id) (win g id .at)) (page b id))
+        ≡ cond (isMaximised g id) (Book.resizedTo (updatedAt (g .displays) (isMaximised g id) (win g id .at)) (page b id))
         (placed (updatedAt (g .displays) (isMaximised g id) (win g id .at)) (page b id))
     page-is id u =
         let r = sim .rects in
@@ -60,11 +60,11 @@ module _ (b : Book) (g : Group) (s : List ℕ) (ok : Ok g) (sim : Sim b g s) whe
         ∙ ap (λ (o : Option Page). thePage (updatedPage b id o)) (is-page (getD (b .pages) id none) (sim-used r id ∙ u))
         ∙ (λ i. let m = getD (r .same-flags i) id false in
         let to = updatedAt (r .same-displays i) m (sim-at r id i) in
-        cond m (Book.taken to (page b id)) (placed to (page b id)))
+        cond m (Book.resizedTo to (page b id)) (placed to (page b id)))
 
     stands : (id : ℕ) → used g id ≡ true → (m : Bool) → isMaximised g id ≡ m
         → Stands (g .c) after id
-        (cond m (Book.taken (updatedAt (g .displays) m (win g id .at)) (page b id)) (placed (updatedAt (g .displays) m (win g id .at)) (page b id)))
+        (cond m (Book.resizedTo (updatedAt (g .displays) m (win g id .at)) (page b id)) (placed (updatedAt (g .displays) m (win g id .at)) (page b id)))
     stands id u m e = go m e
       where
         -- what stands at a place of the window's own
@@ -76,7 +76,7 @@ module _ (b : Book) (g : Group) (s : List ℕ) (ok : Ok g) (sim : Sim b g s) whe
 
         go : (m : Bool) → isMaximised g id ≡ m
             → Stands (g .c) after id
-            (cond m (Book.taken (updatedAt (g .displays) m (win g id .at)) (page b id)) (placed (updatedAt (g .displays) m (win g id .at)) (page b id)))
+            (cond m (Book.resizedTo (updatedAt (g .displays) m (win g id .at)) (page b id)) (placed (updatedAt (g .displays) m (win g id .at)) (page b id)))
         go true e col row hw hh =
             let d : Rect = answered (locate (g .displays) (win g id .at)) in
             let a : fits (g .c) d ≡ true = rw e at fit in

@@ -16,7 +16,7 @@ use Rattle.window.specs.declared.Event.the-variants as Event
 use Rattle.window.specs.Window.{Win}
 use Rattle.rules.specs.Group.{Group, someWin, used, win, firstFree, someId, idOr}
 use Rattle.rules.specs.Events as Events
-use Rattle.rules.specs.Events.{room, topmost, topmostOf, popped, someEvent, holder, routeUp}
+use Rattle.rules.specs.Events.{room, topmost, topmostOf, popped, someEvent, grabber, routeUp}
 use Rattle.rules.specs.Demand1.{inUse, anyUnused, waits, underPoint, remembers, takesRelease, roomOf, pressQuestions, releaseQuestions, routeQuestions}
 use Rattle.rules.proofs.group.Invariant.{Ok, used-small}
 
@@ -73,10 +73,10 @@ pub pressed : (g : Group) (px py : ℕ)
     ≡ asked (pressQuestions g px py)
 pressed g px py = to-somebody g px py (topmost g px py) _ (under-point g px py)
 
-pub released : (g : Group) (px py : ℕ) (e : ℕ → ℕ → Event) → routeUp g (holder g (g .held)) px py e .answer ≡ asked (releaseQuestions g px py)
-released g px py e = go (g .held)
+pub released : (g : Group) (px py : ℕ) (e : ℕ → ℕ → Event) → routeUp g (grabber g (g .grab)) px py e .answer ≡ asked (releaseQuestions g px py)
+released g px py e = go (g .grab)
   where
-    go : (h : Option ℕ) → routeUp g (holder g h) px py e .answer
+    go : (h : Option ℕ) → routeUp g (grabber g h) px py e .answer
         ≡ asked
         ((5 is (small px && small py)) ∷ (11 is (remembers g h || underPoint g px py)) ∷ (12 is roomOf g (takesRelease g h px py)) ∷ [])
     go none = pressed g px py

@@ -18,7 +18,7 @@ use Rattle.busiest.specs.Busiest.{busiest}
 use Rattle.scanline.specs.Pixels.{part}
 use Rattle.winbuf.specs.declared.ScanlineRange as Range
 use Rattle.winbuf.specs.Pixels as Pixels
-use Rattle.sheet.specs.declared.Count.{Count}
+use Rattle.geom.specs.declared.Listing.{Listing}
 use Rattle.sheet.specs.Sheet as Bands
 use Rattle.sheet.specs.Sheet.{rects}
 use Rattle.sheet.specs.Reader.{IsSheet, Reads, broken, short, whole}
@@ -62,8 +62,8 @@ answers g ok (Resize id w h s) = rw (in-use g ok id)
 answers g ok (Fill id a v s) = rw (in-use g ok id)
 answers g ok (Blit id a d stride s) = rw (in-use g ok id)
 answers g ok (Route e) = routed g e
-answers g ok (Redraw told w h s screen) = refl
-answers g ok (Begin told) = refl
+answers g ok (Redraw forced w h s screen) = refl
+answers g ok (Begin forced) = refl
 answers g ok (Portion w h s screen) = refl
 answers g ok (Dim on) = refl
 answers g ok (SetLayer id l) = rw (in-use g ok id)
@@ -187,22 +187,22 @@ started c = record { answer = refl; refused = λ ne. rw (sym (asked₁ 1 (allowe
 same-sheet : {bytes : List ℕ} (s t : Bands.Sheet) → IsSheet bytes s → IsSheet bytes t → s ≡ t
 same-sheet s t i j = bytes-unique s t (i .valid) (j .valid) (sym (i .same) ∙ j .same)
 
-reads : (bytes list : List ℕ) (r : Count) (after : List ℕ) → Reads bytes list r after → ReadsSheet bytes list r after
+reads : (bytes list : List ℕ) (r : Listing) (after : List ℕ) → Reads bytes list r after → ReadsSheet bytes list r after
 reads bytes list r after (broken never e l) =
-    record { either = inl never; broken = λ n. ap (λ (c : Count). c .answer) e; sound = λ s i. absurd (never s i); refused = λ ne. (ap (λ (c : Count). c .count) e, l) }
+    record { either = inl never; broken = λ n. ap (λ (c : Listing). c .answer) e; sound = λ s i. absurd (never s i); refused = λ ne. (ap (λ (c : Listing). c .count) e, l) }
 reads bytes list r after (short s i few e l) =
     record {
       either = inr (s, i);
       broken = λ never. absurd (never s i);
-      sound = λ t j. ap (λ (c : Count). c .answer) e ∙ rw (same-sheet t s j i, lt-leb (4 * length (rects s)) (length list) few);
-      refused = λ ne. (ap (λ (c : Count). c .count) e, l);
+      sound = λ t j. ap (λ (c : Listing). c .answer) e ∙ rw (same-sheet t s j i, lt-leb (4 * length (rects s)) (length list) few);
+      refused = λ ne. (ap (λ (c : Listing). c .count) e, l);
     }
 reads bytes list r after (whole s i many e l) =
     record {
       either = inr (s, i);
       broken = λ never. absurd (never s i);
-      sound = λ t j. ap (λ (c : Count). c .answer) e ∙ rw (same-sheet t s j i, le-leb (4 * length (rects s)) (length list) many);
-      refused = λ ne. absurd (ne (ap (λ (c : Count). c .answer) e));
+      sound = λ t j. ap (λ (c : Listing). c .answer) e ∙ rw (same-sheet t s j i, le-leb (4 * length (rects s)) (length list) many);
+      refused = λ ne. absurd (ne (ap (λ (c : Listing). c .answer) e));
     }
 
 pub demand-1 : Demand1

@@ -20,7 +20,7 @@ use Rattle.rules.specs.Store as Store
 use Rattle.rules.specs.Group.{Group, winAt, someWin, theWin, withWindows, setWin, withMark}
 use Rattle.rules.specs.Store.{bounds, dirtied, filledAt, blitAt}
 use Rattle.rules.specs.Calls.{Call, does, after}
-use Rattle.rules.specs.Panels.{Write, fill, blit, mark, Act, on, Interleaves, none, first, second, Held, callOf, outcome, acted, played, Reply, reply, replies, redrawn, EitherOrder}
+use Rattle.rules.specs.Panels.{Write, fill, blit, mark, Act, on, Interleaves, none, first, second, State, callOf, outcome, acted, played, Reply, reply, replies, redrawn, EitherOrder}
 use Rattle.rules.proofs.store.Parts.{Inside, inside-none, inside-cond, inside-length, parts-comm, parts-altered}
 use Rattle.rules.proofs.store.Fill.{fill-inside}
 use Rattle.rules.proofs.store.Blit.{blit-inside}
@@ -35,7 +35,7 @@ record Seen : Type 0 where
   c : ℕ
   window : Option Win
 
-abbrev seen : ℕ → Held → Seen
+abbrev seen : ℕ → State → Seen
 seen i h = record { whole = Store.whole (h .group) (h .store); c = h .group .c; window = winAt (h .group) i }
 
 -- the questions that it asks
@@ -63,7 +63,7 @@ store-after i (blit a d stride) o s = cond (yes (blit a d stride) o) (blitAt (i 
 store-after i mark o s = s
 
 -- an act by what it reads
-abbrev by-seen : Held → ℕ → Write → Seen → Held
+abbrev by-seen : State → ℕ → Write → Seen → State
 by-seen h i w o = record { group = setWin i (window-after w o) (h .group); store = store-after i w o (h .store) }
 
 -- a test between two groups that differ at window i
@@ -76,25 +76,25 @@ unchanged : (g : Group) (i : ℕ) → g ≡ setWin i (winAt g i) g
 unchanged g i = ap (λ (ws : List (Option Win)). withWindows ws g) (sym (set-getD (g .windows) i _))
 
 -- the questions are asked first
-by-yes : (h : Held) (i : ℕ) (w : Write) {g′ : Group} → g′ ≡ setWin i (changed w (winAt (h .group) i)) (h .group)
+by-yes : (h : State) (i : ℕ) (w : Write) {g′ : Group} → g′ ≡ setWin i (changed w (winAt (h .group) i)) (h .group)
     → record { group = cond (yes w (seen i h)) g′ (h .group); store = store-after i w (seen i h) (h .store) } ≡ by-seen h i w (seen i h)
 by-yes h i w e =
     ap (λ (k : Group). record { group = k; store = store-after i w (seen i h) (h .store) })
     (cond-set (h .group) i (yes w (seen i h)) (changed w (winAt (h .group) i)) (winAt (h .group) i) e (unchanged (h .group) i))
 
-acts : (h : Held) (i : ℕ) (w : Write) → acted h (on i w) ≡ by-seen h i w (seen i h)
+acts : (h : State) (i : ℕ) (w : Write) → acted h (on i w) ≡ by-seen h i w (seen i h)
 unfolding does Store.fill Store.blit Group.mark
 acts h i (fill a v) = by-yes h i (fill a v) (cond-set (h .group) i (meets a (bounds (theWin (winAt (h .group) i)))) _ _ refl (unchanged (h .group) i))
 acts h i (blit a d stride) = by-yes h i (blit a d stride) (cond-set (h .group) i (isEmpty a) _ _ (unchanged (h .group) i) refl)
 acts h i mark = by-yes h i mark refl
 
-answer-is : (h : Held) (i : ℕ) (w : Write) → outcome h (on i w) .answer ≡ asked (asks w (seen i h))
+answer-is : (h : State) (i : ℕ) (w : Write) → outcome h (on i w) .answer ≡ asked (asks w (seen i h))
 unfolding does Store.fill Store.blit Group.mark
 answer-is h i (fill a v) = refl
 answer-is h i (blit a d stride) = refl
 answer-is h i mark = refl
 
-altered-is : (h : Held) (i : ℕ) (w : Write) → outcome h (on i w) .altered ≡ altered (h .store) (store-after i w (seen i h) (h .store))
+altered-is : (h : State) (i : ℕ) (w : Write) → outcome h (on i w) .altered ≡ altered (h .store) (store-after i w (seen i h) (h .store))
 unfolding does Store.fill Store.blit Group.mark
 altered-is h i (fill a v) = altered-cond (yes (fill a v) (seen i h)) (h .store) _
 altered-is h i (blit a d stride) = altered-cond (yes (blit a d stride) (seen i h)) (h .store) _
@@ -117,7 +117,7 @@ store-inside i mark o was = inside-none _ _
 -- Two acts on different windows ------------------------------------------------------------------------------------------
 
 -- an act does not change what one on another window reads
-seen-other : (h : Held) → Ok (h .group) → (a : Act) (j : ℕ) → j ≢ a .window → seen j (acted h a) ≡ seen j h
+seen-other : (h : State) → Ok (h .group) → (a : Act) (j : ℕ) → j ≢ a .window → seen j (acted h a) ≡ seen j h
 seen-other h ok a j ne =
     let i = a .window in
     let o = seen i h in
@@ -129,15 +129,15 @@ seen-other h ok a j ne =
     })
 
 -- one after the other, each by what it reads before both
-both : (h : Held) → Ok (h .group) → (a b : Act) → b .window ≢ a .window
+both : (h : State) → Ok (h .group) → (a b : Act) → b .window ≢ a .window
     → acted (acted h a) b ≡ by-seen (by-seen h (a .window) (a .write) (seen (a .window) h)) (b .window) (b .write) (seen (b .window) h)
 both h ok a b ne =
     acts (acted h a) (b .window) (b .write)
     ∙ ap (by-seen (acted h a) (b .window) (b .write)) (seen-other h ok a (b .window) ne)
-    ∙ ap (λ (k : Held). by-seen k (b .window) (b .write) (seen (b .window) h)) (acts h (a .window) (a .write))
+    ∙ ap (λ (k : State). by-seen k (b .window) (b .write) (seen (b .window) h)) (acts h (a .window) (a .write))
 
 -- two acts in either order
-pub acts-comm : (h : Held) → Ok (h .group) → (a b : Act) → a .window ≢ b .window → acted (acted h a) b ≡ acted (acted h b) a
+pub acts-comm : (h : State) → Ok (h .group) → (a b : Act) → a .window ≢ b .window → acted (acted h a) b ≡ acted (acted h b) a
 acts-comm h ok a b ne =
     let i = a .window in
     let j = b .window in
@@ -152,7 +152,7 @@ acts-comm h ok a b ne =
     ∙ sym (both h ok b a ne)
 
 -- an act on another window changes neither answer nor count
-reply-other : (h : Held) → Ok (h .group) → (a b : Act) → a .window ≢ b .window → reply (outcome (acted h b) a) ≡ reply (outcome h a)
+reply-other : (h : State) → Ok (h .group) → (a b : Act) → a .window ≢ b .window → reply (outcome (acted h b) a) ≡ reply (outcome h a)
 reply-other h ok a b ne =
     let i = a .window in
     let j = b .window in
@@ -164,7 +164,7 @@ reply-other h ok a b ne =
     let count : outcome (acted h b) a .altered ≡ outcome h a .altered =
     altered-is (acted h b) i (a .write)
     ∙ ap (λ (x : Seen). altered (acted h b .store) (store-after i (a .write) x (acted h b .store))) same
-    ∙ ap (λ (k : Held). altered (k .store) (store-after i (a .write) o (k .store))) (acts h j (b .write))
+    ∙ ap (λ (k : State). altered (k .store) (store-after i (a .write) o (k .store))) (acts h j (b .write))
     ∙ parts-altered (h .group .c) i j ne
     (store-inside i (a .write) o (ok .fits i .area≤)) (store-inside j (b .write) q (ok .fits j .area≤)) (h .store)
     ∙ sym (altered-is h i (a .write)) in
@@ -179,7 +179,7 @@ all-on : (i : ℕ) (us : List Write) → AllOn i (map (on i) us)
 all-on i [] = tt
 all-on i (u ∷ us) = (refl, all-on i us)
 
-ok-acted : (h : Held) (a : Act) → Ok (h .group) → Ok (acted h a .group)
+ok-acted : (h : State) (a : Act) → Ok (h .group) → Ok (acted h a .group)
 ok-acted h a ok = ok-does (h .group) (callOf (a .window) (a .write) (h .store)) ok
 
 mirrored : {xs ys zs : List Act} → Interleaves xs ys zs → Interleaves ys xs zs
@@ -192,16 +192,16 @@ module _ (i j : ℕ) (ne : i ≢ j) where
   apart p q e = ne (sym p ∙ e ∙ q)
 
   -- an act on j moves past a list on i
-  past : (h : Held) → Ok (h .group) → (b : Act) → b .window ≡ j → (xs ys : List Act) → AllOn i xs
+  past : (h : State) → Ok (h .group) → (b : Act) → b .window ≡ j → (xs ys : List Act) → AllOn i xs
       → played (acted h b) (xs ++ ys) ≡ played h (xs ++ (b ∷ ys))
   unfolding played
   past h ok b q [] ys p = refl
   past h ok b q (a ∷ xs) ys p =
-      ap (λ (k : Held). played k (xs ++ ys)) (sym (acts-comm h ok a b (apart (p .0) q)))
+      ap (λ (k : State). played k (xs ++ ys)) (sym (acts-comm h ok a b (apart (p .0) q)))
       ∙ past (acted h a) (ok-acted h a ok) b q xs ys (p .1)
 
   -- so an interleaving comes to the one list after the other
-  one-after-other : (h : Held) → Ok (h .group) → {xs ys zs : List Act} → Interleaves xs ys zs → AllOn i xs → AllOn j ys
+  one-after-other : (h : State) → Ok (h .group) → {xs ys zs : List Act} → Interleaves xs ys zs → AllOn i xs → AllOn j ys
       → played h zs ≡ played h (xs ++ ys)
   unfolding played
   one-after-other h ok none p q = refl
@@ -210,16 +210,16 @@ module _ (i j : ℕ) (ne : i ≢ j) where
       one-after-other (acted h a) (ok-acted h a ok) r p (q .1) ∙ past h ok a (q .0) xs ys p
 
   -- an act on j changes no reply to a list on i
-  unheard : (h : Held) → Ok (h .group) → (b : Act) → b .window ≡ j → (xs : List Act) → AllOn i xs → replies i (acted h b) xs ≡ replies i h xs
+  unheard : (h : State) → Ok (h .group) → (b : Act) → b .window ≡ j → (xs : List Act) → AllOn i xs → replies i (acted h b) xs ≡ replies i h xs
   unfolding replies
   unheard h ok b q [] p = refl
   unheard h ok b q (a ∷ xs) p =
       let d = apart (p .0) q in
       let rest : replies i (acted (acted h b) a) xs ≡ replies i (acted h a) xs =
-      ap (λ (k : Held). replies i k xs) (sym (acts-comm h ok a b d)) ∙ unheard (acted h a) (ok-acted h a ok) b q xs (p .1) in
+      ap (λ (k : State). replies i k xs) (sym (acts-comm h ok a b d)) ∙ unheard (acted h a) (ok-acted h a ok) b q xs (p .1) in
       λ k. cond (eqb (a .window) i) (reply-other h ok a b d k ∷ rest k) (rest k)
 
-  own-replies : (h : Held) → Ok (h .group) → {xs ys zs : List Act} → Interleaves xs ys zs → AllOn i xs → AllOn j ys → replies i h zs ≡ replies i h xs
+  own-replies : (h : State) → Ok (h .group) → {xs ys zs : List Act} → Interleaves xs ys zs → AllOn i xs → AllOn j ys → replies i h zs ≡ replies i h xs
   unfolding replies
   own-replies h ok none p q = refl
   own-replies h ok (first {a} r) p q =
@@ -233,12 +233,12 @@ module _ (i j : ℕ) (ne : i ≢ j) where
 pub either-order : EitherOrder
 unfolding EitherOrder
 either-order c ks s i j ne us vs zs r =
-    let e : Held = record { group = after c ks; store = s } in
+    let e : State = record { group = after c ks; store = s } in
     let ok = ok-after c ks in
     let end = one-after-other i j ne e ok r (all-on i us) (all-on j vs) in
     record {
       end = end;
-      redraw = λ told w h screen. ap (λ (k : Held). redrawn k told w h screen) end;
+      redraw = λ forced w h screen. ap (λ (k : State). redrawn k forced w h screen) end;
       one = own-replies i j ne e ok r (all-on i us) (all-on j vs);
       other = own-replies j i (λ k. ne (sym k)) e ok (mirrored r) (all-on j vs) (all-on i us);
     }

@@ -17,7 +17,7 @@ use Rattle.geom.proofs.geometry.Displays.{display-in}
 use Rattle.window.specs.declared.Event.the-variants as Event
 use Rattle.window.specs.Window.{Win}
 use Rattle.rules.specs.Group.{Group, someWin, theWin, winAt, win, isMaximised, withDisplays}
-use Rattle.rules.specs.Displays.{onScreen, roomFor, locate, onOnly, keptAt, updatedAt, withAt, taken, fits, updated, displayOf, eachById, everyById, updatedWin, updateFits, updateStore, updateStores, everyFits, allUpdated}
+use Rattle.rules.specs.Displays.{onScreen, roomFor, locate, onOnly, keptAt, updatedAt, withAt, resizedTo, fits, updated, displayOf, eachById, everyById, updatedWin, updateFits, updateStore, updateStores, everyFits, allUpdated}
 use Rattle.rules.proofs.store.Update.{Own, own-update, length-stores, each-own}
 use Rattle.rules.proofs.group.Invariant.{WinOk, Screen, Ok, new-ok, ok-windows, ok-displays, pushed-few}
 
@@ -83,14 +83,14 @@ low-only (closest d) l = omega arith
 
 -- What is put there --------------------------------------------------------------------------------------------------
 
-taken-ok : (c : ℕ) (d : Rect) (w : Win) → Low d → fits c d ≡ true → WinOk c w → WinOk c (taken d w)
+taken-ok : (c : ℕ) (d : Rect) (w : Win) → Low d → fits c d ≡ true → WinOk c w → WinOk c (resizedTo d w)
 taken-ok c d w l f ok = omega (arith, leb-true, l .left≤, l .top≤, l .width≤, l .height≤, pushed-few (w .queue) Event.Resize (ok .queue≤))
 
 kept-ok : (c : ℕ) (a : Located) (w : Win) → Low (answered a) → WinOk c w → WinOk c (withAt (keptAt a (w .at)) w)
 kept-ok c (on d) w l ok = omega (arith, ok .left≤, ok .top≤, ok .width≤, ok .height≤, ok .area≤, ok .queue≤)
 kept-ok c (closest d) w l ok = omega (arith, l .left≤, l .top≤, ok .left≤, ok .top≤, ok .width≤, ok .height≤, ok .area≤, ok .queue≤)
 
-pub maximised-ok : (g : Group) (id : ℕ) → Ok g → fits (g .c) (displayOf g id) ≡ true → WinOk (g .c) (taken (displayOf g id) (win g id))
+pub maximised-ok : (g : Group) (id : ℕ) → Ok g → fits (g .c) (displayOf g id) ≡ true → WinOk (g .c) (resizedTo (displayOf g id) (win g id))
 maximised-ok g id ok f = taken-ok (g .c) (displayOf g id) (win g id) (low-only (locate (g .displays) (win g id .at)) (low-at g ok (win g id .at))) f (ok .fits id)
 
 module _ (g : Group) (ok : Ok g) where

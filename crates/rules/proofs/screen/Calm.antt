@@ -20,7 +20,7 @@ use Rattle.rules.specs.Group as Group
 use Rattle.rules.specs.Store as Store
 use Rattle.rules.specs.Events as Events
 use Rattle.rules.specs.Displays as Displays
-use Rattle.rules.specs.Group.{Group, Walk, used, win, withHeld, withLayers, withDisplays, withMaximised, setWin, giveLayer, moved, isOver, sentBack}
+use Rattle.rules.specs.Group.{Group, Walk, used, win, withGrab, withLayers, withDisplays, withMaximised, setWin, giveLayer, moved, isOver, sentBack}
 use Rattle.rules.specs.Order.{isIn, without, inserted, shown}
 use Rattle.rules.specs.Events.{afterPop}
 use Rattle.rules.specs.Walk.{doneOf}
@@ -77,12 +77,12 @@ module _ (g : Group) (ok : Ok g) where
 
   -- what no redraw looks at: the window remembered, layers where the order stays, displays and flags
   calm-aside : (r : Group) (h : Option ℕ) (ls : List ℕ) (ds : List Rect) (ms : List Bool) (f : ℕ → Bool → Bool) → Calm g r f
-      → Calm g (withMaximised ms (withDisplays ds (withLayers ls (withHeld h r)))) f
+      → Calm g (withMaximised ms (withDisplays ds (withLayers ls (withGrab h r)))) f
   calm-aside r h ls ds ms f k = record { c = k .c; order = k .order; owed = k .owed; walk = k .walk; dimmed = k .dimmed; each = k .each }
 
   -- another window is remembered, or none
-  calm-held : (r : Group) (h : Option ℕ) → Calm g r as-was → Calm g (withHeld h r) as-was
-  calm-held r h k = calm-aside r h (r .layers) (r .displays) (r .maximised) as-was k
+  calm-grab : (r : Group) (h : Option ℕ) → Calm g r as-was → Calm g (withGrab h r) as-was
+  calm-grab r h k = calm-aside r h (r .layers) (r .displays) (r .maximised) as-was k
 
   calm-pop : (i : ℕ) (q : List Event) (d : Bool) → Calm g (setWin i (some (afterPop (win g i) q d)) g) as-was
   calm-pop i [] true = calm-alike i _ refl refl refl
@@ -93,7 +93,7 @@ module _ (g : Group) (ok : Ok g) where
   calm-route =
       on-route P g as-it-was (λ e. on-key P g e (λ u. calm-alike _ _ refl refl refl) (λ u. as-it-was))
       (λ x y. on-pointed P g x y (λ id t u. calm-alike _ _ refl refl refl) (λ id t u. as-it-was) (λ t. as-it-was))
-      (λ x y to e h a k. on-to P g x y to e h (λ id t u. calm-held _ h (calm-alike _ _ refl refl refl)) (λ id t u. as-it-was) (λ t. as-it-was))
+      (λ x y to e h a k. on-to P g x y to e h (λ id t u. calm-grab _ h (calm-alike _ _ refl refl refl)) (λ id t u. as-it-was) (λ t. as-it-was))
     where
       P : Group → Type 0
       P r = Calm g r as-was
@@ -126,7 +126,7 @@ module _ (g : Group) (ok : Ok g) where
   unfolding does Group.create
   stays-create e =
       on-create (Stays g Create) g
-      (λ n f. is-calm (calm-aside (setWin n (some newWin) g) (g .held) (giveLayer n 0 g .layers) (g .displays) _ (flag g Create)
+      (λ n f. is-calm (calm-aside (setWin n (some newWin) g) (g .grab) (giveLayer n 0 g .layers) (g .displays) _ (flag g Create)
       (calm-set g ok n newWin (flag g Create) (λ s. clash (ok .shown-used n s) (free-place g n f .1)) (λ id ne u q. rw (f, ne-eqb n id (λ k. ne (sym k))) at q))))
       (λ f. clash e (rw f))
 
@@ -175,7 +175,7 @@ module _ (g : Group) (ok : Ok g) where
       -- one that is hidden is no part of what is drawn
       aside : shown g i ≡ false → Calm g (moved i x y g) as-was
       aside s =
-          calm-aside (setWin i _ g) (g .held) (g .layers) (g .displays) _ as-was (calm-set g ok i _ as-was (λ k. clash k s) (λ id ne u e. e))
+          calm-aside (setWin i _ g) (g .grab) (g .layers) (g .displays) _ as-was (calm-set g ok i _ as-was (λ k. clash k s) (λ id ne u e. e))
 
       go : (t : Bool) → shown g i ≡ t → (d : Bool) → pending g ≡ d → Stays g (Drag i x y) (dragged i x y g)
       go false s d p = rw s (is-calm (aside s))
@@ -204,18 +204,18 @@ module _ (g : Group) (ok : Ok g) where
   stays (Blit i a d stride s) r b e =
       on-blit (λ x t. Stays g (Blit i a d stride s) x) g i a d stride s (λ u m. is-calm (calm-write i)) (λ u m. is-calm (calm-damage i _)) (λ u. is-calm (calm-write i))
   stays (Route v) r b e = is-calm (calm-route v)
-  stays (Redraw told w h s screen) r b e = absurd (Option·some-ne-none screen r)
-  stays (Begin told) r b e = clash refl b
+  stays (Redraw forced w h s screen) r b e = absurd (Option·some-ne-none screen r)
+  stays (Begin forced) r b e = clash refl b
   stays (Portion w h s screen) r b e = absurd (Option·some-ne-none screen r)
   stays (Dim on) r b e = on-dim (Stays g (Dim on)) g on (λ q. is-owed (rw q) (sent-back (g .order) (g .walk))) (λ q. is-calm as-it-was)
   stays (SetLayer i l) r b e =
       on-layer (Stays g (SetLayer i l)) g i l
       (λ u. on-cond (Stays g (SetLayer i l)) (shown g i) _ (giveLayer i l g)
       (λ s. is-owed (both s (snd (used g i && leb l 1) _ u)) (sent-back (inserted (giveLayer i l g .layers) i (without i (g .order))) (g .walk)))
-      (λ s. is-calm (calm-aside g (g .held) (giveLayer i l g .layers) (g .displays) (g .maximised) as-was as-it-was)))
+      (λ s. is-calm (calm-aside g (g .grab) (giveLayer i l g .layers) (g .displays) (g .maximised) as-was as-it-was)))
       (λ u. is-calm as-it-was)
   stays (AddDisplay d) r b e =
-      on-add-display (Stays g (AddDisplay d)) g d (λ u. is-calm (calm-aside g (g .held) (g .layers) _ (g .maximised) as-was as-it-was)) (λ u. is-calm as-it-was)
+      on-add-display (Stays g (AddDisplay d)) g d (λ u. is-calm (calm-aside g (g .grab) (g .layers) _ (g .maximised) as-was as-it-was)) (λ u. is-calm as-it-was)
   stays (Maximise i s) r b e = is-owed refl (maximise-none-fine i s e)
   stays (UpdateDims s) r b e = is-owed refl (update-none-fine s e)
   stays (Raise i) r b e = on-raise (Stays g (Raise i)) g i (λ u. stays-raise i u) (λ u. is-calm as-it-was)

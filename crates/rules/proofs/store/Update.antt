@@ -19,7 +19,7 @@ use Rattle.scanline.proofs.rows.Written.{rows-same}
 use Rattle.scanline.proofs.rows.Paint.{length-part, getD-part}
 use Rattle.window.specs.Window.{Win}
 use Rattle.rules.specs.Group.{Group, theWin, isMaximised}
-use Rattle.rules.specs.Displays.{updatedAt, fits, takenStore, updateFits, updateStore, updateStores}
+use Rattle.rules.specs.Displays.{updatedAt, fits, resizedStore, updateFits, updateStore, updateStores}
 use Rattle.rules.proofs.store.Resize.{length-resized, resized-off}
 
 -- Two stores that agree on a part ------------------------------------------------------------------------------------
@@ -96,7 +96,7 @@ module _ (g : Group) where
   own-update id (some w) was f = go (isMaximised g id) f
     where
       go : (m : Bool) → not m || fits (g .c) (updatedAt (g .displays) true (w .at)) ≡ true
-          → Own (id * g .c) (g .c) (λ s. cond m (takenStore (id * g .c) (g .c) (w .at) (updatedAt (g .displays) true (w .at)) s) s)
+          → Own (id * g .c) (g .c) (λ s. cond m (resizedStore (id * g .c) (g .c) (w .at) (updatedAt (g .displays) true (w .at)) s) s)
       go true f = own-resize (id * g .c) (g .c) _ _ _ _ was (leb-true _ _ f)
       go false f = own-none (id * g .c) (g .c)
 

@@ -17,7 +17,7 @@ use Rattle.script.proofs.laws.Bytes.{bytes-at}
 use Rattle.script.specs.declared.Reading.{Reading}
 use Rattle.script.specs.declared.shape.Line.{Line}
 use Rattle.script.specs.Kind as Kind
-use Rattle.script.specs.inner.Table.{rowAt, byte, follows, Held}
+use Rattle.script.specs.inner.Table.{rowAt, byte, follows, RowHas}
 use Rattle.script.specs.Script.{malformed, call, begun, Row, table, rowIn, countedBy, counted, ranged, nameFits, accepts, complete, heardOf, Shaped, kindOf}
 use Rattle.script.specs.Machine.{spaces, spoiled, ends, standing, stateOf, noCall, Checked, Ended}
 
@@ -107,7 +107,7 @@ module _ (k n : ℕ) (h : counted k n ≡ true) where
       at i g = rw (getD-take n ns i 0 g)
 
 -- the row as the code reads it
-module _ {rows : List ℕ} {k : ℕ} {r : Row} (q : Held rows k r) {a : ℕ} (e : a ≡ byte rows k 1) where
+module _ {rows : List ℕ} {k : ℕ} {r : Row} (q : RowHas rows k r) {a : ℕ} (e : a ≡ byte rows k 1) where
   is-numbers : r .numbers ≡ a
   is-numbers = sym (e ∙ q .numbers)
 

@@ -13,7 +13,7 @@ use borrow.Author.Tests.{eqb-true, eq-eqb, ne-eqb, leb-true}
 use Rattle.geom.proofs.basics.Tests.{fst, snd, both, clash, is-false}
 use Rattle.script.specs.Kind as Kind
 use Rattle.script.specs.Script.{Row, table, sameWord, kindIn, kindOf, rowIn}
-use Rattle.script.specs.inner.Table.{words, noRow, rowAt, letters, byte, wordIn, follows, Held, Rows}
+use Rattle.script.specs.inner.Table.{words, noRow, rowAt, letters, byte, wordIn, follows, RowHas, Rows}
 use Rattle.geom.proofs.basics.Tables.{every, at}
 
 -- Words that are the same ----------------------------------------------------------------------------------------------
@@ -86,7 +86,7 @@ holds rows k r =
 pub held : (rows : List ℕ) → length rows ≡ words * 19 → every (holds rows) 0 table ≡ true → Rows rows
 held rows l e = record { bytes = l; held = λ k h. of k (rowAt k) (at-row (holds rows) e k h) }
   where
-    of : (k : ℕ) (r : Row) → holds rows k r ≡ true → Held rows k r
+    of : (k : ℕ) (r : Row) → holds rows k r ≡ true → RowHas rows k r
     of k r t =
         let b = snd (leb (letters rows k) 16) _ t in
         let c = snd (eqb (byte rows k 1) (r .numbers)) _ b in

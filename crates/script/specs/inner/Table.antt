@@ -33,7 +33,7 @@ wordIn rows k = take (letters rows k) (drop (k * 19 + 3) rows)
 unfoldable pub follows : ℕ → ℕ
 follows b = cond (eqb b 43) 4096 (cond (eqb b 42) 4200 0)
 
-pub record Held (rows : List ℕ) (k : ℕ) (r : Row) : Type 0 where
+pub record RowHas (rows : List ℕ) (k : ℕ) (r : Row) : Type 0 where
   pub short : letters rows k ≤ 16
   pub numbers : byte rows k 1 ≡ r .numbers
   pub more : follows (byte rows k 2) ≡ r .more
@@ -42,4 +42,4 @@ pub record Held (rows : List ℕ) (k : ℕ) (r : Row) : Type 0 where
 -- the bytes hold the rows
 pub record Rows (rows : List ℕ) : Type 0 where
   pub bytes : length rows ≡ words * 19
-  pub held : (k : ℕ) → k < words → Held rows k (rowAt k)
+  pub held : (k : ℕ) → k < words → RowHas rows k (rowAt k)

@@ -15,7 +15,7 @@ use Rattle.geom.proofs.basics.Tests.{same, is-true}
 use Rattle.geom.proofs.geometry.Facts.{says-in, Has, says-has}
 use Rattle.sheet.specs.Sheet.{Span, Band, Sheet, has, bandRects, rects, Apart, Bands, nothing, Valid}
 use Rattle.sheet.specs.Bytes.{bandBits, bits, pack, encode}
-use Rattle.sheet.specs.declared.Count.{Count}
+use Rattle.geom.specs.declared.Listing.{Listing}
 use Rattle.sheet.specs.Reader.{IsSheet, answered, Reads, broken, short, whole}
 use Rattle.sheet.specs.Canon.{Depicts}
 use Rattle.sheet.specs.Size.{SpansFew, Few}
@@ -118,7 +118,7 @@ pub one-sheet : (bytes : List ℕ) (s t : Sheet) → IsSheet bytes s → IsSheet
 one-sheet bytes s t a b = bytes-unique s t (a .valid) (b .valid) (sym (a .same) ∙ b .same)
 
 -- a valid sheet's bytes are read, given room
-pub reads-valid : (s : Sheet) (list : List ℕ) (r : Count) (after : List ℕ) → Valid s → 4 * length (rects s) ≤ length list → Reads (encode s) list r after
+pub reads-valid : (s : Sheet) (list : List ℕ) (r : Listing) (after : List ℕ) → Valid s → 4 * length (rects s) ≤ length list → Reads (encode s) list r after
     → (r ≡ answered 0 (length (rects s))) × (after ≡ numbers (rects s) ++ drop (4 * length (rects s)) list)
 reads-valid s list r after v l (broken n a b) = absurd (n s (record { valid = v; same = refl }))
 reads-valid s list r after v l (short t i h a b) =
@@ -146,6 +146,6 @@ readable s list r list′ v l h =
 
 pub accepts : Accepts
 unfolding Accepts
-accepts bytes list r list′ (broken n a b) = (λ e. n, λ m. ap (λ (c : Count). c .answer) a)
-accepts bytes list r list′ (short s i h a b) = (λ e. absurd (omega (arith, ap (λ (c : Count). c .answer) a)), λ n. absurd (n s i))
-accepts bytes list r list′ (whole s i h a b) = (λ e. absurd (omega (arith, ap (λ (c : Count). c .answer) a)), λ n. absurd (n s i))
+accepts bytes list r list′ (broken n a b) = (λ e. n, λ m. ap (λ (c : Listing). c .answer) a)
+accepts bytes list r list′ (short s i h a b) = (λ e. absurd (omega (arith, ap (λ (c : Listing). c .answer) a)), λ n. absurd (n s i))
+accepts bytes list r list′ (whole s i h a b) = (λ e. absurd (omega (arith, ap (λ (c : Listing). c .answer) a)), λ n. absurd (n s i))

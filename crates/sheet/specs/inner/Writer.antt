@@ -6,13 +6,13 @@ use mathlib.Core.List.{List, [], _∷_, _++_}
 use lib.Dec.{leb}
 use lib.ListN.{length, drop, getD}
 use Rattle.geom.specs.Questions.{_is_, asked}
-use Rattle.sheet.specs.declared.Count.{Count}
+use Rattle.geom.specs.declared.Listing.{Listing}
 use Rattle.sheet.specs.Sheet.{Sheet}
 use Rattle.sheet.specs.Bytes.{number, encode}
 
 -- The writer, of a sheet and the lent buffer; r is what it hands back, and out′ is the buffer then. "19 when the writer's buffer
 -- is shorter than the sheet"; "the writer gives the byte count, … and what lies past it is untouched"
-pub record Writes (s : Sheet) (out : List ℕ) (r : Count) (out′ : List ℕ) : Type 0 where
+pub record Writes (s : Sheet) (out : List ℕ) (r : Listing) (out′ : List ℕ) : Type 0 where
   pub answer : r .answer ≡ asked ((19 is leb (length (encode s)) (length out)) ∷ [])
   pub count : r .count ≡ cond (leb (length (encode s)) (length out)) (length (encode s)) 0
   pub after : out′ ≡ cond (leb (length (encode s)) (length out)) (encode s ++ drop (length (encode s)) out) out

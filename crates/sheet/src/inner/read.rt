@@ -9,7 +9,7 @@ ghost use Rattle.sheet.specs.Sheet.{bandRects, rects};
 ghost use Rattle.sheet.specs.inner.Cursor.{bitAt, spansAt, sheetAt};
 use crate::inner::bits::read;
 use geom::Rect;
-use geom::inner::numbers::put;
+use geom::inner::numbers::write_rect;
 
 // a − b, or 0 where b is more.
 fn minus(a: usize, b: usize) -> usize
@@ -51,7 +51,7 @@ fn write_band(
         let left = read(bytes, at + 30 * i, 15);
         let right = read(bytes, at + 30 * i + 15, 15);
         let r = rect_of(left, right, top, bottom);
-        put(list, place + i, r);
+        write_rect(list, place + i, r);
         i += 1;
     }
 }

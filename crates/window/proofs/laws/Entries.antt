@@ -19,7 +19,7 @@ use Rattle.geom.proofs.basics.Lists.{set-in, set-case, map-set}
 use Rattle.window.specs.declared.damage.Damage.{Damage}
 use Rattle.window.specs.declared.damage.Merged.{Merged}
 use Rattle.window.specs.Window.{anyContains, merges, mergeOrAppend, addDirty}
-use Rattle.window.specs.Held.{Low, rects, RepDamage, withEntries}
+use Rattle.window.specs.Represents.{Low, rects, RepDamage, withEntries}
 use Rattle.window.specs.inner.Changes.{PastAs, MergedInto, atMost16, JoinedTo, Dirtied}
 
 -- Rectangles in 16 bits ----------------------------------------------------------------------------------------------

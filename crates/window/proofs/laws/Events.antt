@@ -27,7 +27,7 @@ use Rattle.window.specs.declared.Event.the-variants.{Resize, KeyDown, Ke
 use Rattle.window.specs.declared.slots.Slot.{Slot}
 use Rattle.window.specs.declared.queue.Queue.{Queue}
 use Rattle.window.specs.Window.{pushed}
-use Rattle.window.specs.Held.{eventOf, place, noSlot, ring, events, RepQueue}
+use Rattle.window.specs.Represents.{eventOf, place, noSlot, ring, events, RepQueue}
 use Rattle.window.specs.inner.Changes.{Queued, slotOf, PushedTo, PoppedFrom}
 
 -- what a queue can hold comes out of its slot again

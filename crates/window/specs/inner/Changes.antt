@@ -15,7 +15,7 @@ use Rattle.window.specs.declared.queue.Popped.{Popped}
 use Rattle.window.specs.declared.damage.Damage.{Damage}
 use Rattle.window.specs.declared.damage.Merged.{Merged}
 use Rattle.window.specs.Window.{pushed, mergeOrAppend, addDirty}
-use Rattle.window.specs.Held.{events, RepQueue, rects, RepDamage}
+use Rattle.window.specs.Represents.{events, RepQueue, rects, RepDamage}
 
 -- Events ---------------------------------------------------------------------------------------------------------------
 

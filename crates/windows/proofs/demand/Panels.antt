@@ -11,15 +11,15 @@ use borrow.Author.Tests.{eqb-true, eq-eqb, ne-eqb}
 use Rattle.geom.proofs.basics.Tests.{clash}
 use Rattle.geom.proofs.basics.Lists.{All}
 use Rattle.window.specs.declared.Window.{Window}
-use Rattle.window.specs.Held.{winOf}
+use Rattle.window.specs.Represents.{winOf}
 use Rattle.rules.specs.Group.{Group, Outcome}
 use Rattle.rules.specs.Calls.{Call, Made, Redraw, does, after}
 use Rattle.rules.specs.Conditions.{lentScreen}
-use Rattle.rules.specs.Panels.{Write, Act, on, callOf, Interleaves, first, second, Held, left, outcome, acted, played, Reply, reply, replies, redrawn, EitherOrder}
+use Rattle.rules.specs.Panels.{Write, Act, on, callOf, Interleaves, first, second, State, left, outcome, acted, played, Reply, reply, replies, redrawn, EitherOrder}
 use Rattle.rules.specs.Panels as Rule
 use Rattle.rules.proofs.demand.Panels.{either-order, any-two}
 use Rattle.windows.specs.declared.Session.{Session}
-use Rattle.windows.specs.View.{blank, group, windowAt, holding, ruled, rewritten, done, Meets}
+use Rattle.windows.specs.View.{blank, group, windowAt, grabbing, ruled, rewritten, done, Meets}
 use Rattle.windows.specs.Run.{calls, LeftAs, Kept}
 use Rattle.windows.specs.Panels.{Acted, filled, blitted, marked, SameEnd, ProgramEitherOrder}
 use Rattle.windows.specs.Panels as Spec
@@ -49,17 +49,17 @@ steps (marked k r) = next (record { answer = _; meets = k .meets; stored = refl;
 
 -- The group and the store ------------------------------------------------------------------------------------------------
 
-abbrev held : Session → List ℕ → Held
-held s p = record { group = group s; store = p }
+abbrev state : Session → List ℕ → State
+state s p = record { group = group s; store = p }
 
 -- a call leaves what the rule plays
-step-held : {a : Act} {s t : Session} {p q : List ℕ} → Step a s p t q → held t q ≡ acted (held s p) a
-step-held k = λ x. record { group = k .meets .after x; store = k .stored x }
+step-state : {a : Act} {s t : Session} {p q : List ℕ} → Step a s p t q → state t q ≡ acted (state s p) a
+step-state k = λ x. record { group = k .meets .after x; store = k .stored x }
 
-ends : {s t : Session} {p q : List ℕ} {zs : List Act} → Steps s p zs t q → held t q ≡ played (held s p) zs
+ends : {s t : Session} {p q : List ℕ} {zs : List Act} → Steps s p zs t q → state t q ≡ played (state s p) zs
 unfolding played
 ends none = refl
-ends (next {zs = zs} k r) = ends r ∙ ap (λ (h : Held). played h zs) (step-held k)
+ends (next {zs = zs} k r) = ends r ∙ ap (λ (h : State). played h zs) (step-state k)
 
 -- The windows ------------------------------------------------------------------------------------------------------------
 
@@ -95,15 +95,15 @@ adjust-comm i j ne f g s =
 
 -- a window after a call on it that answered n
 abbrev own : Write → ℕ → Window → Window
-own u n w = cond (eqb n 0) (holding (ruled u (winOf w)) w) w
+own u n w = cond (eqb n 0) (grabbing (ruled u (winOf w)) w) w
 
-step-whole : {a : Act} {s t : Session} {p q : List ℕ} → Step a s p t q → t ≡ adjust (a .window) (own (a .write) (outcome (held s p) a .answer)) s
+step-whole : {a : Act} {s t : Session} {p q : List ℕ} → Step a s p t q → t ≡ adjust (a .window) (own (a .write) (outcome (state s p) a .answer)) s
 step-whole {a} {s} {t} {p} k = go (eqb n 0) refl
   where
     n : ℕ
-    n = outcome (held s p) a .answer
+    n = outcome (state s p) a .answer
 
-    go : (b : Bool) → eqb n 0 ≡ b → t ≡ adjust (a .window) (λ w. cond b (holding (ruled (a .write) (winOf w)) w) w) s
+    go : (b : Bool) → eqb n 0 ≡ b → t ≡ adjust (a .window) (λ w. cond b (grabbing (ruled (a .write) (winOf w)) w) w) s
     go true e = k .whole (k .meets .answer ∙ eqb-true n 0 e)
     go false e = k .meets .same (λ z. clash (eq-eqb n 0 (sym (k .meets .answer) ∙ z)) e) ∙ sym (adjust-none (a .window) s)
 
@@ -115,7 +115,7 @@ windowAfter (a ∷ l) (r ∷ rs) w = windowAfter l rs (own (a .write) (r .answer
 
 -- Replies to the calls on one window -------------------------------------------------------------------------------------
 
-module _ (i : ℕ) (h : Held) (a : Act) (zs : List Act) where
+module _ (i : ℕ) (h : State) (a : Act) (zs : List Act) where
   heard : a .window ≡ i → replies i h (a ∷ zs) ≡ reply (outcome h a) ∷ replies i (acted h a) zs
   unfolding replies
   heard e = rw (eq-eqb (a .window) i e)
@@ -140,28 +140,28 @@ module _ (i j : ℕ) (ne : i ≢ j) where
 
   -- both windows are changed by their own calls alone
   whole-end : {xs ys zs : List Act} → Interleaves xs ys zs → AllOn i xs → AllOn j ys → {s t : Session} {p q : List ℕ} → Steps s p zs t q
-      → t ≡ sessionAfter xs (replies i (held s p) zs) ys (replies j (held s p) zs) s
+      → t ≡ sessionAfter xs (replies i (state s p) zs) ys (replies j (state s p) zs) s
   whole-end Rule.none h k {s} none = sym (ap (adjust i (λ w. w)) (adjust-none j s) ∙ adjust-none i s)
   whole-end (first {a} {xs} {ys} {zs} r) h k (next {s} {s′} {p = p} m l) =
-      let e = held s p in
+      let e = state s p in
       let f = own (a .write) (outcome e a .answer) in
       let rs = replies i (acted e a) zs in
       let os = replies j (acted e a) zs in
       let off : a .window ≢ j = λ x. ne (sym (h .0) ∙ x) in
       whole-end r (h .1) k l
-      ∙ ap (λ (x : Held). sessionAfter xs (replies i x zs) ys (replies j x zs) s′) (step-held m)
+      ∙ ap (λ (x : State). sessionAfter xs (replies i x zs) ys (replies j x zs) s′) (step-state m)
       ∙ ap (sessionAfter xs rs ys os) (step-whole m ∙ ap (λ (n : ℕ). adjust n f s) (h .0))
       ∙ ap (adjust i (windowAfter xs rs)) (adjust-comm i j ne f (windowAfter ys os) s)
       ∙ adjust-twice i f (windowAfter xs rs) (adjust j (windowAfter ys os) s)
       ∙ sym (λ x. sessionAfter (a ∷ xs) (heard i e a zs (h .0) x) ys (unheard j e a zs off x) s)
   whole-end (second {a} {xs} {ys} {zs} r) h k (next {s} {s′} {p = p} m l) =
-      let e = held s p in
+      let e = state s p in
       let g = own (a .write) (outcome e a .answer) in
       let rs = replies i (acted e a) zs in
       let os = replies j (acted e a) zs in
       let off : a .window ≢ i = λ x. ne (sym x ∙ k .0) in
       whole-end r h (k .1) l
-      ∙ ap (λ (x : Held). sessionAfter xs (replies i x zs) ys (replies j x zs) s′) (step-held m)
+      ∙ ap (λ (x : State). sessionAfter xs (replies i x zs) ys (replies j x zs) s′) (step-state m)
       ∙ ap (sessionAfter xs rs ys os) (step-whole m ∙ ap (λ (n : ℕ). adjust n g s) (k .0))
       ∙ ap (adjust i (windowAfter xs rs)) (adjust-twice j g (windowAfter ys os) s)
       ∙ sym (λ x. sessionAfter xs (unheard i e a zs off x) (a ∷ ys) (heard j e a zs (k .0) x) s)
@@ -169,11 +169,11 @@ module _ (i j : ℕ) (ne : i ≢ j) where
 -- Two ends ---------------------------------------------------------------------------------------------------------------
 
 -- a redraw of session t, lent the store q, is the rule's
-redraw-is : (told : Bool) (w h : ℕ) (screen : List ℕ) {r : Made} {t u : Session} {q : List ℕ} → r .call ≡ Redraw told w h q screen → Kept r t u
-    → (r .answer ≡ redrawn (held t q) told w h screen .answer)
-    × (r .screen ≡ redrawn (held t q) told w h screen .screen)
-    × (group u ≡ redrawn (held t q) told w h screen .group)
-redraw-is told w h screen {r} {t} e k = (
+redraw-is : (forced : Bool) (w h : ℕ) (screen : List ℕ) {r : Made} {t u : Session} {q : List ℕ} → r .call ≡ Redraw forced w h q screen → Kept r t u
+    → (r .answer ≡ redrawn (state t q) forced w h screen .answer)
+    × (r .screen ≡ redrawn (state t q) forced w h screen .screen)
+    × (group u ≡ redrawn (state t q) forced w h screen .group)
+redraw-is forced w h screen {r} {t} e k = (
   k .meets .answer ∙ ap (λ (c : Call). does (group t) c .answer) e,
   subst (λ (c : Call). LeftAs (lentScreen c) (r .screen) (does (group t) c .screen)) e (k .shown),
   k .meets .after ∙ ap (λ (c : Call). does (group t) c .group) e,
@@ -184,10 +184,10 @@ same-end t t′ q q′ session store =
     record {
       session = session;
       store = store;
-      redraw = λ told w h screen r r′ u u′ d d′ k k′.
-          let o : redrawn (held t q) told w h screen ≡ redrawn (held t′ q′) told w h screen = λ x. redrawn (held (session x) (store x)) told w h screen in
-          let x = redraw-is told w h screen d k in
-          let y = redraw-is told w h screen d′ k′ in (
+      redraw = λ forced w h screen r r′ u u′ d d′ k k′.
+          let o : redrawn (state t q) forced w h screen ≡ redrawn (state t′ q′) forced w h screen = λ x. redrawn (state (session x) (store x)) forced w h screen in
+          let x = redraw-is forced w h screen d k in
+          let y = redraw-is forced w h screen d′ k′ in (
             x .0 ∙ ap (λ (z : Outcome). z .answer) o ∙ sym (y .0),
             x .1 ∙ ap (λ (z : Outcome). z .screen) o ∙ sym (y .1),
             x .2 ∙ ap (λ (z : Outcome). z .group) o ∙ sym (y .2),
@@ -197,24 +197,24 @@ same-end t t′ q q′ session store =
 pub program-either-order : ProgramEitherOrder
 unfolding ProgramEitherOrder EitherOrder
 program-either-order c ms s run p i j ne us vs zs zs′ h h′ t t′ q q′ a a′ =
-    let e : Held = record { group = after c (calls ms); store = p } in
-    let from : held s p ≡ e = ap (λ (g : Group). record { group = g; store = p }) (reached run) in
+    let e : State = record { group = after c (calls ms); store = p } in
+    let from : state s p ≡ e = ap (λ (g : Group). record { group = g; store = p }) (reached run) in
     let xs = map (on i) us in
     let ys = map (on j) vs in
     let o = either-order c (calls ms) p i j ne us vs zs h in
     let o′ = either-order c (calls ms) p i j ne us vs zs′ h′ in
-    let rs : replies i (held s p) zs ≡ replies i (held s p) zs′ =
-    ap (λ (k : Held). replies i k zs) from ∙ o .one ∙ sym (o′ .one) ∙ ap (λ (k : Held). replies i k zs′) (sym from) in
-    let os : replies j (held s p) zs ≡ replies j (held s p) zs′ =
-    ap (λ (k : Held). replies j k zs) from ∙ o .other ∙ sym (o′ .other) ∙ ap (λ (k : Held). replies j k zs′) (sym from) in
-    let end : held t q ≡ held t′ q′ =
+    let rs : replies i (state s p) zs ≡ replies i (state s p) zs′ =
+    ap (λ (k : State). replies i k zs) from ∙ o .one ∙ sym (o′ .one) ∙ ap (λ (k : State). replies i k zs′) (sym from) in
+    let os : replies j (state s p) zs ≡ replies j (state s p) zs′ =
+    ap (λ (k : State). replies j k zs) from ∙ o .other ∙ sym (o′ .other) ∙ ap (λ (k : State). replies j k zs′) (sym from) in
+    let end : state t q ≡ state t′ q′ =
     ends (steps a)
-    ∙ ap (λ (k : Held). played k zs) from
+    ∙ ap (λ (k : State). played k zs) from
     ∙ any-two c (calls ms) p i j ne us vs zs zs′ h h′
-    ∙ ap (λ (k : Held). played k zs′) (sym from)
+    ∙ ap (λ (k : State). played k zs′) (sym from)
     ∙ sym (ends (steps a′)) in
     same-end t t′ q q′
     (whole-end i j ne h (all-on i us) (all-on j vs) (steps a)
     ∙ (λ x. sessionAfter i j ne xs (rs x) ys (os x) s)
     ∙ sym (whole-end i j ne h′ (all-on i us) (all-on j vs) (steps a′)))
-    (ap (λ (k : Held). k .store) end)
+    (ap (λ (k : State). k .store) end)

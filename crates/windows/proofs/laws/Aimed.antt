@@ -21,7 +21,7 @@ use Rattle.rules.specs.Group.{win}
 use Rattle.rules.specs.Order.{shown}
 use Rattle.geom.specs.Nearest.{nearestX, nearestY}
 use Rattle.rules.specs.Calls.{Route, does}
-use Rattle.order.specs.Ids.{heldOf}
+use Rattle.order.specs.Ids.{grabOf}
 use Rattle.order.specs.inner.Frames.{frameAt}
 use Rattle.windows.specs.declared.Session.{Session}
 use Rattle.windows.specs.declared.Shared.{Shared}
@@ -30,17 +30,17 @@ use Rattle.windows.specs.declared.inner.events.Target.the-variants.{Poin
 use Rattle.windows.specs.declared.Done.{Done}
 use Rattle.windows.specs.declared.inner.events.Aim.{Aim}
 use Rattle.windows.specs.View.{group, windowAt, Given, Meets, done}
-use Rattle.windows.specs.inner.One.{put}
-use Rattle.windows.specs.inner.Events.{targetOf, atPoint, heldAfter, Tellable, ToldTo}
+use Rattle.windows.specs.inner.One.{withWindow}
+use Rattle.windows.specs.inner.Events.{targetOf, atPoint, grabAfter, Tellable, ToldTo}
 use Rattle.windows.specs.inner.Aimed.{toNobody, toWindow, remembered, Heard, Aims}
 use Rattle.windows.proofs.laws.Session.{win-at, given-ok}
 use Rattle.windows.proofs.laws.One.{put-back}
 use Rattle.windows.proofs.laws.Frames.{Found}
-use Rattle.windows.proofs.laws.Routing.{point-tellable, held-point, pointed, topped, near, to-point, window-told}
+use Rattle.windows.proofs.laws.Routing.{point-tellable, grab-point, pointed, topped, near, to-point, window-told}
 
 module _ (Q : Done → Type 0) (s : Session) where
   pub aims-window : (at : ℕ) (i : Event) (m : WinId) → at < 16 → Tellable i
-      → ((v : Window) (n : ℕ) → ToldTo (windowAt s at) i v n → Q (done (put at v (remembered n m (s .shared)) s) n))
+      → ((v : Window) (n : ℕ) → ToldTo (windowAt s at) i v n → Q (done (withWindow at v (remembered n m (s .shared)) s) n))
       → Aims Q s (toWindow at i m)
   aims-window at i m l able told = record { inside = l; able = λ _. able; told = λ _. told; kept = λ q. clash refl q }
 
@@ -48,32 +48,32 @@ module _ (Q : Done → Type 0) (s : Session) where
   aims-nobody n m = record { inside = omega arith; able = λ q. clash q refl; told = λ q. clash q refl; kept = λ _. m }
 
   -- the window at that place was told, or is put back as it was
-  pub told-there : (t : Aim) (r : Changed) → Aims Q s t → Heard (windowAt s (t .at)) (s .shared) (t .what) r → Q (done (put (t .at) (r .window) (r .shared) s) (r .answer))
+  pub told-there : (t : Aim) (r : Changed) → Aims Q s t → Heard (windowAt s (t .at)) (s .shared) (t .what) r → Q (done (withWindow (t .at) (r .window) (r .shared) s) (r .answer))
   told-there t r a h = by (t .what .told) refl
     where
       Put : Changed → Type 0
-      Put c = Q (done (put (t .at) (c .window) (c .shared) s) (c .answer))
+      Put c = Q (done (withWindow (t .at) (c .window) (c .shared) s) (c .answer))
 
       by : (b : Bool) → t .what .told ≡ b → Put r
       by true q =
-          subst (λ (k : Shared). Q (done (put (t .at) (r .window) k s) (r .answer))) (sym (h .shared q))
+          subst (λ (k : Shared). Q (done (withWindow (t .at) (r .window) k s) (r .answer))) (sym (h .shared q))
           (a .told q (r .window) (r .answer) (h .told q))
       by false q = subst Put (sym (h .kept q)) (subst (λ (u : Session). Q (done u (t .what .answer))) (sym (put-back s (t .at) refl refl)) (a .kept q))
 
 -- the window that an event at a point is for because it is remembered is shown
-pub held-known : (e : Event) (s : Session) (m : WinId) (x y : ℕ) → Given s → targetOf e (s .shared .held) ≡ Point m x y
-    → (id : ℕ) → heldOf m ≡ some id → shown (group s) id ≡ true
+pub grab-known : (e : Event) (s : Session) (m : WinId) (x y : ℕ) → Given s → targetOf e (s .shared .grab) ≡ Point m x y
+    → (id : ℕ) → grabOf m ≡ some id → shown (group s) id ≡ true
 unfolding group
-held-known e s m x y h k =
-    held-point (λ n. (id : ℕ) → heldOf n ≡ some id → shown (group s) id ≡ true) e k (λ id q. absurd (Option·none-ne-some id q)) (given-ok s h .held-shown)
+grab-known e s m x y h k =
+    grab-point (λ n. (id : ℕ) → grabOf n ≡ some id → shown (group s) id ≡ true) e k (λ id q. absurd (Option·none-ne-some id q)) (given-ok s h .grab-shown)
 
-module _ (e : Event) (s : Session) (areas : List Rect16) (m : WinId) (x y id : ℕ) (h : Given s) (k : targetOf e (s .shared .held) ≡ Point m x y)
-    (at : Found s areas x y (heldOf m) id) where
+module _ (e : Event) (s : Session) (areas : List Rect16) (m : WinId) (x y id : ℕ) (h : Given s) (k : targetOf e (s .shared .grab) ≡ Point m x y)
+    (at : Found s areas x y (grabOf m) id) where
   frame-is : frameAt areas id ≡ win (group s) id .at
   frame-is = at .frame ∙ sym (ap (λ (w : Win). w .at) (win-at s id (at .used)))
 
   -- of a rectangle that has the point, the nearest pixel is the point
-  to-window : does (group s) (Route e) ≡ pointed (group s) (near (group s) e x y) x y (some id) (heldAfter e (some id) (group s .held))
+  to-window : does (group s) (Route e) ≡ pointed (group s) (near (group s) e x y) x y (some id) (grabAfter e (some id) (group s .grab))
   to-window =
       ⊎-elim (λ q. to-point s e h m x y k q)
       (λ q.
@@ -81,14 +81,14 @@ module _ (e : Event) (s : Session) (areas : List Rect16) (m : WinId) (x y id : �
       let same-x : x ≡ nearestX (win (group s) id .at) x = omega (arith, i .west, i .east) in
       let same-y : y ≡ nearestY (win (group s) id .at) y = omega (arith, i .north, i .south) in
       to-point s e h m x y k (q .0) ∙ ap (topped (group s) e x y) (q .1)
-      ∙ ap (λ (o : Event). pointed (group s) (λ _. o) x y (some id) (heldAfter e (some id) (group s .held)))
+      ∙ ap (λ (o : Event). pointed (group s) (λ _. o) x y (some id) (grabAfter e (some id) (group s .grab)))
       (λ j. atPoint e (same-x j - left (win (group s) id .at)) (same-y j - top (win (group s) id .at))))
       (at .which)
 
   -- at the window that the search found, at its pixel nearest to the point
   pub aims-point : small x && small y ≡ true → (i : Event)
       → i ≡ atPoint e (nearestX (frameAt areas id) x - left (frameAt areas id)) (nearestY (frameAt areas id) y - top (frameAt areas id))
-      → (n : WinId) → heldOf n ≡ heldAfter e (some id) (heldOf (s .shared .held)) → Aims (Meets (Route e) s) s (toWindow id i n)
+      → (n : WinId) → grabOf n ≡ grabAfter e (some id) (grabOf (s .shared .grab)) → Aims (Meets (Route e) s) s (toWindow id i n)
   unfolding group
   aims-point l i is n stands =
       let low-x : x ≤ 32767 = leb-true x 32767 (fst (small x) (small y) l) in
@@ -96,7 +96,7 @@ module _ (e : Event) (s : Session) (areas : List Rect16) (m : WinId) (x y id : �
       let j : i ≡ near (group s) e x y id =
       is ∙ ap (λ (r : Rect). atPoint e (nearestX r x - left r) (nearestY r y - top r)) frame-is in
       aims-window (Meets (Route e) s) s id i n (at .low)
-      (subst Tellable (sym is) (point-tellable e (s .shared .held) k _ _ (omega arith) (omega arith)))
+      (subst Tellable (sym is) (point-tellable e (s .shared .grab) k _ _ (omega arith) (omega arith)))
       (λ v a to.
       window-told s e h (near (group s) e x y) x y id _ to-window l (at .used) n stands v a
       (subst (λ (o : Event). ToldTo (windowAt s id) o v a) j to))

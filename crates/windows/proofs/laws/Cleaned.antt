@@ -16,7 +16,7 @@ use Rattle.geom.proofs.basics.Tests.{lt-or-le}
 use Rattle.geom.proofs.basics.Lists.{set-in}
 use Rattle.window.specs.declared.Window.{Window}
 use Rattle.window.specs.Window.{Win}
-use Rattle.window.specs.Held.{winOf, RepWindow}
+use Rattle.window.specs.Represents.{winOf, RepWindow}
 use Rattle.rules.specs.Group.{Group, win, winAt, theWin, withWindows, setWin}
 use Rattle.rules.specs.Order.{isIn, shown}
 use Rattle.rules.specs.Redraw.{clean, cleanAll, isDrawn}
@@ -25,7 +25,7 @@ use Rattle.order.specs.Ids.{ids}
 use Rattle.order.specs.inner.Order.{Marks}
 use Rattle.windows.specs.declared.Session.{Session}
 use Rattle.windows.specs.View.{cell, group, blank, windowAt, Rep, Given}
-use Rattle.windows.specs.inner.Walk.{wiped}
+use Rattle.windows.specs.inner.Sharing.{wiped}
 use Rattle.windows.proofs.laws.Session.{cell-at, is-cell, win-at, used-at, putWindow, put-rep, given-ok}
 
 -- The rule, window by window ------------------------------------------------------------------------------------------

@@ -10,7 +10,7 @@ use lib.Seq.{drop-cons}
 use Rattle.geom.specs.Rect16.{noRect16}
 use Rattle.window.specs.declared.Window.{Window}
 use Rattle.window.specs.Window.{Win, newWin, cursorAtOrigin}
-use Rattle.window.specs.Held.{winOf, RepWindow}
+use Rattle.window.specs.Represents.{winOf, RepWindow}
 use Rattle.order.specs.declared.frames.Frames.{Frames}
 use Rattle.order.specs.inner.Frames.{FirstFree}
 use Rattle.rules.specs.Group as Group
@@ -20,7 +20,7 @@ use Rattle.windows.specs.declared.Session.{Session}
 use Rattle.windows.specs.declared.NewId.the-variants.{Id, Absent}
 use Rattle.windows.specs.View.{cell, group, windowAt, Given, MeetsId}
 use Rattle.windows.specs.inner.One.{Free}
-use Rattle.windows.specs.inner.Walk.{layering, flagged, sharing}
+use Rattle.windows.specs.inner.Sharing.{layering, withMaximised, sharing}
 use Rattle.windows.specs.inner.Frames.{Framed}
 use Rattle.windows.proofs.laws.Session.{cell-at, is-cell, no-cell, putWindow, put-group, put-rep, refuses, gives}
 use Rattle.windows.proofs.laws.Shared.{layers-shared, flag-shared, then-shared}
@@ -82,7 +82,7 @@ renewed-rep r =
 
 -- its layer is 0, and it is not maximised
 abbrev lowest : ℕ → Session → Session
-lowest i s = sharing (flagged i false (layering (set (s .shared .layers) i 0) (s .shared))) s
+lowest i s = sharing (withMaximised i false (layering (set (s .shared .layers) i 0) (s .shared))) s
 
 pub created : (s : Session) (v : Window) (i : ℕ) → Given s → firstFree (group s .windows) 0 ≡ some i → v .used ≡ true → winOf v ≡ newWin → RepWindow v
     → MeetsId Create s (record { session = putWindow i v (lowest i s); answer = 0; id = Id (record { 0 = i }) })

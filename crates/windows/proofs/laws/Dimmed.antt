@@ -6,7 +6,7 @@ use Rattle.rules.specs.Dim as Rule
 use Rattle.rules.specs.Calls.{Dim, does}
 use Rattle.windows.specs.declared.Session.{Session}
 use Rattle.windows.specs.View.{group, Given, Meets, done}
-use Rattle.windows.specs.inner.Walk.{sharing, indebted, dimming}
+use Rattle.windows.specs.inner.Sharing.{sharing, indebted, dimming}
 use Rattle.windows.proofs.laws.Session.{gives}
 use Rattle.windows.proofs.laws.Shared.{Shares, debt-shared}
 

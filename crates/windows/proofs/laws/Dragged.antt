@@ -23,7 +23,7 @@ use Rattle.geom.proofs.basics.Tests.{clash, is-false, cond-yes, cond-no, fst, s
 use Rattle.geom.proofs.basics.Lists.{set-in}
 use Rattle.window.specs.declared.Window.{Window}
 use Rattle.window.specs.Window.{Win}
-use Rattle.window.specs.Held.{winOf}
+use Rattle.window.specs.Represents.{winOf}
 use Rattle.window.specs.inner.Ids.{noId}
 use Rattle.rules.specs.Group.{Group, win, winAt, withWindows, setMaximised, movedTo, moved, owing}
 use Rattle.rules.specs.Order.{isIn, shown}
@@ -43,9 +43,9 @@ use Rattle.windows.specs.declared.Session.{Session}
 use Rattle.windows.specs.declared.inner.drag.Dragging.{Dragging}
 use Rattle.windows.specs.declared.inner.drag.DragPlan.{DragPlan}
 use Rattle.windows.specs.View.{cell, group, blank, windowAt, done, Rep, Given, Meets}
-use Rattle.windows.specs.inner.One.{put}
+use Rattle.windows.specs.inner.One.{withWindow}
 use Rattle.windows.specs.inner.Pixels.{Becomes}
-use Rattle.windows.specs.inner.Walk.{flagging, sharing}
+use Rattle.windows.specs.inner.Sharing.{withFlags, sharing}
 use Rattle.windows.specs.inner.Drag.{turnsOf, Drags, PlansDrag, draggedWin, uncoveredWin, turned, OnTurn, settled, settledBy}
 use Rattle.windows.proofs.laws.Session.{cell-at, is-cell, no-cell, used-at, win-at, put-rep, given-ok, refuses, gives}
 use Rattle.windows.proofs.laws.Shared.{debt-shared}
@@ -170,7 +170,7 @@ module _ {first : Session} {id x y : ℕ} {t : DragPlan} {p : ℕ} {s : Session}
       had-turn j = ap (isIn j) turns-more ∙ isIn-append j (ids p (d .order)) (at ∷ [])
 
       pub goes-on : (w : Window) → Becomes (windowAt s at) (turned d at (winOf (windowAt s at))) w
-          → BeforeTurn first id x y t (p + 1) (put at w (s .shared) s)
+          → BeforeTurn first id x y t (p + 1) (withWindow at w (s .shared) s)
       goes-on w b =
           let room : at < length (s .windows) = omega (arith, inside, q .rep .windows) in
           let b′ = subst (λ (v : Window). Becomes v (turned d at (winOf v)) w) window-same b in
@@ -217,7 +217,7 @@ module _ {first : Session} {id x y : ℕ} {t : DragPlan} {p : ℕ} {s : Session}
 
     -- the session with the flags after the drag
     abbrev cleared : Session
-    cleared = sharing (flagging (d .maximised) (s .shared)) s
+    cleared = sharing (withFlags (d .maximised) (s .shared)) s
 
     cleared-rep : Rep cleared
     cleared-rep = let r = q .rep in record { windows = r .windows; order = r .order; shown = r .shown; each = r .each; displays = r .displays }
@@ -231,7 +231,7 @@ module _ {first : Session} {id x y : ℕ} {t : DragPlan} {p : ℕ} {s : Session}
     unfolding group
     with-windows ws n h =
         let m : length (map cell (s .windows)) ≡ 16 = length-map (s .windows) cell ∙ q .rep .windows in
-        (λ i. group (record { windows = s .windows; shared = flagging (a .flags i) (q .shared i); displays = q .displays i }))
+        (λ i. group (record { windows = s .windows; shared = withFlags (a .flags i) (q .shared i); displays = q .displays i }))
         ∙ ap (λ (l : List (Option Win)). withWindows l (setMaximised id false g))
         (ext-getD none (map cell (s .windows)) ws (m ∙ sym n) (λ j l. cell-at s j ∙ h j))
 

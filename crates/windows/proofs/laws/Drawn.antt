@@ -15,7 +15,7 @@ use Rattle.geom.specs.Rect16.{rectOf}
 use Rattle.geom.proofs.basics.Tests.{fst, snd}
 use Rattle.window.specs.declared.ids.WinId.{WinId}
 use Rattle.window.specs.Window.{Win}
-use Rattle.window.specs.Held.{winOf, rects}
+use Rattle.window.specs.Represents.{winOf, rects}
 use Rattle.window.specs.inner.Ids.{noId}
 use Rattle.rules.specs.Group.{Group, win}
 use Rattle.rules.specs.Visible.{visible, rectsOf}
@@ -29,7 +29,7 @@ use Rattle.rules.proofs.Lent.{behind, rects-split, rest-lent}
 use Rattle.windows.specs.declared.Session.{Session}
 use Rattle.order.specs.declared.rects.Rects.{Rects}
 use Rattle.windows.specs.View.{walkOf, group, windowAt, Rep, Given, Meets, MeetsScreen, done}
-use Rattle.windows.specs.inner.Walk.{noted, sharing}
+use Rattle.windows.specs.inner.Sharing.{noted, sharing}
 use Rattle.due.specs.inner.Due.{walkAt}
 use Rattle.windows.specs.declared.inner.redraw.Drawn.{Drawn}
 use Rattle.windows.specs.inner.Drawing.{painted, Draws}
@@ -152,32 +152,32 @@ pub pays : (s : Session) (g : Group) → (group s ≡ g) × Rep s → (group (wi
 unfolding group walkOf
 pays s g e = let r = e .1 in (ap paid (e .0), record { windows = r .windows; order = r .order; shown = r .shown; each = r .each; displays = r .displays })
 
-module _ (s : Session) (told : Bool) (sw sh : ℕ) (store screen : List ℕ) (h : Given s) (full : Bool) (is : full ≡ told || s .shared .due .owed) where
+module _ (s : Session) (forced : Bool) (sw sh : ℕ) (store screen : List ℕ) (h : Given s) (full : Bool) (is : full ≡ forced || s .shared .due .owed) where
   abbrev half : ℕ → Drawn
   half n = record { full = full; answer = n }
 
   pub draws : (screen′ : List ℕ) → whole (group s) store ≡ true → screenFits sw sh screen ≡ true
-      → screen′ ≡ drawAll (group s) full store sw sh (group s .order) screen → Draws (Redraw told sw sh store screen) s (half 0) screen′
+      → screen′ ≡ drawAll (group s) full store sw sh (group s .order) screen → Draws (Redraw forced sw sh store screen) s (half 0) screen′
   unfolding does Draw.redraw group
   draws screen′ w f d r q =
       let c = q .clean refl in
       record {
         meets =
-            subst (λ (n : ℕ). Meets (Redraw told sw sh store screen) s (done (r .session) n)) (sym (q .answer))
-            (gives (Redraw told sw sh store screen) s (r .session) h (c .1) (rw (w, f)) (c .0 ∙ rw (is, w, f)));
+            subst (λ (n : ℕ). Meets (Redraw forced sw sh store screen) s (done (r .session) n)) (sym (q .answer))
+            (gives (Redraw forced sw sh store screen) s (r .session) h (c .1) (rw (w, f)) (c .0 ∙ rw (is, w, f)));
         shown = d ∙ rw (is, w, f);
       }
 
   -- a half that was refused leaves the session and the screen
-  refused : (n : ℕ) → MeetsScreen (Redraw told sw sh store screen) s (done s (suc n)) screen → Draws (Redraw told sw sh store screen) s (half (suc n)) screen
+  refused : (n : ℕ) → MeetsScreen (Redraw forced sw sh store screen) s (done s (suc n)) screen → Draws (Redraw forced sw sh store screen) s (half (suc n)) screen
   refused n m r q =
-      subst (λ (a : ℕ). MeetsScreen (Redraw told sw sh store screen) s (done (r .session) a) screen) (sym (q .answer))
-      (subst (λ (t : Session). MeetsScreen (Redraw told sw sh store screen) s (done t (suc n)) screen) (sym (q .same (suc-ne-zero n))) m)
+      subst (λ (a : ℕ). MeetsScreen (Redraw forced sw sh store screen) s (done (r .session) a) screen) (sym (q .answer))
+      (subst (λ (t : Session). MeetsScreen (Redraw forced sw sh store screen) s (done t (suc n)) screen) (sym (q .same (suc-ne-zero n))) m)
 
-  pub no-screen : whole (group s) store ≡ true → screenFits sw sh screen ≡ false → Draws (Redraw told sw sh store screen) s (half 8) screen
+  pub no-screen : whole (group s) store ≡ true → screenFits sw sh screen ≡ false → Draws (Redraw forced sw sh store screen) s (half 8) screen
   unfolding does Draw.redraw
-  no-screen w f = refused 7 (record { meets = refuses (Redraw told sw sh store screen) s 7 h (rw (w, f)); shown = rw (w, f) })
+  no-screen w f = refused 7 (record { meets = refuses (Redraw forced sw sh store screen) s 7 h (rw (w, f)); shown = rw (w, f) })
 
-  pub no-store : whole (group s) store ≡ false → Draws (Redraw told sw sh store screen) s (half 1) screen
+  pub no-store : whole (group s) store ≡ false → Draws (Redraw forced sw sh store screen) s (half 1) screen
   unfolding does Draw.redraw
-  no-store w = refused 0 (record { meets = refuses (Redraw told sw sh store screen) s 0 h (rw w); shown = rw w })
+  no-store w = refused 0 (record { meets = refuses (Redraw forced sw sh store screen) s 0 h (rw w); shown = rw w })

@@ -20,11 +20,11 @@ use Rattle.window.specs.Window.{Win}
 use Rattle.window.specs.inner.Ids.{noId}
 use Rattle.rules.specs.Group.{Group, win}
 use Rattle.rules.specs.Order.{isIn, shown}
-use Rattle.rules.specs.Events.{topmostOf, topmost, holder}
+use Rattle.rules.specs.Events.{topmostOf, topmost, grabber}
 use Rattle.rules.proofs.group.Order.{isIn-here}
 use Rattle.rules.proofs.group.Invariant.{used-small}
 use Rattle.rules.proofs.group.Topmost.{topmost-tops}
-use Rattle.rules.proofs.group.Steps.{holder-held}
+use Rattle.rules.proofs.group.Steps.{grabber-grab}
 use Rattle.order.specs.declared.frames.Frames.{Frames}
 use Rattle.order.specs.Ids.{ids}
 use Rattle.order.specs.inner.Frames.{frameAt, Shown}
@@ -72,8 +72,8 @@ agrees-topmost g frame x y (j ∷ os) best a =
     ∙ ap (λ (r : Rect). topmostOf g x y os (cond (contains r x y) (some j) best)) (a j (isIn-here j os))
 
 -- a window that is remembered and has pixels
-holder-solid : (g : Group) (o : Option ℕ) (id : ℕ) → holder g o ≡ some id → isEmpty (win g id .at) ≡ false
-holder-solid g o id e = go (isEmpty (win g id .at)) (ap (holder g) (sym (holder-held g o id e)) ∙ e)
+grabber-solid : (g : Group) (o : Option ℕ) (id : ℕ) → grabber g o ≡ some id → isEmpty (win g id .at) ≡ false
+grabber-solid g o id e = go (isEmpty (win g id .at)) (ap (grabber g) (sym (grabber-grab g o id e)) ∙ e)
   where
     go : (b : Bool) → cond b none (some id) ≡ some id → b ≡ false
     go true q = absurd (Option·none-ne-some id q)
@@ -94,7 +94,7 @@ taker g x y (some id) = some id
 
 -- the window that a search found for o, which is remembered: that one, or the topmost, whose rectangle has the point; it is in use and has pixels
 pub record Found (s : Session) (areas : List Rect16) (x y : ℕ) (o : Option ℕ) (id : ℕ) : Type 0 where
-  pub which : (holder (group s) o ≡ some id) ⊎ ((holder (group s) o ≡ none) × (topmost (group s) x y ≡ some id) × In (frameAt areas id) x y)
+  pub which : (grabber (group s) o ≡ some id) ⊎ ((grabber (group s) o ≡ none) × (topmost (group s) x y ≡ some id) × In (frameAt areas id) x y)
   pub low : id < 16
   pub used : windowAt s id .used ≡ true
   pub frame : frameAt areas id ≡ rectOf (windowAt s id .at)
@@ -120,7 +120,7 @@ module _ (s : Session) (h : Given s) (f : Frames) (is : Framed s 16 f) where
 
   -- a window that is remembered is shown
   module _ (x y : ℕ) (o : Option ℕ) (known : (id : ℕ) → o ≡ some id → shown (group s) id ≡ true) where
-    taker-is : takerAt (frameAt (f .areas)) x y (ids (s .shared .shown) (s .shared .order)) o ≡ taker (group s) x y (holder (group s) o)
+    taker-is : takerAt (frameAt (f .areas)) x y (ids (s .shared .shown) (s .shared .order)) o ≡ taker (group s) x y (grabber (group s) o)
     taker-is = go o refl
       where
         pick : (id : ℕ) (b : Bool)
@@ -129,23 +129,23 @@ module _ (s : Session) (h : Given s) (f : Frames) (is : Framed s 16 f) where
         pick id false = refl
 
         go : (p : Option ℕ) → o ≡ p
-            → takerAt (frameAt (f .areas)) x y (ids (s .shared .shown) (s .shared .order)) p ≡ taker (group s) x y (holder (group s) p)
+            → takerAt (frameAt (f .areas)) x y (ids (s .shared .shown) (s .shared .order)) p ≡ taker (group s) x y (grabber (group s) p)
         go none q = topmost-is x y
         go (some id) q =
             pick id (isEmpty (frameAt (f .areas) id)) ∙ ap (λ (r : Rect). taker (group s) x y (cond (isEmpty r) none (some id))) (frames-agree id (known id q))
 
     pub none-found : none ≡ takerAt (frameAt (f .areas)) x y (ids (s .shared .shown) (s .shared .order)) o
-        → (holder (group s) o ≡ none) × (topmost (group s) x y ≡ none)
-    none-found e = go (holder (group s) o) refl (sym (e ∙ taker-is))
+        → (grabber (group s) o ≡ none) × (topmost (group s) x y ≡ none)
+    none-found e = go (grabber (group s) o) refl (sym (e ∙ taker-is))
       where
-        go : (p : Option ℕ) → holder (group s) o ≡ p → taker (group s) x y p ≡ none → (holder (group s) o ≡ none) × (topmost (group s) x y ≡ none)
+        go : (p : Option ℕ) → grabber (group s) o ≡ p → taker (group s) x y p ≡ none → (grabber (group s) o ≡ none) × (topmost (group s) x y ≡ none)
         go none q t = (q, t)
         go (some id) q t = absurd (Option·some-ne-none id t)
 
     pub found : (id : ℕ) → some id ≡ takerAt (frameAt (f .areas)) x y (ids (s .shared .shown) (s .shared .order)) o → Found s (f .areas) x y o id
-    found id e = go (holder (group s) o) refl (sym (e ∙ taker-is))
+    found id e = go (grabber (group s) o) refl (sym (e ∙ taker-is))
       where
-        top : holder (group s) o ≡ none → topmost (group s) x y ≡ some id → Found s (f .areas) x y o id
+        top : grabber (group s) o ≡ none → topmost (group s) x y ≡ some id → Found s (f .areas) x y o id
         top q t =
             let tops = topmost-tops (group s) x y id (given-ok s h .distinct) t in
             let u = shown-used s id h (tops .here) in
@@ -158,18 +158,18 @@ module _ (s : Session) (h : Given s) (f : Frames) (is : Framed s 16 f) where
               solid = record { wide = omega (arith, has .west, has .east); high = omega (arith, has .north, has .south) };
             }
 
-        held : holder (group s) o ≡ some id → Found s (f .areas) x y o id
-        held q =
-            let k = known id (holder-held (group s) o id q) in
+        grab : grabber (group s) o ≡ some id → Found s (f .areas) x y o id
+        grab q =
+            let k = known id (grabber-grab (group s) o id q) in
             let u = shown-used s id h k in
             record {
               which = inl q;
               low = u .0;
               used = u .1;
               frame = ap rectOf (is .at id (u .0));
-              solid = solid (frameAt (f .areas) id) (ap isEmpty (frames-agree id k) ∙ holder-solid (group s) o id q);
+              solid = solid (frameAt (f .areas) id) (ap isEmpty (frames-agree id k) ∙ grabber-solid (group s) o id q);
             }
 
-        go : (p : Option ℕ) → holder (group s) o ≡ p → taker (group s) x y p ≡ some id → Found s (f .areas) x y o id
+        go : (p : Option ℕ) → grabber (group s) o ≡ p → taker (group s) x y p ≡ some id → Found s (f .areas) x y o id
         go none q t = top q t
-        go (some j) q t = held (q ∙ t)
+        go (some j) q t = grab (q ∙ t)

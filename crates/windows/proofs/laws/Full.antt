@@ -14,7 +14,7 @@ use Rattle.geom.proofs.basics.Lists.{All}
 use Rattle.geom.proofs.geometry.Facts.{says-meet}
 use Rattle.geom.proofs.geometry.Pieces.{left-within}
 use Rattle.window.specs.declared.Window.{Window}
-use Rattle.window.specs.Held.{rects}
+use Rattle.window.specs.Represents.{rects}
 use Rattle.rules.specs.Redraw.{none?, drawRegion, drawRegions}
 use Rattle.rules.specs.inner.Lent.{AllFit}
 use Rattle.visible.specs.declared.region.View.{View}

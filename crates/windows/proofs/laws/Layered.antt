@@ -15,7 +15,7 @@ use Rattle.order.specs.inner.Order.{renderIdx}
 use Rattle.order.specs.inner.Layers.{Raised}
 use Rattle.windows.specs.declared.Session.{Session}
 use Rattle.windows.specs.View.{group, Rep, Given}
-use Rattle.windows.specs.inner.Walk.{ordered, layering, sharing, indebted}
+use Rattle.windows.specs.inner.Sharing.{ordered, layering, sharing, indebted}
 use Rattle.windows.proofs.laws.Shared.{layers-shared, debt-shared}
 use Rattle.windows.proofs.laws.Places.{isnt-shown, is-shown}
 

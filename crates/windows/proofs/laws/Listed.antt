@@ -18,7 +18,7 @@ use Rattle.rules.specs.Order.{shown, above}
 use Rattle.rules.specs.Visible.{visible, visibleList}
 use Rattle.rules.proofs.group.Invariant.{used-small}
 use Rattle.windows.specs.declared.Session.{Session}
-use Rattle.windows.specs.declared.Listing.{Listing}
+use Rattle.geom.specs.declared.Listing.{Listing}
 use Rattle.windows.specs.View.{group, windowAt, Given, Lists}
 use Rattle.order.specs.Ids.{ids}
 use Rattle.order.specs.inner.Order.{renderIdx}

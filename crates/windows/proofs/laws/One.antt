@@ -12,7 +12,7 @@ use Rattle.geom.specs.declared.inner.rect16.Rect16.{Rect16}
 use Rattle.geom.proofs.basics.Tests.{fst, snd, lt-or-le}
 use Rattle.window.specs.declared.Window.{Window}
 use Rattle.window.specs.declared.damage.Damage.{Damage}
-use Rattle.window.specs.Held.{winOf, RepWindow}
+use Rattle.window.specs.Represents.{winOf, RepWindow}
 use Rattle.order.specs.Ids.{ids}
 use Rattle.order.specs.inner.Order.{renderIdx}
 use Rattle.rules.specs.Group.{used}
@@ -24,22 +24,22 @@ use Rattle.windows.specs.declared.Changed.{Changed}
 use Rattle.windows.specs.declared.Done.{Done}
 use Rattle.windows.specs.declared.Written.{Written}
 use Rattle.windows.specs.declared.inner.store.Painted.{Painted}
-use Rattle.windows.specs.View.{blank, group, windowAt, holding, ruled, rewritten, done, written, Given, Meets, MeetsStore, MeetsAltered, MeetsMark}
-use Rattle.windows.specs.inner.One.{At, Holds, Held, HeldAs, put, MeetsAt, MeetsStoreAt, MeetsAlteredAs, MeetsMarkAt}
+use Rattle.windows.specs.View.{blank, group, windowAt, grabbing, ruled, rewritten, done, written, Given, Meets, MeetsStore, MeetsAltered, MeetsMark}
+use Rattle.windows.specs.inner.One.{At, Holds, Held, HeldAs, withWindow, MeetsAt, MeetsStoreAt, MeetsAlteredAs, MeetsMarkAt}
 use Rattle.windows.specs.inner.Pixels.{setDamage}
 use Rattle.windows.proofs.laws.Session.{used-at, used-past}
 
 -- Parts of a session ---------------------------------------------------------------------------------------------------
 
 -- a new share alone
-pub shares : (P : Session → Type 0) (s : Session) (at : ℕ) (k : Shared) → P (record { windows = s .windows; shared = k; displays = s .displays }) → P (put at (windowAt s at) k s)
+pub shares : (P : Session → Type 0) (s : Session) (at : ℕ) (k : Shared) → P (record { windows = s .windows; shared = k; displays = s .displays }) → P (withWindow at (windowAt s at) k s)
 shares P s at k = subst (λ (l : List Window). P (record { windows = l; shared = k; displays = s .displays })) (sym (set-getD (s .windows) at blank))
 
 -- what was there is put back
-pub put-back : (s : Session) (at : ℕ) {w : Window} {k : Shared} → windowAt s at ≡ w → s .shared ≡ k → put at w k s ≡ s
+pub put-back : (s : Session) (at : ℕ) {w : Window} {k : Shared} → windowAt s at ≡ w → s .shared ≡ k → withWindow at w k s ≡ s
 put-back s at {w} {k} is same =
-    ap (λ (v : Window). put at v k s) (sym is)
-    ∙ ap (λ (m : Shared). put at (windowAt s at) m s) (sym same)
+    ap (λ (v : Window). withWindow at v k s) (sym is)
+    ∙ ap (λ (m : Shared). withWindow at (windowAt s at) m s) (sym same)
     ∙ ap (λ (l : List Window). record { windows = l; shared = s .shared; displays = s .displays }) (set-getD (s .windows) at blank)
 
 -- a place that was found in what is shared is the session's
@@ -66,7 +66,7 @@ sized c k =
       c = c;
       focus = k .focus;
       dimmed = k .dimmed;
-      held = k .held;
+      grab = k .grab;
       due = k .due;
       layers = k .layers;
       maximised = k .maximised;
@@ -89,10 +89,10 @@ pub record Here (id : ℕ) (w : Window) (k : Shared) (s : Session) : Type 0 wher
 -- The ends of a function of one window --------------------------------------------------------------------------------
 
 module _ {id : ℕ} {w : Window} {k : Shared} where
-  put-same : (s : Session) (at : ℕ) → Holds id w k s at → put at w k s ≡ s
+  put-same : (s : Session) (at : ℕ) → Holds id w k s at → withWindow at w k s ≡ s
   put-same s at h = put-back s at (h .window) (h .shared)
 
-  pub stays : (P : Session → Session → Type 0) → ((s : Session) → Given s → P s s) → (s : Session) (at : ℕ) → Holds id w k s at → P s (put at w k s)
+  pub stays : (P : Session → Session → Type 0) → ((s : Session) → Given s → P s s) → (s : Session) (at : ℕ) → Holds id w k s at → P s (withWindow at w k s)
   stays P law s at h = subst (P s) (sym (put-same s at h)) (law s (h .given))
 
   -- the window of an id below 16
@@ -105,11 +105,11 @@ module _ {id : ℕ} {w : Window} {k : Shared} where
       subst (λ (j : ℕ). P s j w k) (sym q) (subst (λ (v : Window). P s id v k) is (subst (P s id (windowAt s id)) (h .shared) (law s (h .given) is (h .shared))))
 
   -- the window that a fill, a blit or a mark leaves of it makes all of the session that it leaves
-  pub rewrites : (u : Write) {r : Window} → id < 16 → r ≡ holding (ruled u (winOf w)) w → (s : Session) (at : ℕ) → Holds id w k s at
-      → put at r k s ≡ rewritten id u s
+  pub rewrites : (u : Write) {r : Window} → id < 16 → r ≡ grabbing (ruled u (winOf w)) w → (s : Session) (at : ℕ) → Holds id w k s at
+      → withWindow at r k s ≡ rewritten id u s
   rewrites u l e s at h =
-      ap (λ (v : Window). put at v k s) e
-      ∙ changes (λ s at w k. put at (holding (ruled u (winOf w)) w) k s ≡ rewritten id u s) l (λ s _ _ _. refl) s at h
+      ap (λ (v : Window). withWindow at v k s) e
+      ∙ changes (λ s at w k. withWindow at (grabbing (ruled u (winOf w)) w) k s ≡ rewritten id u s) l (λ s _ _ _. refl) s at h
 
   -- question 3, as the code asks it
   pub asks-used : (s : Session) (at : ℕ) → Holds id w k s at → used (group s) id ≡ ltb id 16 && w .used
@@ -139,7 +139,7 @@ module _ {id : ℕ} {w : Window} {k : Shared} where
 
   -- it failed: everything is as it was
   pub not-used : (P : Session → Session → Type 0) → ltb id 16 && w .used ≡ false → ((s : Session) → Given s → used (group s) id ≡ false → P s s)
-      → (s : Session) (at : ℕ) → Holds id w k s at → P s (put at w k s)
+      → (s : Session) (at : ℕ) → Holds id w k s at → P s (withWindow at w k s)
   not-used P n law s at h = subst (P s) (sym (put-same s at h)) (law s (h .given) (asks-used s at h ∙ n))
 
 -- The window of a session at hand -------------------------------------------------------------------------------------
@@ -153,11 +153,11 @@ module _ {id at : ℕ} {s : Session} (h : Given s) (p : At id at) where
 
   -- what the function of one window made of it is put in its place
   pub by-meets : {call : Call} {r : Done} (d : Changed) → MeetsAt call id (windowAt s at) (s .shared) d
-      → r ≡ done (put at (d .window) (d .shared) s) (d .answer) → Meets call s r
+      → r ≡ done (withWindow at (d .window) (d .shared) s) (d .answer) → Meets call s r
   by-meets {call} d m e = subst (Meets call s) (sym e) (m s at own)
 
   pub by-store : {call : Call} {t : List ℕ} {r : Done} (d : Changed) → MeetsStoreAt call id (windowAt s at) (s .shared) d t
-      → r ≡ done (put at (d .window) (d .shared) s) (d .answer) → MeetsStore call s r t
+      → r ≡ done (withWindow at (d .window) (d .shared) s) (d .answer) → MeetsStore call s r t
   by-store {call} {t} d m e = subst (λ (r : Done). MeetsStore call s r t) (sym e) (m s at own)
 
   -- a fill or a blit is handed fields of the window
@@ -175,12 +175,12 @@ module _ {id at : ℕ} {s : Session} (h : Given s) (p : At id at) where
 
   pub by-altered : {u : Write} {p t : List ℕ} {r : Written} (d : Painted)
       → MeetsAlteredAs id u p (windowAt s at .used) (windowAt s at .at) (windowAt s at .damage) (s .shared .c) d t
-      → r ≡ written (put at (setDamage (d .damage) (windowAt s at)) (s .shared) s) (d .result)
+      → r ≡ written (withWindow at (setDamage (d .damage) (windowAt s at)) (s .shared) s) (d .result)
       → MeetsAltered id u p s r t
   by-altered {u} {p} {t} d m e =
       subst (λ (r : Written). MeetsAltered id u p s r t) (sym e)
       (m (windowAt s at) (s .shared) refl refl refl refl s at own)
 
-  pub by-mark : {r : Done} (d : Changed) → MeetsMarkAt id (windowAt s at) (s .shared) d → r ≡ done (put at (d .window) (d .shared) s) (d .answer)
+  pub by-mark : {r : Done} (d : Changed) → MeetsMarkAt id (windowAt s at) (s .shared) d → r ≡ done (withWindow at (d .window) (d .shared) s) (d .answer)
       → MeetsMark id s r
   by-mark d m e = subst (MeetsMark id s) (sym e) (m s at own)

@@ -6,7 +6,7 @@ use native.Mathlib.Omega.{arith}
 use Rattle.window.specs.declared.CursorPos.{CursorPos}
 use Rattle.window.specs.declared.Window.{Window}
 use Rattle.window.specs.declared.queue.Queue.{Queue}
-use Rattle.window.specs.Held.{events, RepQueue, RepCursor, RepWindow}
+use Rattle.window.specs.Represents.{events, RepQueue, RepCursor, RepWindow}
 
 abbrev pub setQueue : Queue → Window → Window
 setQueue q w = record { queue = q; damage = w .damage; at = w .at; cursor = w .cursor; used = w .used; marked = w .marked }

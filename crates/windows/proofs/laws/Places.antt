@@ -11,7 +11,7 @@ use lib.ListN.{length, getD, drop}
 use borrow.Author.Tests.{eqb-true, eq-eqb}
 use Rattle.geom.proofs.basics.Tests.{clash, is-false}
 use Rattle.window.specs.declared.ids.WinId.{WinId}
-use Rattle.window.specs.Held.{winOf}
+use Rattle.window.specs.Represents.{winOf}
 use Rattle.window.specs.inner.Ids.{noId}
 use Rattle.rules.specs.Group.{used, win}
 use Rattle.rules.specs.Order.{isIn, placeOf, above, shown}

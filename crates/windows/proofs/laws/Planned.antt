@@ -18,23 +18,23 @@ use Rattle.geom.proofs.basics.Tests.{fst}
 use Rattle.geom.proofs.basics.Lists.{set-in}
 use Rattle.window.specs.declared.ids.WinId.{WinId}
 use Rattle.window.specs.Window.{Win}
-use Rattle.window.specs.Held.{winOf}
+use Rattle.window.specs.Represents.{winOf}
 use Rattle.window.specs.inner.Ids.{noId}
 use Rattle.rules.specs.Group.{Group, winAt, isMaximised}
 use Rattle.rules.specs.Displays as Rule
-use Rattle.rules.specs.Displays.{updatedAt, takenStore, fits, everyById, updateFits, updateStore, updateStores, everyFits}
+use Rattle.rules.specs.Displays.{updatedAt, resizedStore, fits, everyById, updateFits, updateStore, updateStores, everyFits}
 use Rattle.rules.specs.Calls.{UpdateDims, does}
 use Rattle.rules.proofs.group.Refused.{refused-store}
 use Rattle.rules.proofs.group.Displays.{fits-at}
-use Rattle.display.specs.declared.dims.Moves.{Moves}
-use Rattle.display.specs.Held.{regions}
-use Rattle.display.specs.inner.Dims.{place, takes, MovesTo, allFit, Roomy, resizedOne, allResized}
+use Rattle.display.specs.declared.update.Moves.{Moves}
+use Rattle.display.specs.Represents.{regions}
+use Rattle.display.specs.inner.Update.{place, resizes, MovesTo, allFit, Roomy, resizedOne, allResized}
 use Rattle.order.specs.declared.frames.Frames.{Frames}
 use Rattle.windows.specs.declared.Session.{Session}
 use Rattle.windows.specs.declared.inner.update.DimsPlan.{DimsPlan}
 use Rattle.windows.specs.View.{cell, group, windowAt, Given}
 use Rattle.windows.specs.inner.Frames.{Framed}
-use Rattle.windows.specs.inner.Dims.{MovesOf, StaysAt, Stays, Collects, Plans}
+use Rattle.windows.specs.inner.Maximise.{MovesOf, StaysAt, Stays, Collects, Plans}
 use Rattle.windows.proofs.laws.Session.{cell-at, is-cell, no-cell, win-at, is-whole, isnt-whole, given-ok}
 
 -- Two lists by number -------------------------------------------------------------------------------------------------
@@ -138,8 +138,8 @@ module _ (s : Session) (h : Given s) (f : Frames) (framed : Framed s 16 f) (m : 
   pub moves-of : MovesOf s m
   unfolding group
   moves-of i l = record {
-    flag = to .taken i l ∙ ap (λ (b : Bool). b && getD (s .shared .maximised) i false) (framed .used i l);
-    at = to .at i l ∙ ap (λ (a : Rect16). updatedAt (regions (s .displays)) (takes m i) (rectOf a)) (framed .at i l);
+    flag = to .resized i l ∙ ap (λ (b : Bool). b && getD (s .shared .maximised) i false) (framed .used i l);
+    at = to .at i l ∙ ap (λ (a : Rect16). updatedAt (regions (s .displays)) (resizes m i) (rectOf a)) (framed .at i l);
     small = to .small i l;
   }
 
@@ -149,52 +149,52 @@ module _ (s : Session) (h : Given s) (f : Frames) (framed : Framed s 16 f) (m : 
 
   -- of one window: it is not in use, or it is
   module _ (i : ℕ) (l : i < 16) where
-    unused : windowAt s i .used ≡ false → (winAt (group s) i ≡ none) × (takes m i ≡ false)
+    unused : windowAt s i .used ≡ false → (winAt (group s) i ≡ none) × (resizes m i ≡ false)
     unused u = (cell-at s i ∙ no-cell (windowAt s i) u, moves-of i l .flag ∙ rw u refl)
 
-    in-use : windowAt s i .used ≡ true → (winAt (group s) i ≡ some (winOf (windowAt s i))) × (takes m i ≡ isMaximised (group s) i)
+    in-use : windowAt s i .used ≡ true → (winAt (group s) i ≡ some (winOf (windowAt s i))) × (resizes m i ≡ isMaximised (group s) i)
     in-use u = (cell-at s i ∙ is-cell (windowAt s i) u, moves-of i l .flag ∙ rw u refl)
 
-    fits-one : updateFits (group s) i (winAt (group s) i) ≡ not (takes m i) || fits c (place (m .areas) i)
+    fits-one : updateFits (group s) i (winAt (group s) i) ≡ not (resizes m i) || fits c (place (m .areas) i)
     unfolding group
     fits-one = go (windowAt s i .used) refl
       where
-        by : (b : Bool) → takes m i ≡ b → not b || fits c (updatedAt (regions (s .displays)) true (rectOf (windowAt s i .at))) ≡ not b || fits c (place (m .areas) i)
+        by : (b : Bool) → resizes m i ≡ b → not b || fits c (updatedAt (regions (s .displays)) true (rectOf (windowAt s i .at))) ≡ not b || fits c (place (m .areas) i)
         by true e = ap (fits c) (sym (moves-of i l .at ∙ ap (λ (t : Bool). updatedAt (regions (s .displays)) t (rectOf (windowAt s i .at))) e))
         by false e = refl
 
-        go : (b : Bool) → windowAt s i .used ≡ b → updateFits (group s) i (winAt (group s) i) ≡ not (takes m i) || fits c (place (m .areas) i)
+        go : (b : Bool) → windowAt s i .used ≡ b → updateFits (group s) i (winAt (group s) i) ≡ not (resizes m i) || fits c (place (m .areas) i)
         go true u =
             let (w, t) = in-use u in
             ap (updateFits (group s) i) w ∙ ap (λ (b : Bool). not b || fits c (updatedAt (regions (s .displays)) true (rectOf (windowAt s i .at)))) (sym t)
-            ∙ by (takes m i) refl
+            ∙ by (resizes m i) refl
         go false u =
             let (w, t) = unused u in
             ap (updateFits (group s) i) w ∙ ap (λ (b : Bool). not b || fits c (place (m .areas) i)) (sym t)
 
     -- its pixels, as the rule has them
     abbrev ruled : Bool → List ℕ → List ℕ
-    ruled b t = cond b (takenStore (i * c) c (rectOf (windowAt s i .at)) (updatedAt (regions (s .displays)) true (rectOf (windowAt s i .at))) t) t
+    ruled b t = cond b (resizedStore (i * c) c (rectOf (windowAt s i .at)) (updatedAt (regions (s .displays)) true (rectOf (windowAt s i .at))) t) t
 
-    store-one : (t : List ℕ) → updateStore (group s) i (winAt (group s) i) t ≡ resizedOne c (f .areas) (m .takes) i (getD (m .areas) i noRect16) t
+    store-one : (t : List ℕ) → updateStore (group s) i (winAt (group s) i) t ≡ resizedOne c (f .areas) (m .resizes) i (getD (m .areas) i noRect16) t
     unfolding group
     store-one t = go (windowAt s i .used) refl
       where
-        by : (b : Bool) → takes m i ≡ b → ruled b t ≡ cond b (takenStore (i * c) c (place (f .areas) i) (place (m .areas) i) t) t
+        by : (b : Bool) → resizes m i ≡ b → ruled b t ≡ cond b (resizedStore (i * c) c (place (f .areas) i) (place (m .areas) i) t) t
         by true e =
             let was = sym (framed .at i l) in
             let goal = sym (moves-of i l .at ∙ ap (λ (b : Bool). updatedAt (regions (s .displays)) b (rectOf (windowAt s i .at))) e) in
-            λ j. takenStore (i * c) c (rectOf (was j)) (goal j) t
+            λ j. resizedStore (i * c) c (rectOf (was j)) (goal j) t
         by false e = refl
 
-        go : (b : Bool) → windowAt s i .used ≡ b → updateStore (group s) i (winAt (group s) i) t ≡ resizedOne c (f .areas) (m .takes) i (getD (m .areas) i noRect16) t
+        go : (b : Bool) → windowAt s i .used ≡ b → updateStore (group s) i (winAt (group s) i) t ≡ resizedOne c (f .areas) (m .resizes) i (getD (m .areas) i noRect16) t
         go true u =
             let (w, q) = in-use u in
-            ap (λ (o : Option Win). updateStore (group s) i o t) w ∙ ap (λ (b : Bool). ruled b t) (sym q) ∙ by (takes m i) refl
+            ap (λ (o : Option Win). updateStore (group s) i o t) w ∙ ap (λ (b : Bool). ruled b t) (sym q) ∙ by (resizes m i) refl
         go false u =
             let (w, q) = unused u in
             ap (λ (o : Option Win). updateStore (group s) i o t) w
-            ∙ ap (λ (b : Bool). cond b (takenStore (i * c) c (place (f .areas) i) (place (m .areas) i) t) t) (sym q)
+            ∙ ap (λ (b : Bool). cond b (resizedStore (i * c) c (place (f .areas) i) (place (m .areas) i) t) t) (sym q)
 
   pub fits-all : everyFits (group s) ≡ allFit c m
   unfolding allFit
@@ -202,9 +202,9 @@ module _ (s : Session) (h : Given s) (f : Frames) (framed : Framed s 16 f) (m : 
       every-same (updateFits (group s)) _ none noRect16 (group s .windows) (m .areas) 0 (sixteen ∙ sym (to .all))
       (λ j k e l. let q : k ≡ j = omega (arith, e) in rw q (fits-one j (omega (arith, l, sixteen))))
 
-  stores-all : (store : List ℕ) → updateStores (group s) 0 (group s .windows) store ≡ allResized c (f .areas) (m .takes) 0 (m .areas) store
+  stores-all : (store : List ℕ) → updateStores (group s) 0 (group s .windows) store ≡ allResized c (f .areas) (m .resizes) 0 (m .areas) store
   stores-all store =
-      stores-same (group s) c (f .areas) (m .takes) (group s .windows) (m .areas) 0 store (sixteen ∙ sym (to .all))
+      stores-same (group s) c (f .areas) (m .resizes) (group s .windows) (m .areas) 0 store (sixteen ∙ sym (to .all))
       (λ j k e l t. let q : k ≡ j = omega (arith, e) in rw q (store-one j (omega (arith, l, sixteen)) t))
 
   -- The ends
@@ -234,7 +234,7 @@ module _ (s : Session) (h : Given s) (f : Frames) (framed : Framed s 16 f) (m : 
 
     module _ {b : Bool} (e : b ≡ allFit c m) (y : b ≡ true) where
       -- the plan of an accepted call, whose turns are of the windows that go
-      pub plans : (after : List ℕ) → after ≡ allResized c (f .areas) (m .takes) 0 (m .areas) store
+      pub plans : (after : List ℕ) → after ≡ allResized c (f .areas) (m .resizes) 0 (m .areas) store
           → (t : DimsPlan) → Collects (StaysAt (f .areas) m) 16 (t .n) (t .what .order) × (t .answer ≡ 0) × (t .what .moves ≡ m) → Plans s store t after
       unfolding does Rule.updateDims
       plans after same t (o, a, k) =
@@ -266,6 +266,6 @@ module _ (s : Session) (h : Given s) (f : Frames) (framed : Framed s 16 f) (m : 
             subst (λ (a : Rect16). width (rectOf a) * height (rectOf a) ≤ c) (sym (framed .at i l))
             (subst (λ (w : Win). width (w .at) * height (w .at) ≤ c) (win-at s i u) (given-ok s h .fits i .area≤));
         gets = λ i l t.
-            let p : not (takes m i) || fits c (place (m .areas) i) ≡ true = sym (fits-one i l) ∙ fits-at (group s) (given-ok s h) i (fits-all ∙ sym e ∙ y) in
+            let p : not (resizes m i) || fits c (place (m .areas) i) ≡ true = sym (fits-one i l) ∙ fits-at (group s) (given-ok s h) i (fits-all ∙ sym e ∙ y) in
             leb-true _ c (subst (λ (b : Bool). not b || fits c (place (m .areas) i) ≡ true) t p);
       }

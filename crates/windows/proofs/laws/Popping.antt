@@ -15,7 +15,7 @@ use Rattle.window.specs.declared.slots.Slot.{Slot}
 use Rattle.window.specs.declared.queue.Queue as Held
 use Rattle.window.specs.declared.queue.Popped as Queue
 use Rattle.window.specs.Window.{Win, moveOf, cursorRead}
-use Rattle.window.specs.Held.{eventOf, place, winOf, RepCursor, RepWindow}
+use Rattle.window.specs.Represents.{eventOf, place, winOf, RepCursor, RepWindow}
 use Rattle.window.specs.inner.Changes.{PoppedFrom}
 use Rattle.window.proofs.laws.Events.{pops}
 use Rattle.rules.specs.Group.{used, win, setWin}
@@ -28,7 +28,7 @@ use Rattle.windows.specs.declared.inner.events.Front.{Front}
 use Rattle.windows.specs.declared.NextEvent as Next
 use Rattle.windows.specs.declared.NextEvent.the-variants as NextEvent
 use Rattle.windows.specs.View.{group, windowAt, Given, MeetsEvent}
-use Rattle.windows.specs.inner.One.{At, Holds, put}
+use Rattle.windows.specs.inner.One.{At, Holds, withWindow}
 use Rattle.windows.specs.inner.Aimed.{PopsAt, AtFront, popped}
 use Rattle.windows.proofs.laws.Session.{used-at, win-at, putWindow, refuses, puts}
 use Rattle.windows.proofs.laws.One.{stays, changes, asks-used}
@@ -110,14 +110,14 @@ module _ (id : ℕ) (w : Window) where
     first-at : (p : Queue.Popped) → PoppedFrom (w .queue) p
         → PopsAt id w (setQueue (p .queue) w) 0 (NextEvent.Event (p .event))
     first-at p is s at g a e =
-        changes (λ (r : Session) (i : ℕ) (v : Window) (k : Shared). Leaves id 0 (NextEvent.Event (p .event)) r (put i (setQueue (p .queue) v) k r)) low
+        changes (λ (r : Session) (i : ℕ) (v : Window) (k : Shared). Leaves id 0 (NextEvent.Event (p .event)) r (withWindow i (setQueue (p .queue) v) k r)) low
         (λ r h q _. pops-first r id h (rw q in-use) low p (rw q is)) s at (held s at g a e)
 
     move-at : w .queue .len ≤ 0 → w .cursor .«is_dirty» ≡ true → (o : Event) (p : CursorPos)
         → o ≡ moveOf (w .cursor) → p ≡ cursorRead (w .cursor) → RepCursor p
         → PopsAt id w (setCursor p w) 0 (NextEvent.Event o)
     move-at n d o p is read rep s at g a e =
-        changes (λ (r : Session) (i : ℕ) (v : Window) (k : Shared). Leaves id 0 (NextEvent.Event o) r (put i (setCursor p v) k r)) low
+        changes (λ (r : Session) (i : ℕ) (v : Window) (k : Shared). Leaves id 0 (NextEvent.Event o) r (withWindow i (setCursor p v) k r)) low
         (λ r h q _. pops-move r id h (rw q in-use) low (rw q n) (rw q d) o p (rw q is) (rw q read) rep) s at (held s at g a e)
 
     none-at : w .queue .len ≤ 0 → w .cursor .«is_dirty» ≡ false → PopsAt id w w 10 NextEvent.Absent

@@ -12,7 +12,7 @@ use lib.Seq.{drop-cons}
 use Rattle.window.specs.declared.Window.{Window}
 use Rattle.window.specs.declared.ids.WinId.{WinId}
 use Rattle.window.specs.Window.{Win}
-use Rattle.window.specs.Held.{RepWindow}
+use Rattle.window.specs.Represents.{RepWindow}
 use Rattle.window.specs.inner.Ids.{noId}
 use Rattle.rules.specs.Group.{win, setWin, settle}
 use Rattle.rules.specs.Visible.{rectsOf}
@@ -34,10 +34,10 @@ use Rattle.windows.specs.declared.Shared.{Shared}
 use Rattle.windows.specs.declared.inner.portion.Next.{Next}
 use Rattle.windows.specs.declared.inner.portion.Turn.{Turn}
 use Rattle.windows.specs.View.{walkOf, group, windowAt, Rep, Given, Meets, MeetsScreen, done}
-use Rattle.windows.specs.inner.One.{put}
+use Rattle.windows.specs.inner.One.{withWindow}
 use Rattle.windows.specs.inner.Drawing.{painted}
 use Rattle.windows.specs.inner.Frames.{Framed}
-use Rattle.windows.specs.inner.Walk.{noted, sharing, onward, wiped, cleanedIf, IsNext, Turns, OnTurn, Turned, TreatsAt}
+use Rattle.windows.specs.inner.Sharing.{noted, sharing, onward, wiped, cleanedIf, IsNext, Turns, OnTurn, Turned, TreatsAt}
 use Rattle.windows.proofs.laws.Session.{putWindow, put-group, put-rep, is-whole, isnt-whole, given-ok, refuses, gives}
 use Rattle.windows.proofs.laws.Shared.{settled-group, settled-rep}
 use Rattle.windows.proofs.laws.One.{put-back}
@@ -52,12 +52,12 @@ is-on : (v : Walk) → v .on ≡ true → walkOf v ≡ some (record { done = v .
 unfolding walkOf
 is-on v e = rw e
 
-pub begins : (s : Session) → Given s → (told : Bool)
-    → Meets (Begin told) s (done (sharing (noted (begun told (s .shared .due) (s .shared .shown)) (s .shared)) s) 0)
+pub begins : (s : Session) → Given s → (forced : Bool)
+    → Meets (Begin forced) s (done (sharing (noted (begun forced (s .shared .due) (s .shared .shown)) (s .shared)) s) 0)
 unfolding does Rule.begin group
-begins s h told =
-    let v = walkAt 0 true (told || s .shared .due .owed) in
-    gives (Begin told) s _ h (settled-rep s (h .rep) v (s .shared .due .owed)) refl
+begins s h forced =
+    let v = walkAt 0 true (forced || s .shared .due .owed) in
+    gives (Begin forced) s _ h (settled-rep s (h .rep) v (s .shared .due .owed)) refl
     (settled-group s (h .rep) v (s .shared .due .owed) ∙ ap (λ o. settle (s .shared .due .owed) o (group s)) (is-on v refl))
 
 module _ (s : Session) (h : Given s) (on : s .shared .due .walk .on ≡ true) where
@@ -103,7 +103,7 @@ module _ (s : Session) (h : Given s) (on : s .shared .due .walk .on ≡ true) wh
   cleaned false = let e = put-back s (v .0) {k = s .shared} refl refl in (ap group e, subst Rep (sym e) (h .rep))
 
   abbrev after : Session
-  after = put (v .0) (cleanedIf full w) (onward (s .shared)) s
+  after = withWindow (v .0) (cleanedIf full w) (onward (s .shared)) s
 
   after-group : group after ≡ settle (group s .owed) (Rule.further (group s .walk)) (cleanAll full (v .0 ∷ []) (group s))
   unfolding group
@@ -191,12 +191,12 @@ module _ (w : Window) (k : Shared) (x : Next) where
         → screen′ ≡ painting w k → TreatsAt call w k x (record { window = cleanedIf (k .due .walk .full) w; shared = onward k; answer = 0 }) screen′
     yes l f on screen′ e s at h =
         let o = on-in s (h .shared) on in
-        subst (λ (j : Shared). screen′ ≡ painting w j → MeetsScreen call s (done (put at (cleanedIf (j .due .walk .full) w) (onward j) s) 0) screen′) (h .shared)
-        (subst (λ (u : Window). screen′ ≡ painting u (s .shared) → MeetsScreen call s (done (put at (cleanedIf (s .shared .due .walk .full) u) (onward (s .shared)) s) 0) screen′)
+        subst (λ (j : Shared). screen′ ≡ painting w j → MeetsScreen call s (done (withWindow at (cleanedIf (j .due .walk .full) w) (onward j) s) 0) screen′) (h .shared)
+        (subst (λ (u : Window). screen′ ≡ painting u (s .shared) → MeetsScreen call s (done (withWindow at (cleanedIf (s .shared .due .walk .full) u) (onward (s .shared)) s) 0) screen′)
         (h .window)
         (subst
         (λ (i : ℕ). IsNext s i x → screen′ ≡ painting (windowAt s i) (s .shared)
-        → MeetsScreen call s (done (put i (cleanedIf (s .shared .due .walk .full) (windowAt s i)) (onward (s .shared)) s) 0) screen′)
+        → MeetsScreen call s (done (withWindow i (cleanedIf (s .shared .due .walk .full) (windowAt s i)) (onward (s .shared)) s) 0) screen′)
         (h .turns .next o .is) (λ n q. treats s (h .given) o sw sh store screen (whole-in s store (h .shared) l) f x n screen′ q) (h .turns .next o)))
         e
 

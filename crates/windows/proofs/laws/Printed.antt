@@ -9,7 +9,7 @@ use lib.Dec.{leb}
 use lib.ListN.{length, drop, length-map, length-drop}
 use Rattle.geom.specs.declared.Rect.{Rect}
 use Rattle.geom.specs.Rect16.{rectOf, Small}
-use Rattle.sheet.specs.declared.Count.{Count}
+use Rattle.geom.specs.declared.Listing.{Listing}
 use Rattle.sheet.specs.Sheet.{Sheet}
 use Rattle.sheet.specs.Bytes.{encode}
 use Rattle.sheet.specs.inner.Writer.{Writes}
@@ -30,7 +30,7 @@ use Rattle.windows.proofs.laws.Above.{higher}
 use Rattle.windows.proofs.laws.Listed.{in-use, id-low, behind}
 
 -- after question 3 the writer's answer is the rule's
-prints : (g : Group) (id : ℕ) (lent : List ℕ) (r : Count) (after : List ℕ) → used g id ≡ true → Writes (region g id) lent r after → Prints g id lent r after
+prints : (g : Group) (id : ℕ) (lent : List ℕ) (r : Listing) (after : List ℕ) → used g id ≡ true → Writes (region g id) lent r after → Prints g id lent r after
 unfolding sheet
 prints g id lent r after u w = go (leb (length (encode (region g id))) (length lent)) refl
   where
@@ -60,12 +60,12 @@ module _ (s : Session) (h : Given s) (id p : ℕ) (at : some p ≡ renderIdx id 
         let a : bs ≡ map (λ i. win (group s) i .at) (above id (group s .order)) = same ∙ ap (map (λ i. win (group s) i .at)) (sym (behind s h id p at)) in
         rw (is-shown s h id p at) (ap₂ seenUnder w a)
 
-    pub shown-prints : (lent : List ℕ) (c : Count) (after : List ℕ) → Writes (seenUnder r bs) lent c after → Prints (group s) id lent c after
+    pub shown-prints : (lent : List ℕ) (c : Listing) (after : List ℕ) → Writes (seenUnder r bs) lent c after → Prints (group s) id lent c after
     shown-prints lent c after w = prints (group s) id lent c after (in-use s h id p at) (subst (λ (z : Sheet). Writes z lent c after) region-is w)
 
 -- Any other window -----------------------------------------------------------------------------------------------------
 
-pub hidden-prints : (s : Session) (id : ℕ) (lent : List ℕ) (c : Count) (after : List ℕ) → Given s → windowAt s id .used ≡ true
+pub hidden-prints : (s : Session) (id : ℕ) (lent : List ℕ) (c : Listing) (after : List ℕ) → Given s → windowAt s id .used ≡ true
     → none ≡ renderIdx id (ids (s .shared .shown) (s .shared .order)) → Writes [] lent c after → Prints (group s) id lent c after
 unfolding region
 hidden-prints s id lent c after h u e w =

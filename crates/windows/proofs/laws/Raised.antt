@@ -10,7 +10,7 @@ use lib.ListN.{getD}
 use Rattle.window.specs.declared.Window.{Window}
 use Rattle.window.specs.declared.ids.WinId.{WinId}
 use Rattle.window.specs.Window.{Win}
-use Rattle.window.specs.Held.{winOf}
+use Rattle.window.specs.Represents.{winOf}
 use Rattle.rules.specs.Group.{Outcome, used, setWin, withOrder, owing}
 use Rattle.rules.specs.Order.{lower, shown}
 use Rattle.rules.specs.Walk as Walk
@@ -24,9 +24,9 @@ use Rattle.windows.specs.declared.Shared.{Shared}
 use Rattle.windows.specs.declared.Session.{Session}
 use Rattle.windows.specs.declared.Done.{Done}
 use Rattle.windows.specs.View.{walkOf, group, windowAt, Rep, Given, Meets, done}
-use Rattle.windows.specs.inner.One.{Holds, put}
+use Rattle.windows.specs.inner.One.{Holds, withWindow}
 use Rattle.windows.specs.inner.Pixels.{Becomes}
-use Rattle.windows.specs.inner.Walk.{ordered, sharing, indebted}
+use Rattle.windows.specs.inner.Sharing.{ordered, sharing, indebted}
 use Rattle.windows.proofs.laws.Session.{used-at, win-at, putWindow, put-group, put-rep, given-ok, gives}
 use Rattle.windows.proofs.laws.Shared.{debt-shared}
 use Rattle.windows.proofs.laws.One.{asks-used, same-place}
@@ -122,7 +122,7 @@ module _ (s : Session) (h : Given s) (v : WinId) (u : windowAt s (v .0) .used �
         (debt-shared .group moved moved-rep ∙ ap owing moved-group ∙ sym (raised-owing (group s) (v .0) seen changes (pending-is s ∙ t)))
 
     pub repairs : isPending (s .shared) ≡ false → (r : Window) → Becomes (windowAt s (v .0)) (whollyRepaired (winOf (windowAt s (v .0)))) r
-        → Meets (Raise (v .0)) s (done (put (v .0) r (moved .shared) s) 0)
+        → Meets (Raise (v .0)) s (done (withWindow (v .0) r (moved .shared) s) 0)
     repairs n r b =
         raises (putWindow (v .0) r moved) (put-rep moved (v .0) r moved-rep (b .rep))
         (put-group moved (v .0) r (b .used ∙ u)

@@ -11,7 +11,7 @@ use borrow.Author.Tests.{eq-eqb, ne-eqb}
 use Rattle.geom.proofs.basics.Lists.{map-set, set-case}
 use Rattle.window.specs.declared.Window.{Window}
 use Rattle.window.specs.Window.{Win}
-use Rattle.window.specs.Held.{winOf, RepWindow}
+use Rattle.window.specs.Represents.{winOf, RepWindow}
 use Rattle.rules.specs.Group.{Group, used, win, winAt, theWin, someWin, withWindows, setWin}
 use Rattle.rules.specs.Store.{whole}
 use Rattle.rules.specs.Calls.{Call, does, after}

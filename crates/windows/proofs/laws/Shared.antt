@@ -14,7 +14,7 @@ use Rattle.order.proofs.laws.Order.{ids-length}
 use Rattle.windows.specs.declared.Shared.{Shared}
 use Rattle.windows.specs.declared.Session.{Session}
 use Rattle.windows.specs.View.{walkOf, group, Rep}
-use Rattle.windows.specs.inner.Walk.{noted, layering, flagged, sharing, indebted}
+use Rattle.windows.specs.inner.Sharing.{noted, layering, withMaximised, sharing, indebted}
 
 -- where what the windows share changes by K, the group changes by G
 pub record Shares (K : Shared → Shared) (G : Group → Group) : Type 0 where
@@ -30,7 +30,7 @@ unfolding group
 layers-shared ls = record { group = λ s r. refl; rep = λ s r. record { windows = r .windows; order = r .order; shown = r .shown; each = r .each; displays = r .displays } }
 
 -- a window's flag is another
-pub flag-shared : (id : ℕ) (on : Bool) → Shares (flagged id on) (setMaximised id on)
+pub flag-shared : (id : ℕ) (on : Bool) → Shares (withMaximised id on) (setMaximised id on)
 unfolding group
 flag-shared id on = record { group = λ s r. refl; rep = λ s r. record { windows = r .windows; order = r .order; shown = r .shown; each = r .each; displays = r .displays } }
 
@@ -86,5 +86,5 @@ debt-shared = record {
 }
 
 -- the flag and the debt
-pub flag-debt : (id : ℕ) (on : Bool) → Shares (λ k. indebted (flagged id on k)) (λ g. owing (setMaximised id on g))
+pub flag-debt : (id : ℕ) (on : Bool) → Shares (λ k. indebted (withMaximised id on k)) (λ g. owing (setMaximised id on g))
 flag-debt id on = then-shared (flag-shared id on) debt-shared

@@ -16,7 +16,7 @@ use Rattle.windows.specs.View.{group, windowAt, Rep, Given, Meets, done}
 use Rattle.order.specs.Ids.{ids}
 use Rattle.order.specs.inner.Order.{renderIdx}
 use Rattle.order.specs.inner.Layers.{Inserted}
-use Rattle.windows.specs.inner.Walk.{ordered, sharing, indebted}
+use Rattle.windows.specs.inner.Sharing.{ordered, sharing, indebted}
 use Rattle.windows.proofs.laws.Shared.{debt-shared}
 use Rattle.windows.proofs.laws.Session.{used-at, given-ok, refuses, gives}
 use Rattle.windows.proofs.laws.Places.{order-length, isnt-shown}

@@ -21,7 +21,7 @@ use Rattle.scanline.proofs.rows.Altered.{altered-same}
 use Rattle.window.specs.declared.Window.{Window}
 use Rattle.window.specs.declared.damage.Damage.{Damage}
 use Rattle.window.specs.Window.{Win}
-use Rattle.window.specs.Held.{winOf, RepDamage, RepWindow}
+use Rattle.window.specs.Represents.{winOf, RepDamage, RepWindow}
 use Rattle.rules.specs.Group.{Group, used, win, winAt, theWin, someWin, withWindows, setWin}
 use Rattle.rules.specs.Store.{whole}
 use Rattle.rules.specs.Calls.{Call, does, accepted}
@@ -32,13 +32,13 @@ use Rattle.rules.proofs.group.Invariant.{WinOk}
 use Rattle.windows.specs.declared.Shared.{Shared}
 use Rattle.windows.specs.declared.Session.{Session}
 use Rattle.windows.specs.declared.inner.store.Painted.{Painted}
-use Rattle.windows.specs.View.{group, windowAt, holding, ruled, Given, MeetsStore, MeetsAltered, done, written}
-use Rattle.windows.specs.inner.One.{Holds, Held, HeldAs, put, MeetsStoreAt, MeetsAlteredAt, MeetsAlteredAs}
+use Rattle.windows.specs.View.{group, windowAt, grabbing, ruled, Given, MeetsStore, MeetsAltered, done, written}
+use Rattle.windows.specs.inner.One.{Holds, Held, HeldAs, withWindow, MeetsStoreAt, MeetsAlteredAt, MeetsAlteredAs}
 use Rattle.windows.specs.inner.Pixels.{Becomes, RowsIn, PaintsAs, setDamage}
 use Rattle.windows.proofs.laws.Session.{used-at, win-at, putWindow, put-group, put-rep, given-ok, refuses, gives}
 use Rattle.windows.proofs.laws.Shared.{Shares, same-shared}
 use Rattle.windows.proofs.laws.One.{fields, by-fields, sized, by-c, stays, changes, rewrites, asks-used}
-use Rattle.windows.proofs.laws.Pixels.{is-holding}
+use Rattle.windows.proofs.laws.Pixels.{is-grabbing}
 
 -- Question 5 ---------------------------------------------------------------------------------------------------------
 
@@ -93,14 +93,14 @@ module _ {call : Call} {id : ℕ} {store : List ℕ} {rest : ℕ → List Questi
   -- an accepted one
   puts-store : {K : Shared → Shared} → Shares K G → (r : Window) (t : List ℕ) (s : Session) → Given s → windowAt s id .used ≡ true
       → does (group s) call .answer ≡ 0 → Becomes (windowAt s id) (f (winOf (windowAt s id))) r × (t ≡ F (s .shared .c) (winOf (windowAt s id)))
-      → MeetsStore call s (done (put id r (K (s .shared)) s) 0) t
+      → MeetsStore call s (done (withWindow id r (K (s .shared)) s) 0) t
   unfolding group
   puts-store {K} shares r t s h u z b =
       let y : accepted (group s) call ≡ true = ap (λ (n : ℕ). eqb n 0) z in
       let v : winOf (windowAt s id) ≡ win (group s) id = sym (win-at s id u) in
       record {
         meets =
-            gives call s (put id r (K (s .shared)) s) h (shares .rep (putWindow id r s) (put-rep s id r (h .rep) (b .0 .rep))) z
+            gives call s (withWindow id r (K (s .shared)) s) h (shares .rep (putWindow id r s) (put-rep s id r (h .rep) (b .0 .rep))) z
             (shares .group (putWindow id r s) (put-rep s id r (h .rep) (b .0 .rep))
             ∙ ap G (put-group s id r (b .0 .used ∙ u) ∙ ap (λ (x : Win). setWin id (some x) (group s)) (b .0 .is ∙ ap f v))
             ∙ sym (rule .after (group s) (used-at s id ∙ u) ∙ rw y));
@@ -145,7 +145,7 @@ module _ {call : Call} {id : ℕ} {store : List ℕ} {rest : ℕ → List Questi
       yes {K} shares r t e b s at h =
           changes
           (λ (s : Session) (at : ℕ) (w : Window) (k : Shared). w .used ≡ true → does (group s) call .answer ≡ 0
-          → Becomes w (f (winOf w)) r × (t ≡ F (k .c) (winOf w)) → MeetsStore call s (done (put at r (K k) s) 0) t)
+          → Becomes w (f (winOf w)) r × (t ≡ F (k .c) (winOf w)) → MeetsStore call s (done (withWindow at r (K k) s) 0) t)
           (o .low) (λ s g _ _. puts-store shares r t s g) s at h (o .used) (answers s at h ∙ rest-asked o ∙ e) b
 
 -- Pixels altered -----------------------------------------------------------------------------------------------------
@@ -161,7 +161,7 @@ module _ {id : ℕ} (u : Write) {w : Window} {k : Shared} {store : List ℕ} (c 
 
   -- of an accepted one: its window becomes what the rule says, and all else stays
   pub accepted-one : {d : Damage} {t : List ℕ} {n : ℕ} → Writable id (w .used) (k .c) store
-      → setDamage d w ≡ holding (ruled u (winOf w)) w
+      → setDamage d w ≡ grabbing (ruled u (winOf w)) w
       → MeetsStoreAt (callOf id u store) id w k (record { window = setDamage d w; shared = k; answer = 0 }) t
       → n ≡ altered store t → MeetsAlteredAt id u store w k (record { damage = d; result = record { answer = 0; altered = n } }) t
   accepted-one o v meets e s at h =
@@ -251,9 +251,9 @@ module _ {id : ℕ} (u : Write) {store : List ℕ} (n : Counts (callOf id u stor
       let v = fields b a d w in
       let p = paints v (subst RepWindow (h .window) (h .given .rep .each at (h .place .inside))) refl refl in
       subst (λ (x : ℕ). MeetsAltered id u store s
-      (written (put at (setDamage (r .damage) v) (sized c k) s) (record { answer = x; altered = r .result .altered })) t)
+      (written (withWindow at (setDamage (r .damage) v) (sized c k) s) (record { answer = x; altered = r .result .altered })) t)
       (sym (p .answer))
-      (accepted-one u n o (is-holding (p .window) (p .past))
+      (accepted-one u n o (is-grabbing (p .window) (p .past))
       (yes rule o same-shared _ _ e (p .window, p .counted .pixels)) (p .counted .altered) s at h))
 
 -- A window put back --------------------------------------------------------------------------------------------------

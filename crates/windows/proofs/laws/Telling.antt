@@ -23,22 +23,22 @@ use Rattle.window.specs.declared.slots.Slot.{Slot}
 use Rattle.window.specs.declared.queue.Queue.{Queue}
 use Rattle.window.specs.declared.ids.WinId.{WinId}
 use Rattle.window.specs.Window.{Win, pushed, cursorTo}
-use Rattle.window.specs.Held.{place, noSlot, winOf, events, RepCursor, RepWindow}
+use Rattle.window.specs.Represents.{place, noSlot, winOf, events, RepCursor, RepWindow}
 use Rattle.window.specs.inner.Changes.{Queued, slotOf, PushedTo}
 use Rattle.window.proofs.Event.{the-type}
 use Rattle.window.proofs.laws.Events.{events-count}
 use Rattle.window.proofs.laws.Events as Queue
-use Rattle.rules.specs.Group.{Group, Outcome, win, setWin, withHeld, leaves}
+use Rattle.rules.specs.Group.{Group, Outcome, win, setWin, withGrab, leaves}
 use Rattle.rules.specs.Events.{withQueue, withCursor}
 use Rattle.rules.specs.Calls.{Call, does}
-use Rattle.order.specs.Ids.{heldOf}
+use Rattle.order.specs.Ids.{grabOf}
 use Rattle.windows.specs.declared.Shared.{Shared}
 use Rattle.windows.specs.declared.Session.{Session}
 use Rattle.windows.specs.declared.inner.events.Told.{Told}
 use Rattle.windows.specs.declared.inner.events.Message.{Message}
 use Rattle.windows.specs.View.{group, blank, windowAt, Rep, Given, Meets, done}
-use Rattle.windows.specs.inner.One.{put}
-use Rattle.windows.specs.inner.Walk.{holding}
+use Rattle.windows.specs.inner.One.{withWindow}
+use Rattle.windows.specs.inner.Sharing.{grabbing}
 use Rattle.windows.specs.inner.Events.{moveOr, Tellable, takes, told, ToldTo}
 use Rattle.windows.specs.inner.Aimed.{remembered, Heard, AtBack, toldBack}
 use Rattle.windows.proofs.laws.Session.{win-at, put-group, put-rep, putWindow, refuses, gives}
@@ -118,11 +118,11 @@ module _ (w : Window) (r : RepWindow w) (e : Event) where
 module _ {o : Slot} {p : CursorPos} {n : ℕ} {h : WinId} {w : Window} {k : Shared} (m : Message)
     (b : AtBack o p n h w k) where
   abbrev HeardAs : Told → Type 0
-  HeardAs r = Heard w k m (record { window = toldBack r w; shared = holding (r .held) k; answer = r .answer })
+  HeardAs r = Heard w k m (record { window = toldBack r w; shared = grabbing (r .grab) k; answer = r .answer })
 
   -- nothing joins the queue
   abbrev as-was : CursorPos → WinId → ℕ → Told
-  as-was q g a = record { slot = o; cursor = q; len = n; held = g; answer = a }
+  as-was q g a = record { slot = o; cursor = q; len = n; grab = g; answer = a }
 
   -- the slot and the length are written back as they were
   same-queue : (q : CursorPos) (g : WinId) (a : ℕ) → toldBack (as-was q g a) w ≡ setCursor q w
@@ -143,43 +143,43 @@ module _ {o : Slot} {p : CursorPos} {n : ℕ} {h : WinId} {w : Window} {k : Shar
   same : (a : ℕ) → toldBack (as-was p h a) w ≡ w
   same a = same-queue p h a ∙ ap (λ (q : CursorPos). setCursor q w) (sym (b .cursor))
 
-  same-held : holding h k ≡ k
-  same-held = ap (λ (g : WinId). holding g k) (sym (b .held))
+  same-grab : grabbing h k ≡ k
+  same-grab = ap (λ (g : WinId). grabbing g k) (sym (b .grab))
 
   -- it is not told
   pub unheard : m .told ≡ false → HeardAs (as-was p h (m .answer))
   unheard f =
       record {
         told = λ t. clash t f;
-        kept = λ _ i. record { window = same (m .answer) i; shared = same-held i; answer = m .answer };
+        kept = λ _ i. record { window = same (m .answer) i; shared = same-grab i; answer = m .answer };
         shared = λ t. clash t f;
       }
 
   module _ (t : m .told ≡ true) where
     hears : (r : Told) {v : Window} → toldBack r w ≡ v → ToldTo w (m .event) v (r .answer)
-        → holding (r .held) k ≡ remembered (r .answer) (m .held) k → HeardAs r
-    hears r same-as to held =
+        → grabbing (r .grab) k ≡ remembered (r .answer) (m .grab) k → HeardAs r
+    hears r same-as to grab =
         record {
           told = λ _. subst (λ (v : Window). ToldTo w (m .event) v (r .answer)) (sym same-as) to;
           kept = λ f. clash t f;
-          shared = λ _. held;
+          shared = λ _. grab;
         }
 
     pub heard-move : {x y : ℕ} {dx dy : ℤ} → m .event ≡ MouseMove x y dx dy
-        → (q : CursorPos) → q ≡ cursorTo p x y → RepCursor q → HeardAs (as-was q (m .held) 0)
+        → (q : CursorPos) → q ≡ cursorTo p x y → RepCursor q → HeardAs (as-was q (m .grab) 0)
     heard-move {x} {y} e q to r =
         let own : q ≡ cursorTo (w .cursor) x y = to ∙ ap (λ (c : CursorPos). cursorTo c x y) (sym (b .cursor)) in
-        hears (as-was q (m .held) 0) (same-queue q (m .held) 0) (moves w (b .rep) (m .event) e q own r) refl
+        hears (as-was q (m .grab) 0) (same-queue q (m .grab) 0) (moves w (b .rep) (m .event) e q own r) refl
 
     module _ (other : Other (m .event)) where
       pub heard-joins : Tellable (m .event) → n < 16 → (s : Slot) → s ≡ slotOf (m .event)
-          → HeardAs (record { slot = s; cursor = p; len = n + 1; held = m .held; answer = 0 })
+          → HeardAs (record { slot = s; cursor = p; len = n + 1; grab = m .grab; answer = 0 })
       heard-joins able l s e =
           let at = place (w .queue .head) (w .queue .len) in
           let longer : Queue =
           record { slots = set (w .queue .slots) at s; head = w .queue .head; len = w .queue .len + 1 } in
           let free : w .queue .len < 16 = omega (arith, b .len) in
-          hears (record { slot = s; cursor = p; len = n + 1; held = m .held; answer = 0 })
+          hears (record { slot = s; cursor = p; len = n + 1; grab = m .grab; answer = 0 })
           (λ i.
           record {
             queue = record { slots = set (w .queue .slots) at s; head = w .queue .head; len = sym (b .len) i + 1 };
@@ -194,43 +194,43 @@ module _ {o : Slot} {p : CursorPos} {n : ℕ} {h : WinId} {w : Window} {k : Shar
 
       pub heard-full : 16 ≤ n → HeardAs (as-was p h 12)
       heard-full l =
-          hears (as-was p h 12) (same 12) (dropped w (b .rep) (m .event) other (omega (arith, b .len))) same-held
+          hears (as-was p h 12) (same 12) (dropped w (b .rep) (m .event) other (omega (arith, b .len))) same-grab
 
 -- The window of a session --------------------------------------------------------------------------------------------
 
 -- a window put back, and another one remembered
-held-group : (s : Session) (id : ℕ) (v : Window) (m : WinId) → v .used ≡ true
-    → group (put id v (holding m (s .shared)) s) ≡ withHeld (heldOf m) (setWin id (some (winOf v)) (group s))
+grab-group : (s : Session) (id : ℕ) (v : Window) (m : WinId) → v .used ≡ true
+    → group (withWindow id v (grabbing m (s .shared)) s) ≡ withGrab (grabOf m) (setWin id (some (winOf v)) (group s))
 unfolding group
-held-group s id v m u = ap (λ (g : Group). withHeld (heldOf m) g) (put-group s id v u)
+grab-group s id v m u = ap (λ (g : Group). withGrab (grabOf m) g) (put-group s id v u)
 
-held-rep : (s : Session) (id : ℕ) (v : Window) (m : WinId) → Rep s → RepWindow v → Rep (put id v (holding m (s .shared)) s)
-held-rep s id v m r h =
+grab-rep : (s : Session) (id : ℕ) (v : Window) (m : WinId) → Rep s → RepWindow v → Rep (withWindow id v (grabbing m (s .shared)) s)
+grab-rep s id v m r h =
     let q = put-rep s id v r h in
     record { windows = q .windows; order = q .order; shown = q .shown; each = q .each; displays = q .displays }
 
 -- a call whose last question is 12, and which tells one window; `held` is remembered then, which m stands for
 module _ (k : Call) (s : Session) (id : ℕ) (e : Event) (v : Window) (n : ℕ) (h : Given s)
     (u : windowAt s id .used ≡ true) (to : ToldTo (windowAt s id) e v n)
-    (m : WinId) (held : Option ℕ) (stands : heldOf m ≡ held)
-    (qs : List Question) (d : does (group s) k ≡ leaves qs (group s) (withHeld held (setWin id (some (told (win (group s) id) e)) (group s))))
+    (m : WinId) (grab : Option ℕ) (stands : grabOf m ≡ grab)
+    (qs : List Question) (d : does (group s) k ≡ leaves qs (group s) (withGrab grab (setWin id (some (told (win (group s) id) e)) (group s))))
     (a : asked qs ≡ asked ((12 is takes (win (group s) id) e) ∷ [])) where
   answers : asked qs ≡ n
   answers = a ∙ ap (λ (w : Win). asked ((12 is takes w e) ∷ [])) (win-at s id u) ∙ sym (to .answer)
 
   -- what the call leaves, by its answer
   abbrev Left : ℕ → Type 0
-  Left j = Meets k s (done (put id v (remembered j m (s .shared)) s) j)
+  Left j = Meets k s (done (withWindow id v (remembered j m (s .shared)) s) j)
 
   tells-yes : n ≡ 0 → Left 0
   tells-yes z =
-      gives k s _ h (held-rep s id v m (h .rep) (to .rep)) (ap (λ (o : Outcome). o .answer) d ∙ answers ∙ z)
-      (held-group s id v m (to .used ∙ u)
-      ∙ (λ i. withHeld (stands i) (setWin id (some ((to .becomes ∙ ap (λ (w : Win). told w e) (sym (win-at s id u))) i)) (group s)))
+      gives k s _ h (grab-rep s id v m (h .rep) (to .rep)) (ap (λ (o : Outcome). o .answer) d ∙ answers ∙ z)
+      (grab-group s id v m (to .used ∙ u)
+      ∙ (λ i. withGrab (stands i) (setWin id (some ((to .becomes ∙ ap (λ (w : Win). told w e) (sym (win-at s id u))) i)) (group s)))
       ∙ sym
       (ap (λ (o : Outcome). o .group) d
       ∙ ap
-      (λ (j : ℕ). cond (eqb j 0) (withHeld held (setWin id (some (told (win (group s) id) e)) (group s))) (group s))
+      (λ (j : ℕ). cond (eqb j 0) (withGrab grab (setWin id (some (told (win (group s) id) e)) (group s))) (group s))
       (answers ∙ z)))
 
   tells-no : (j : ℕ) → n ≡ suc j → Left (suc j)

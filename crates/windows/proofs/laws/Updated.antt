@@ -16,23 +16,23 @@ use Rattle.geom.specs.Rect16.{rectOf}
 use Rattle.geom.proofs.basics.Lists.{set-in}
 use Rattle.window.specs.declared.Window.{Window}
 use Rattle.window.specs.Window.{Win}
-use Rattle.window.specs.Held.{winOf, RepWindow}
+use Rattle.window.specs.Represents.{winOf, RepWindow}
 use Rattle.window.specs.inner.Ids.{noId}
 use Rattle.rules.specs.Group.{winAt, isMaximised, withWindows, owing}
 use Rattle.rules.specs.Displays as Rule
 use Rattle.rules.specs.Displays.{withAt, updatedAt, updatedWin, allUpdated}
 use Rattle.rules.specs.Calls.{UpdateDims, does}
 use Rattle.rules.proofs.group.Displays.{length-each, window-at}
-use Rattle.display.specs.declared.dims.Moves.{Moves}
-use Rattle.display.specs.Held.{regions}
-use Rattle.display.specs.inner.Dims.{place, takes}
+use Rattle.display.specs.declared.update.Moves.{Moves}
+use Rattle.display.specs.Represents.{regions}
+use Rattle.display.specs.inner.Update.{place, resizes}
 use Rattle.windows.specs.declared.Shared.{Shared}
 use Rattle.windows.specs.declared.Session.{Session}
 use Rattle.windows.specs.declared.inner.update.DimsPlan.{DimsPlan}
 use Rattle.windows.specs.View.{cell, group, blank, windowAt, done, Rep, Given, Meets, MeetsStore}
-use Rattle.windows.specs.inner.One.{put}
-use Rattle.windows.specs.inner.Walk.{indebted, sharing}
-use Rattle.windows.specs.inner.Dims.{goes, MovesOf, Stays, Collects, Plans, Movable, Moved}
+use Rattle.windows.specs.inner.One.{withWindow}
+use Rattle.windows.specs.inner.Sharing.{indebted, sharing}
+use Rattle.windows.specs.inner.Maximise.{goes, MovesOf, Stays, Collects, Plans, Movable, Moved}
 use Rattle.windows.proofs.laws.Session.{cell-at, is-cell, no-cell, put-rep, given-ok, refuses, gives}
 use Rattle.windows.proofs.laws.Shared.{debt-shared}
 
@@ -59,9 +59,9 @@ module _ (s : Session) (h : Given s) (m : Moves) (to : MovesOf s m) (t : Session
 
       go : (u : Bool) → windowAt s i .used ≡ u → cell (windowAt t i) ≡ updatedWin (group s) i (winAt (group s) i)
       go true u =
-          let flag : takes m i ≡ isMaximised (group s) i = to i l .flag ∙ rw u refl in
+          let flag : resizes m i ≡ isMaximised (group s) i = to i l .flag ∙ rw u refl in
           is-cell (windowAt t i) (b .used ∙ u)
-          ∙ ap some (b .is ∙ ap (λ (r : Rect). goes (takes m i) r (winOf (windowAt s i))) (to i l .at)
+          ∙ ap some (b .is ∙ ap (λ (r : Rect). goes (resizes m i) r (winOf (windowAt s i))) (to i l .at)
           ∙ ap (λ (f : Bool). goes f (updatedAt (regions (s .displays)) f (rectOf (windowAt s i .at))) (winOf (windowAt s i))) flag)
           ∙ sym (ap (updatedWin (group s) i) (cell-at s i ∙ is-cell (windowAt s i) u))
       go false u = no-cell (windowAt t i) (b .used ∙ u) ∙ sym (ap (updatedWin (group s) i) (cell-at s i ∙ no-cell (windowAt s i) u))
@@ -156,7 +156,7 @@ module _ {first : Session} {before : List ℕ} {t : DimsPlan} {after : List ℕ}
       earlier : (q j : ℕ) → q < p + 1 → number q ≡ j → (j ≡ at → ⊥) → q < p
       earlier q j k e z = let d : q ≡ p → ⊥ = λ x. z (sym e ∙ ap number x ∙ sym found) in omega (arith, k, d)
 
-      pub goes-on : (w : Window) → Moved (windowAt s at) (t .what .moves) at w → Updating first before t after (p + 1) (put at w (s .shared) s)
+      pub goes-on : (w : Window) → Moved (windowAt s at) (t .what .moves) at w → Updating first before t after (p + 1) (withWindow at w (s .shared) s)
       goes-on w b =
           let room : at < length (s .windows) = omega (arith, inside, u .rep .windows) in
           let mine : Moved (windowAt first at) m at w = subst (λ (v : Window). Moved v m at w) window-same b in

@@ -11,7 +11,7 @@ use Rattle.window.specs.declared.CursorPos.{CursorPos}
 use Rattle.window.specs.declared.slots.Slot.{Slot}
 use Rattle.window.specs.declared.Window.{Window}
 use Rattle.window.specs.declared.ids.WinId.{WinId}
-use Rattle.window.specs.Held.{place, noSlot, RepWindow}
+use Rattle.window.specs.Represents.{place, noSlot, RepWindow}
 use Rattle.rules.specs.Calls.{Pop}
 use Rattle.topmost.specs.inner.Topmost.{nobody}
 use Rattle.windows.specs.declared.Session.{Session}
@@ -24,41 +24,41 @@ use Rattle.windows.specs.declared.inner.events.Aim.{Aim}
 use Rattle.windows.specs.declared.inner.events.Message.{Message}
 use Rattle.windows.specs.declared.inner.events.Front.{Front}
 use Rattle.windows.specs.View.{windowAt, Given, MeetsEvent, done}
-use Rattle.windows.specs.inner.One.{At, put}
-use Rattle.windows.specs.inner.Walk.{holding}
+use Rattle.windows.specs.inner.One.{At, withWindow}
+use Rattle.windows.specs.inner.Sharing.{grabbing}
 use Rattle.windows.specs.inner.Events.{Tellable, ToldTo}
 
 -- no window is told, and this is the answer
 abbrev pub toNobody : ℕ → Aim
-toNobody answer = record { at = 0; what = record { told = false; held = nobody; answer = answer; event = Resize } }
+toNobody answer = record { at = 0; what = record { told = false; grab = nobody; answer = answer; event = Resize } }
 
 -- the window at this place is told, and this one is remembered once it took the event
 abbrev pub toWindow : ℕ → Event → WinId → Aim
-toWindow at e held = record { at = at; what = record { told = true; held = held; answer = 0; event = e } }
+toWindow at e grab = record { at = at; what = record { told = true; grab = grab; answer = 0; event = e } }
 
 -- another window is remembered, if the answer is 0; a refused call leaves this too
 abbrev pub remembered : ℕ → WinId → Shared → Shared
-remembered answer held k = cond (eqb answer 0) (holding held k) k
+remembered answer grab k = cond (eqb answer 0) (grabbing grab k) k
 
 -- a window was told, or is as it was
 pub record Heard (w : Window) (k : Shared) (m : Message) (r : Changed) : Type 0 where
   pub told : m .told ≡ true → ToldTo w (m .event) (r .window) (r .answer)
   pub kept : m .told ≡ false → r ≡ record { window = w; shared = k; answer = m .answer }
-  pub shared : m .told ≡ true → r .shared ≡ remembered (r .answer) (m .held) k
+  pub shared : m .told ≡ true → r .shared ≡ remembered (r .answer) (m .grab) k
 
 -- Q holds of the session in which the window at that place was told, with what is then remembered, and of the session itself if no window is told
 pub record Aims (Q : Done → Type 0) (s : Session) (r : Aim) : Type 0 where
   pub inside : r .at < 16
   pub able : r .what .told ≡ true → Tellable (r .what .event)
   pub told : r .what .told ≡ true → (v : Window) (n : ℕ) → ToldTo (windowAt s (r .at)) (r .what .event) v n
-      → Q (done (put (r .at) v (remembered n (r .what .held) (s .shared)) s) n)
+      → Q (done (withWindow (r .at) v (remembered n (r .what .grab) (s .shared)) s) n)
   pub kept : r .what .told ≡ false → Q (done s (r .what .answer))
 
 -- every session that holds the window w, with v put in its place, is the session that a pop promises
 abbrev pub PopsAt : ℕ → Window → Window → ℕ → NextEvent → Type 0
 PopsAt id w v answer event =
     (s : Session) (at : ℕ) → Given s → At id at → windowAt s at ≡ w
-    → MeetsEvent (Pop id) s (record { session = put at v (s .shared) s; answer = answer; event = event })
+    → MeetsEvent (Pop id) s (record { session = withWindow at v (s .shared) s; answer = answer; event = event })
 
 -- A window by its fields ---------------------------------------------------------------------------------------------
 
@@ -68,7 +68,7 @@ pub record AtBack (o : Slot) (p : CursorPos) (n : ℕ) (h : WinId) (w : Window) 
   pub cursor : w .cursor ≡ p
   pub len : w .queue .len ≡ n
   pub old : getD (w .queue .slots) (place (w .queue .head) (w .queue .len)) noSlot ≡ o
-  pub held : k .held ≡ h
+  pub grab : k .grab ≡ h
 
 -- a window with the slot at the back, the number of events and the cursor that a message leaves
 abbrev pub toldBack : Told → Window → Window
@@ -89,9 +89,9 @@ toldBack d w =
 
 -- every window with these fields was told, or is as it was
 abbrev pub Hears : Slot → CursorPos → ℕ → WinId → Message → Told → Type 0
-Hears old cursor len held m r =
-    (w : Window) (k : Shared) → AtBack old cursor len held w k
-    → Heard w k m (record { window = toldBack r w; shared = holding (r .held) k; answer = r .answer })
+Hears old cursor len grab m r =
+    (w : Window) (k : Shared) → AtBack old cursor len grab w k
+    → Heard w k m (record { window = toldBack r w; shared = grabbing (r .grab) k; answer = r .answer })
 
 -- the window w is in use or not, has cursor p and n events from place i on, and the slot there is o
 pub record AtFront (u : Bool) (p : CursorPos) (i n : ℕ) (o : Slot) (w : Window) : Type 0 where

@@ -13,7 +13,7 @@ use Rattle.geom.specs.Rect16.{Small, rectOf}
 use Rattle.window.specs.declared.Window.{Window}
 use Rattle.window.specs.declared.ids.WinId.{WinId}
 use Rattle.window.specs.Window.{Win}
-use Rattle.window.specs.Held.{RepWindow}
+use Rattle.window.specs.Represents.{RepWindow}
 use Rattle.rules.specs.Group.{win, movedTo}
 use Rattle.rules.specs.Order.{isIn, shown}
 use Rattle.rules.specs.Repair.{pending, repairedIn, whollyRepaired}
@@ -27,7 +27,7 @@ use Rattle.windows.specs.declared.inner.drag.Turns.{Turns}
 use Rattle.windows.specs.declared.inner.drag.Dragging.{Dragging}
 use Rattle.windows.specs.declared.inner.drag.DragPlan.{DragPlan}
 use Rattle.windows.specs.View.{group, windowAt}
-use Rattle.windows.specs.inner.Walk.{flagging, indebted}
+use Rattle.windows.specs.inner.Sharing.{withFlags, indebted}
 
 -- Whose turns there are -----------------------------------------------------------------------------------------------
 
@@ -103,7 +103,7 @@ pub record OnTurn (w : Window) (d : Dragging) : Type 0 where
 -- What the windows share ----------------------------------------------------------------------------------------------
 
 abbrev pub settled : Dragging → Shared → Shared
-settled d k = cond (d .owes) (indebted (flagging (d .maximised) k)) (flagging (d .maximised) k)
+settled d k = cond (d .owes) (indebted (withFlags (d .maximised) k)) (withFlags (d .maximised) k)
 
 -- by the answer
 abbrev pub settledBy : Dragging → ℕ → Shared → Shared

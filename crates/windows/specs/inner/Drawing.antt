@@ -8,7 +8,7 @@ use Rattle.geom.specs.declared.Rect.{Rect}
 use Rattle.geom.specs.Lists.{outsideAll, relative, listIntersect}
 use Rattle.geom.specs.Rect16.{rectOf}
 use Rattle.window.specs.declared.Window.{Window}
-use Rattle.window.specs.Held.{rects}
+use Rattle.window.specs.Represents.{rects}
 use Rattle.window.specs.inner.Ids.{noId}
 use Rattle.rules.specs.Redraw.{none?, drawRegions, paid, cleanAll}
 use Rattle.rules.specs.Calls.{Call}

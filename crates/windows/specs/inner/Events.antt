@@ -12,7 +12,7 @@ use Rattle.window.specs.declared.Event.{Event}
 use Rattle.window.specs.declared.Event.the-variants.{Resize, KeyDown, KeyUp, KeyFire, Text, MouseMove, MouseDown, MouseClick, MouseUp}
 use Rattle.window.specs.declared.ids.WinId.{WinId}
 use Rattle.window.specs.Window.{Win, pushed, cursorTo}
-use Rattle.window.specs.Held.{winOf, RepWindow}
+use Rattle.window.specs.Represents.{winOf, RepWindow}
 use Rattle.window.specs.inner.Changes.{Queued}
 use Rattle.rules.specs.Events.{withQueue, withCursor}
 use Rattle.topmost.specs.inner.Topmost.{nobody}
@@ -22,15 +22,15 @@ use Rattle.windows.specs.declared.inner.events.Target.the-variants.{Nobo
 -- keys go to the focus, pointer events to a point, where a release alone is for the window that is remembered, `held`; a Resize goes nowhere, and
 -- a KeyFire is refused
 abbrev pub targetOf : Event → WinId → Target
-targetOf Resize held = Nobody 0
-targetOf (KeyDown v) held = Focus
-targetOf (KeyUp v) held = Focus
-targetOf (KeyFire v) held = Nobody 21
-targetOf (Text v) held = Focus
-targetOf (MouseMove x y dx dy) held = Point nobody x y
-targetOf (MouseDown x y b) held = Point nobody x y
-targetOf (MouseClick x y b n) held = Point nobody x y
-targetOf (MouseUp x y b) held = Point held x y
+targetOf Resize grab = Nobody 0
+targetOf (KeyDown v) grab = Focus
+targetOf (KeyUp v) grab = Focus
+targetOf (KeyFire v) grab = Nobody 21
+targetOf (Text v) grab = Focus
+targetOf (MouseMove x y dx dy) grab = Point nobody x y
+targetOf (MouseDown x y b) grab = Point nobody x y
+targetOf (MouseClick x y b n) grab = Point nobody x y
+targetOf (MouseUp x y b) grab = Point grab x y
 
 -- a pointer event at another point
 abbrev pub atPoint : Event → ℕ → ℕ → Event
@@ -45,16 +45,16 @@ atPoint (MouseClick _ _ b n) x y = MouseClick x y b n
 atPoint (MouseUp _ _ b) x y = MouseUp x y b
 
 -- "The window that took the last MouseDown is remembered until a MouseUp is delivered": who is, once the window `to` took the event
-abbrev pub heldAfter : Event → Option ℕ → Option ℕ → Option ℕ
-heldAfter Resize to held = held
-heldAfter (KeyDown v) to held = held
-heldAfter (KeyUp v) to held = held
-heldAfter (KeyFire v) to held = held
-heldAfter (Text v) to held = held
-heldAfter (MouseMove x y dx dy) to held = held
-heldAfter (MouseDown x y b) to held = to
-heldAfter (MouseClick x y b n) to held = held
-heldAfter (MouseUp x y b) to held = none
+abbrev pub grabAfter : Event → Option ℕ → Option ℕ → Option ℕ
+grabAfter Resize to grab = grab
+grabAfter (KeyDown v) to grab = grab
+grabAfter (KeyUp v) to grab = grab
+grabAfter (KeyFire v) to grab = grab
+grabAfter (Text v) to grab = grab
+grabAfter (MouseMove x y dx dy) to grab = grab
+grabAfter (MouseDown x y b) to grab = to
+grabAfter (MouseClick x y b n) to grab = grab
+grabAfter (MouseUp x y b) to grab = none
 
 -- by cases: a move by its point, any other event whole
 abbrev pub moveOr {ℓ} : {A : Type ℓ} → (ℕ → ℕ → A) → (Event → A) → Event → A

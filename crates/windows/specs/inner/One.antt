@@ -56,24 +56,24 @@ pub record SharedBy (k : Shared) : Type 0 where
   pub shared : session .shared ≡ k
 
 -- the session with another window at a place, sharing k
-abbrev pub put : ℕ → Window → Shared → Session → Session
-put at w k s = record { windows = set (s .windows) at w; shared = k; displays = s .displays }
+abbrev pub withWindow : ℕ → Window → Shared → Session → Session
+withWindow at w k s = record { windows = set (s .windows) at w; shared = k; displays = s .displays }
 
 -- every session that holds the window, with the new one put in its place, is the session that the call promises
 abbrev pub MeetsAt : Call → ℕ → Window → Shared → Changed → Type 0
 MeetsAt call id w k r =
-    (s : Session) (at : ℕ) → Holds id w k s at → Meets call s (done (put at (r .window) (r .shared) s) (r .answer))
+    (s : Session) (at : ℕ) → Holds id w k s at → Meets call s (done (withWindow at (r .window) (r .shared) s) (r .answer))
 
 -- the same of a call that is lent the store, which it leaves as `store`
 abbrev pub MeetsStoreAt : Call → ℕ → Window → Shared → Changed → List ℕ → Type 0
 MeetsStoreAt call id w k r store =
-    (s : Session) (at : ℕ) → Holds id w k s at → MeetsStore call s (done (put at (r .window) (r .shared) s) (r .answer)) store
+    (s : Session) (at : ℕ) → Holds id w k s at → MeetsStore call s (done (withWindow at (r .window) (r .shared) s) (r .answer)) store
 
 -- the same of a fill or a blit, which makes another damage of the window's
 abbrev pub MeetsAlteredAt : ℕ → Write → List ℕ → Window → Shared → Painted → List ℕ → Type 0
 MeetsAlteredAt id u p w k r store =
     (s : Session) (at : ℕ) → Holds id w k s at
-    → MeetsAltered id u p s (written (put at (setDamage (r .damage) w) k s) (r .result)) store
+    → MeetsAltered id u p s (written (withWindow at (setDamage (r .damage) w) k s) (r .result)) store
 
 -- it is handed fields: the same of every window with these fields, in every session with this C
 abbrev pub MeetsAlteredAs : ℕ → Write → List ℕ → Bool → Rect16 → Damage → ℕ → Painted → List ℕ → Type 0
@@ -83,7 +83,7 @@ MeetsAlteredAs id u p used at damage c r store =
 
 -- the same of a mark
 abbrev pub MeetsMarkAt : ℕ → Window → Shared → Changed → Type 0
-MeetsMarkAt id w k r = (s : Session) (at : ℕ) → Holds id w k s at → MeetsMark id s (done (put at (r .window) (r .shared) s) (r .answer))
+MeetsMarkAt id w k r = (s : Session) (at : ℕ) → Holds id w k s at → MeetsMark id s (done (withWindow at (r .window) (r .shared) s) (r .answer))
 
 -- the same of a call that touches what the windows share and no window: every session that shares this, with what the call makes of it
 abbrev pub MeetsShared : Call → Shared → SharedDone → Type 0
@@ -100,4 +100,4 @@ pub record Free (s : Session) (f : FreeSlot) : Type 0 where
 abbrev pub CreatesAt : ℕ → Window → Shared → CreatedOne → Type 0
 CreatesAt id w k r =
     (s : Session) (f : FreeSlot) → Given s → Free s f → f .id .0 ≡ id → windowAt s (f .at) ≡ w → s .shared ≡ k
-    → MeetsId Create s (record { session = put (f .at) (r .window) (r .shared) s; answer = r .answer; id = r .id })
+    → MeetsId Create s (record { session = withWindow (f .at) (r .window) (r .shared) s; answer = r .answer; id = r .id })

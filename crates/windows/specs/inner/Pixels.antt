@@ -11,7 +11,7 @@ use Rattle.scanline.specs.inner.Rows.{Counted}
 use Rattle.window.specs.declared.Window.{Window}
 use Rattle.window.specs.declared.damage.Damage.{Damage}
 use Rattle.window.specs.Window.{Win}
-use Rattle.window.specs.Held.{winOf, RepWindow}
+use Rattle.window.specs.Represents.{winOf, RepWindow}
 use Rattle.window.specs.inner.Changes.{PastAs}
 use Rattle.rules.specs.Store.{blitAt}
 use Rattle.windows.specs.declared.inner.store.Painted.{Painted}

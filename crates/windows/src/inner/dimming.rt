@@ -5,6 +5,7 @@ ghost use Rattle.rules.specs.Dim.{same};
 ghost use Rattle.windows.specs.inner.One.{MeetsShared};
 use crate::Shared;
 use crate::SharedDone;
+use geom::answers::OK;
 
 fn same(a: bool, b: bool) -> bool
     ensures { λ t. ⌜ t ≡ same a b ⌝ }
@@ -20,12 +21,12 @@ pub fn dim(mut shared: Shared, on: bool) -> SharedDone
     ensures { λ r. ⌜ MeetsShared (Call.Dim on) shared r ⌝ }
 {
     if same(on, shared.dimmed) {
-        return SharedDone { shared, answer: 0 };
+        return SharedDone { shared, answer: OK };
     }
     shared.dimmed = on;
     let owing = shared.owing();
     SharedDone {
         shared: owing,
-        answer: 0,
+        answer: OK,
     }
 }

@@ -10,7 +10,7 @@ ghost use mathlib.Core.Path.{_≡_};
 ghost use Prim.Native.Nat.{_≤_, _<_};
 ghost use lib.ListN.{getD};
 ghost use Rattle.geom.specs.Rect16.{Small, rectOf};
-ghost use Rattle.window.specs.Held.{RepWindow, winOf};
+ghost use Rattle.window.specs.Represents.{RepWindow, winOf};
 ghost use Rattle.window.specs.inner.Ids.{noId};
 ghost use Rattle.order.specs.inner.Frames.{Shown};
 ghost use Rattle.windows.specs.View.{Given};
@@ -27,6 +27,9 @@ use crate::inner::one::slot;
 use crate::inner::store::damaged;
 use due::Due;
 use geom::Rect;
+use geom::answers::OK;
+use geom::answers::TOO_LARGE;
+use geom::answers::UNKNOWN_ID;
 use geom::inner::common;
 use geom::inner::meets;
 use geom::inner::rect16::Rect16;
@@ -162,10 +165,10 @@ pub fn plan(s: Session, id: WinId, x: u32, y: u32) -> DragPlan
     let areas = frames.areas;
     let used = frames.used;
     if !in_use(id, used[at]) {
-        return refused(id, 3);
+        return refused(id, UNKNOWN_ID);
     }
     if !small_point(x, y) {
-        return refused(id, 5);
+        return refused(id, TOO_LARGE);
     }
     let old = areas[at];
     let order = s.shared.order;
@@ -186,7 +189,7 @@ pub fn plan(s: Session, id: WinId, x: u32, y: u32) -> DragPlan
     };
     DragPlan {
         n: t.n,
-        answer: 0,
+        answer: OK,
         what,
     }
 }
@@ -256,7 +259,7 @@ pub fn turn(win: Window, d: Dragging, at: usize) -> Window
 pub fn settle(mut shared: Shared, d: Dragging, answer: u32) -> Shared
     ensures { λ r. ⌜ r ≡ settledBy d answer shared ⌝ }
 {
-    if answer != 0 {
+    if answer != OK {
         return shared;
     }
     let maximised = d.maximised;

@@ -4,16 +4,23 @@ ghost use mathlib.Core.Path.{_≡_};
 ghost use mathlib.Core.Bool.{true};
 ghost use mathlib.Core.Option.{some};
 ghost use Prim.Native.Nat.{_≤_, _<_};
-ghost use Rattle.window.specs.Held.{RepCursor};
+ghost use Rattle.window.specs.Represents.{RepCursor};
 ghost use Rattle.rules.specs.Calls.{Call};
-ghost use Rattle.order.specs.Ids.{heldOf};
+ghost use Rattle.order.specs.Ids.{grabOf};
 ghost use Rattle.windows.specs.View.{Given, Meets};
-ghost use Rattle.windows.specs.inner.Events.{targetOf, atPoint, heldAfter, Tellable};
+ghost use Rattle.windows.specs.inner.Events.{targetOf, atPoint, grabAfter, Tellable};
 ghost use Rattle.windows.specs.inner.Aimed.{toNobody, toWindow, Hears, Aims, PopsFront};
 use crate::NextEvent;
 use crate::Session;
 use crate::inner::frames::frames;
 use crate::inner::maximise::in_use;
+use geom::answers::KEY_FIRE;
+use geom::answers::NO_EVENT;
+use geom::answers::NO_WINDOW;
+use geom::answers::OK;
+use geom::answers::QUEUE_FULL;
+use geom::answers::TOO_LARGE;
+use geom::answers::UNKNOWN_ID;
 use geom::inner::small::small_point;
 use order::RenderIdx;
 use order::get_render_idx;
@@ -34,13 +41,13 @@ use window::slots::slot_of;
 pub enum Target {
     Nobody { answer: u32 },
     Focus,
-    Point { held: WinId, x: u32, y: u32 },
+    Point { grab: WinId, x: u32, y: u32 },
 }
 
 // What a window is told, if `told`, and which one is remembered once it took the event; else the answer.
 pub struct Message {
     pub told: bool,
-    pub held: WinId,
+    pub grab: WinId,
     pub answer: u32,
     pub event: Event,
 }
@@ -57,7 +64,7 @@ pub struct Told {
     pub slot: Slot,
     pub cursor: CursorPos,
     pub len: u8,
-    pub held: WinId,
+    pub grab: WinId,
     pub answer: u32,
 }
 
@@ -72,25 +79,25 @@ pub struct Front {
 }
 
 // Only a release is for the window that is remembered.
-fn target_of(e: Event, held: WinId) -> Target
-    ensures { λ t. ⌜ t ≡ targetOf e held ⌝ }
+fn target_of(e: Event, grab: WinId) -> Target
+    ensures { λ t. ⌜ t ≡ targetOf e grab ⌝ }
 {
     match e {
-        Event::Resize => Target::Nobody { answer: 0 },
+        Event::Resize => Target::Nobody { answer: OK },
         Event::KeyDown(_) => Target::Focus,
         Event::KeyUp(_) => Target::Focus,
         // question 21, before every other
-        Event::KeyFire(_) => Target::Nobody { answer: 21 },
+        Event::KeyFire(_) => Target::Nobody { answer: KEY_FIRE },
         Event::Text(_) => Target::Focus,
-        Event::MouseMove { x, y, dx: _, dy: _ } => Target::Point { held: NOBODY, x, y },
-        Event::MouseDown { x, y, button: _ } => Target::Point { held: NOBODY, x, y },
+        Event::MouseMove { x, y, dx: _, dy: _ } => Target::Point { grab: NOBODY, x, y },
+        Event::MouseDown { x, y, button: _ } => Target::Point { grab: NOBODY, x, y },
         Event::MouseClick {
             x,
             y,
             button: _,
             count: _,
-        } => Target::Point { held: NOBODY, x, y },
-        Event::MouseUp { x, y, button: _ } => Target::Point { held, x, y },
+        } => Target::Point { grab: NOBODY, x, y },
+        Event::MouseUp { x, y, button: _ } => Target::Point { grab, x, y },
     }
 }
 
@@ -118,9 +125,9 @@ fn at_point(e: Event, x: u32, y: u32) -> Event
 }
 
 // Who is remembered once this window took an event: a MouseDown's window, until a MouseUp was taken, by any.
-fn held_after(e: Event, id: WinId, held: WinId) -> WinId
+fn grab_after(e: Event, id: WinId, grab: WinId) -> WinId
     requires { ⌜ id .0 < 16 ⌝ }
-    ensures { λ r. ⌜ heldOf r ≡ heldAfter e (some (id .0)) (heldOf held) ⌝ }
+    ensures { λ r. ⌜ grabOf r ≡ grabAfter e (some (id .0)) (grabOf grab) ⌝ }
 {
     match e {
         Event::MouseDown {
@@ -133,36 +140,36 @@ fn held_after(e: Event, id: WinId, held: WinId) -> WinId
             y: _,
             button: _,
         } => NOBODY,
-        _ => held,
+        _ => grab,
     }
 }
 
 // A window is told, or left as it is: a move replaces the cursor's new point, any other event joins the queue. `old` is
 // the slot at the back; it is handed back where nothing joins. One that does not take the event changes nothing.
-pub fn tell(old: Slot, cursor: CursorPos, len: u8, held: WinId, m: Message) -> Told
+pub fn tell(old: Slot, cursor: CursorPos, len: u8, grab: WinId, m: Message) -> Told
     requires { ⌜ RepCursor cursor × (len ≤ 16) × (m .told ≡ true → Tellable (m .event)) ⌝ }
-    ensures { λ r. ⌜ Hears old cursor len held m r ⌝ }
+    ensures { λ r. ⌜ Hears old cursor len grab m r ⌝ }
 {
     let mut slot = old;
     let mut pos = cursor;
     let mut n = len;
-    let mut remembered = held;
+    let mut remembered = grab;
     let mut answer = m.answer;
     if m.told {
         let e = m.event;
-        answer = 0;
+        answer = OK;
         match e {
             Event::MouseMove { x, y, dx: _, dy: _ } => {
                 pos = cursor.update(x, y);
-                remembered = m.held;
+                remembered = m.grab;
             }
             _ => {
                 if len < 16 {
                     slot = slot_of(e);
                     n = len + 1;
-                    remembered = m.held;
+                    remembered = m.grab;
                 } else {
-                    answer = 12;
+                    answer = QUEUE_FULL;
                 }
             }
         }
@@ -171,7 +178,7 @@ pub fn tell(old: Slot, cursor: CursorPos, len: u8, held: WinId, m: Message) -> T
         slot,
         cursor: pos,
         len: n,
-        held: remembered,
+        grab: remembered,
         answer,
     }
 }
@@ -182,20 +189,20 @@ pub fn nobody(answer: u32) -> Aim
 {
     let what = Message {
         told: false,
-        held: NOBODY,
+        grab: NOBODY,
         answer,
         event: Event::Resize,
     };
     Aim { at: 0, what }
 }
 
-fn to_window(at: usize, event: Event, held: WinId) -> Aim
-    ensures { λ r. ⌜ r ≡ toWindow at event held ⌝ }
+fn to_window(at: usize, event: Event, grab: WinId) -> Aim
+    ensures { λ r. ⌜ r ≡ toWindow at event grab ⌝ }
 {
     let what = Message {
         told: true,
-        held,
-        answer: 0,
+        grab,
+        answer: OK,
         event,
     };
     Aim { at, what }
@@ -206,38 +213,38 @@ pub fn aim_event(s: Session, e: Event) -> Aim
     requires { ⌜ Given s ⌝ }
     ensures { λ r. ⌜ Aims (Meets (Call.Route e) s) s r ⌝ }
 {
-    let target = target_of(e, s.shared.held);
+    let target = target_of(e, s.shared.grab);
     match target {
         Target::Nobody { answer } => nobody(answer),
         Target::Focus => aim_key(s, e),
-        Target::Point { held, x, y } => aim_pointer(s, e, held, x, y),
+        Target::Point { grab, x, y } => aim_pointer(s, e, grab, x, y),
     }
 }
 
 // At the focus, if it is shown.
 fn aim_key(s: Session, e: Event) -> Aim
-    requires { ⌜ Given s × (targetOf e (s .shared .held) ≡ Target.Focus) ⌝ }
+    requires { ⌜ Given s × (targetOf e (s .shared .grab) ≡ Target.Focus) ⌝ }
     ensures { λ r. ⌜ Aims (Meets (Call.Route e) s) s r ⌝ }
 {
     let focus = s.shared.focus;
     let order = s.shared.order;
     let idx = get_render_idx(order, s.shared.shown, focus);
     match idx {
-        RenderIdx::At(_) => to_window(focus.0 as usize, e, s.shared.held),
-        RenderIdx::Hidden => nobody(11),
+        RenderIdx::At(_) => to_window(focus.0 as usize, e, s.shared.grab),
+        RenderIdx::Hidden => nobody(NO_WINDOW),
     }
 }
 
 // At the window that takes it, at the pixel nearest to the point: in the topmost window that contains the point, the point itself.
-fn aim_pointer(s: Session, e: Event, held: WinId, x: u32, y: u32) -> Aim
-    requires { ⌜ Given s × (targetOf e (s .shared .held) ≡ Target.Point held x y) ⌝ }
+fn aim_pointer(s: Session, e: Event, grab: WinId, x: u32, y: u32) -> Aim
+    requires { ⌜ Given s × (targetOf e (s .shared .grab) ≡ Target.Point grab x y) ⌝ }
     ensures { λ r. ⌜ Aims (Meets (Call.Route e) s) s r ⌝ }
 {
     if small_point(x, y) {
         let frames = frames(s);
         let areas = frames.areas;
         let order = s.shared.order;
-        let hit = taker(areas, order, s.shared.shown, held, x, y);
+        let hit = taker(areas, order, s.shared.shown, grab, x, y);
         match hit {
             Hit::Window(id) => {
                 let at = id.0 as usize;
@@ -245,12 +252,12 @@ fn aim_pointer(s: Session, e: Event, held: WinId, x: u32, y: u32) -> Aim
                 let column = nearest(area.x as u32, area.w as u32, x);
                 let row = nearest(area.y as u32, area.h as u32, y);
                 let inside = at_point(e, column, row);
-                to_window(at, inside, held_after(e, id, s.shared.held))
+                to_window(at, inside, grab_after(e, id, s.shared.grab))
             }
-            Hit::Nobody => nobody(11),
+            Hit::Nobody => nobody(NO_WINDOW),
         }
     } else {
-        nobody(5)
+        nobody(TOO_LARGE)
     }
 }
 
@@ -262,22 +269,22 @@ pub fn pop(used: bool, cursor: CursorPos, head: u8, len: u8, first: Slot, id: Wi
     let mut pos = cursor;
     let mut front = head;
     let mut n = len;
-    let mut answer: u32 = 3;
+    let mut answer: u32 = UNKNOWN_ID;
     let mut event = NextEvent::Absent;
     if in_use(id, used) {
-        answer = 10;
+        answer = NO_EVENT;
         if 0 < len {
             front = back(head, 1) as u8;
             n = len - 1;
             let e = event_of(first);
             event = NextEvent::Event(e);
-            answer = 0;
+            answer = OK;
         } else if cursor.is_dirty {
             let moved = cursor.take();
             pos = moved.cursor;
             let e = moved.event;
             event = NextEvent::Event(e);
-            answer = 0;
+            answer = OK;
         }
     }
     Front {

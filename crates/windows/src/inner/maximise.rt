@@ -6,17 +6,21 @@ ghost use Prim.Native.Nat.{_<_};
 ghost use lib.Dec.{ltb};
 ghost use lib.ListN.{set};
 ghost use Rattle.geom.specs.Rect16.{Small, rectOf};
-ghost use Rattle.window.specs.Held.{RepWindow};
+ghost use Rattle.window.specs.Represents.{RepWindow};
 ghost use Rattle.windows.specs.View.{Given};
-ghost use Rattle.windows.specs.inner.Walk.{flagged};
-ghost use Rattle.windows.specs.inner.Dims.{TakesDisplay, Took};
+ghost use Rattle.windows.specs.inner.Sharing.{withMaximised};
+ghost use Rattle.windows.specs.inner.Maximise.{PlansMaximise, AppliesPlan};
 use crate::Changed;
 use crate::Session;
 use crate::Shared;
 use crate::inner::frames::frames;
 use crate::inner::one::slot;
-use crate::inner::store::taken;
-use display::dims::fits;
+use crate::inner::store::resized_to;
+use display::update::fits;
+use geom::answers::OK;
+use geom::answers::STORE_LENGTH;
+use geom::answers::UNKNOWN_ID;
+use geom::answers::WINDOW_SIZE;
 use geom::inner::rect16::Rect16;
 use winbuf::inner::resize::resize_store;
 use window::Window;
@@ -24,7 +28,7 @@ use window::ids::WinId;
 
 // The window that a call of maximise is for, the display that it takes, and the answer.
 #[repr(C)]
-pub struct Takes {
+pub struct MaximisePlan {
     pub id: WinId,
     pub display: Rect16,
     pub answer: u32,
@@ -32,9 +36,9 @@ pub struct Takes {
 
 // The place of that window, and what it takes.
 #[repr(C)]
-pub struct Taking {
+pub struct MaximiseAt {
     pub at: usize,
-    pub what: Takes,
+    pub what: MaximisePlan,
 }
 
 pub fn with_flag(flags: [bool; 16], id: WinId, on: bool) -> [bool; 16]
@@ -49,9 +53,9 @@ pub fn with_flag(flags: [bool; 16], id: WinId, on: bool) -> [bool; 16]
 
 impl Shared {
     // Whether a window is maximised.
-    pub fn flagged(mut self, id: WinId, on: bool) -> Shared
+    pub fn set_maximised(mut self, id: WinId, on: bool) -> Shared
         requires { ⌜ id .0 < 16 ⌝ }
-        ensures { λ r. ⌜ r ≡ flagged (id .0) on self ⌝ }
+        ensures { λ r. ⌜ r ≡ withMaximised (id .0) on self ⌝ }
     {
         let was = self.maximised;
         let flags = with_flag(was, id, on);
@@ -71,14 +75,14 @@ pub fn in_use(id: WinId, used: bool) -> bool
 }
 
 // The second half of maximise: the window takes its display, and its flag is set.
-pub fn take(win: Window, mut shared: Shared, t: Takes) -> Changed
+pub fn apply(win: Window, mut shared: Shared, t: MaximisePlan) -> Changed
     requires { ⌜ RepWindow win × Small (rectOf (t .display)) × (t .answer ≡ 0 → t .id .0 < 16) ⌝ }
-    ensures { λ r. ⌜ Took win shared t r ⌝ }
+    ensures { λ r. ⌜ AppliesPlan win shared t r ⌝ }
 {
     let mut window = win;
-    if t.answer == 0 {
-        window = taken(win, t.display);
-        shared = shared.flagged(t.id, true);
+    if t.answer == OK {
+        window = resized_to(win, t.display);
+        shared = shared.set_maximised(t.id, true);
         shared = shared.owing();
     }
     Changed {
@@ -89,9 +93,9 @@ pub fn take(win: Window, mut shared: Shared, t: Takes) -> Changed
 }
 
 // The first half of maximise: asks the questions and resizes the window's pixels.
-pub fn plan_take(s: Session, id: WinId, store: &mut [u32]) -> Taking
+pub fn plan(s: Session, id: WinId, store: &mut [u32]) -> MaximiseAt
     requires { ⌜ Given s ⌝ }
-    ensures { λ t. ⌜ TakesDisplay s (id .0) (now (store .entry)) t (now (store .exit)) ⌝ }
+    ensures { λ t. ⌜ PlansMaximise s (id .0) (now (store .entry)) t (now (store .exit)) ⌝ }
 {
     let at = slot(id);
     let frames = frames(s);
@@ -100,14 +104,14 @@ pub fn plan_take(s: Session, id: WinId, store: &mut [u32]) -> Taking
     let old = areas[at];
     let displays = s.displays;
     let display = displays.display_of(old);
-    let mut answer: u32 = 1;
+    let mut answer: u32 = STORE_LENGTH;
     let c = s.shared.c as usize;
     if store.len() == 16 * c {
-        answer = 3;
+        answer = UNKNOWN_ID;
         if in_use(id, used[at]) {
-            answer = 6;
+            answer = WINDOW_SIZE;
             if fits(display, s.shared.c) {
-                answer = 0;
+                answer = OK;
                 resize_store(
                     store,
                     at * c,
@@ -120,10 +124,10 @@ pub fn plan_take(s: Session, id: WinId, store: &mut [u32]) -> Taking
             }
         }
     }
-    let what = Takes {
+    let what = MaximisePlan {
         id,
         display,
         answer,
     };
-    Taking { at, what }
+    MaximiseAt { at, what }
 }

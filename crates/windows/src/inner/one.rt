@@ -5,7 +5,7 @@ ghost use mathlib.Core.Bool.{_&&_};
 ghost use mathlib.Core.Option.{some};
 ghost use Prim.Native.Nat.{_<_};
 ghost use lib.Dec.{ltb};
-ghost use Rattle.window.specs.Held.{RepWindow, winOf};
+ghost use Rattle.window.specs.Represents.{RepWindow, winOf};
 ghost use Rattle.rules.specs.Repair.{whollyRepaired};
 ghost use Rattle.rules.specs.Calls.{Call};
 ghost use Rattle.order.specs.Ids.{ids};
@@ -13,7 +13,7 @@ ghost use Rattle.order.specs.inner.Order.{renderIdx};
 ghost use Rattle.windows.specs.View.{Given};
 ghost use Rattle.windows.specs.inner.One.{At, Free, Held, SharedBy, MeetsAt, MeetsMarkAt, CreatesAt};
 ghost use Rattle.windows.specs.inner.Pixels.{Becomes};
-ghost use Rattle.windows.specs.inner.Walk.{Hides, PutsOn};
+ghost use Rattle.windows.specs.inner.Sharing.{Hides, PutsOn};
 use crate::Changed;
 use crate::CreatedOne;
 use crate::FreeSlot;
@@ -21,6 +21,11 @@ use crate::NewId;
 use crate::Session;
 use crate::Shared;
 use crate::inner::frames::frames;
+use geom::answers::LAYER;
+use geom::answers::NO_FREE_ID;
+use geom::answers::OK;
+use geom::answers::TOO_LARGE;
+use geom::answers::UNKNOWN_ID;
 use geom::inner::rect16::Rect16;
 use geom::inner::small::small_point;
 use order::RenderIdx;
@@ -80,7 +85,7 @@ pub fn create(mut win: Window, mut shared: Shared, id: WinId) -> CreatedOne
     requires { ⌜ id .0 < 16 ⌝ }
     ensures { λ r. ⌜ CreatesAt (id .0) win shared r ⌝ }
 {
-    let mut answer: u32 = 4;
+    let mut answer: u32 = NO_FREE_ID;
     let mut new = NewId::Absent;
     if !win.used {
         let origin = Rect16 {
@@ -99,7 +104,7 @@ pub fn create(mut win: Window, mut shared: Shared, id: WinId) -> CreatedOne
         let at = id.0 as usize;
         shared.layers[at] = 0;
         shared.maximised[at] = false;
-        answer = 0;
+        answer = OK;
         new = NewId::Id(id);
     }
     CreatedOne {
@@ -114,10 +119,10 @@ pub fn mark(mut win: Window, shared: Shared, id: WinId) -> Changed
     requires { ⌜ Held (id .0) win shared ⌝ }
     ensures { λ r. ⌜ MeetsMarkAt (id .0) win shared r ⌝ }
 {
-    let mut answer: u32 = 3;
+    let mut answer: u32 = UNKNOWN_ID;
     if is_used(win, id) {
         win.marked = true;
-        answer = 0;
+        answer = OK;
     }
     Changed {
         window: win,
@@ -130,17 +135,17 @@ pub fn move_window(mut win: Window, mut shared: Shared, id: WinId, x: u32, y: u3
     requires { ⌜ Held (id .0) win shared ⌝ }
     ensures { λ r. ⌜ MeetsAt (Call.Move (id .0) x y) (id .0) win shared r ⌝ }
 {
-    let mut answer: u32 = 3;
+    let mut answer: u32 = UNKNOWN_ID;
     if is_used(win, id) {
-        answer = 5;
+        answer = TOO_LARGE;
         if small_point(x, y) {
             let mut area = win.at;
             area.x = x as u16;
             area.y = y as u16;
             win.at = area;
-            shared = shared.flagged(id, false);
+            shared = shared.set_maximised(id, false);
             shared = shared.owing(); // where it was is uncovered
-            answer = 0;
+            answer = OK;
         }
     }
     Changed {
@@ -155,9 +160,9 @@ pub fn show(win: Window, mut shared: Shared, id: WinId) -> Changed
     requires { ⌜ Held (id .0) win shared ⌝ }
     ensures { λ r. ⌜ MeetsAt (Call.Show (id .0)) (id .0) win shared r ⌝ }
 {
-    let mut answer: u32 = 3;
+    let mut answer: u32 = UNKNOWN_ID;
     if is_used(win, id) {
-        answer = 0;
+        answer = OK;
         let n = shared.shown;
         let order = shared.order;
         let layers = shared.layers;
@@ -204,7 +209,7 @@ fn raise_shown(win: Window, mut shared: Shared, id: WinId, p: Place) -> Changed
         return Changed {
             window: win,
             shared,
-            answer: 0,
+            answer: OK,
         };
     }
     let moved = to_top(layers, order, n, p, id);
@@ -213,13 +218,13 @@ fn raise_shown(win: Window, mut shared: Shared, id: WinId, p: Place) -> Changed
         return Changed {
             window: win,
             shared: shared.owing(),
-            answer: 0,
+            answer: OK,
         };
     }
     Changed {
         window: repaired(win),
         shared,
-        answer: 0,
+        answer: OK,
     }
 }
 
@@ -264,11 +269,11 @@ pub fn set_layer(win: Window, mut shared: Shared, id: WinId, layer: u32) -> Chan
     requires { ⌜ Held (id .0) win shared ⌝ }
     ensures { λ r. ⌜ MeetsAt (Call.SetLayer (id .0) layer) (id .0) win shared r ⌝ }
 {
-    let mut answer: u32 = 3;
+    let mut answer: u32 = UNKNOWN_ID;
     if is_used(win, id) {
-        answer = 17;
+        answer = LAYER;
         if layer <= 1 {
-            answer = 0;
+            answer = OK;
             shared = layered(shared, id, layer as u8);
         }
     }
@@ -291,8 +296,8 @@ fn hide_shown(mut shared: Shared, id: WinId, p: Place) -> Shared
     shared.order = closed;
     shared.shown = n - 1;
     shared.focus = focus;
-    let held = forget(shared.held, id);
-    shared.held = held;
+    let grab = forget(shared.grab, id);
+    shared.grab = grab;
     shared.owing()
 }
 
@@ -301,9 +306,9 @@ pub fn hide(win: Window, mut shared: Shared, id: WinId) -> Changed
     requires { ⌜ Held (id .0) win shared ⌝ }
     ensures { λ r. ⌜ MeetsAt (Call.Hide (id .0)) (id .0) win shared r ⌝ }
 {
-    let mut answer: u32 = 3;
+    let mut answer: u32 = UNKNOWN_ID;
     if is_used(win, id) {
-        answer = 0;
+        answer = OK;
         let order = shared.order;
         let idx = get_render_idx(order, shared.shown, id);
         if let RenderIdx::At(p) = idx {
@@ -322,9 +327,9 @@ pub fn drop(mut win: Window, mut shared: Shared, id: WinId) -> Changed
     requires { ⌜ Held (id .0) win shared ⌝ }
     ensures { λ r. ⌜ MeetsAt (Call.Drop (id .0)) (id .0) win shared r ⌝ }
 {
-    let mut answer: u32 = 3;
+    let mut answer: u32 = UNKNOWN_ID;
     if is_used(win, id) {
-        answer = 0;
+        answer = OK;
         let order = shared.order;
         let idx = get_render_idx(order, shared.shown, id);
         if let RenderIdx::At(p) = idx {

@@ -4,7 +4,7 @@ ghost use mathlib.Core.Path.{_≡_};
 ghost use Rattle.rules.specs.Calls.{Call};
 ghost use Rattle.windows.specs.View.{Given};
 ghost use Rattle.windows.specs.inner.One.{MeetsShared};
-ghost use Rattle.windows.specs.inner.Walk.{indebted, cleanedIf, Turns, Turned, TreatsAt};
+ghost use Rattle.windows.specs.inner.Sharing.{indebted, cleanedIf, Turns, Turned, TreatsAt};
 use crate::Changed;
 use crate::Session;
 use crate::Shared;
@@ -12,6 +12,10 @@ use crate::SharedDone;
 use crate::inner::frames::frames;
 use crate::inner::redraw::draw_window;
 use crate::inner::redraw::screen_fits;
+use geom::answers::NO_WALK;
+use geom::answers::OK;
+use geom::answers::SCREEN_SIZE;
+use geom::answers::STORE_LENGTH;
 use geom::inner::bools::either;
 use order::places::window_at;
 use order::rects;
@@ -43,13 +47,13 @@ impl Shared {
 }
 
 // A walk from the bottom, full if told so or owed, in place of one before it.
-pub fn begin(mut shared: Shared, told: bool) -> SharedDone
-    ensures { λ r. ⌜ MeetsShared (Call.Begin told) shared r ⌝ }
+pub fn begin(mut shared: Shared, forced: bool) -> SharedDone
+    ensures { λ r. ⌜ MeetsShared (Call.Begin forced) shared r ⌝ }
 {
     let old = shared.due;
-    let due = old.begin(told, shared.shown);
+    let due = old.begin(forced, shared.shown);
     shared.due = due;
-    SharedDone { shared, answer: 0 }
+    SharedDone { shared, answer: OK }
 }
 
 // A window that was drawn if the walk is full or it was marked: mark and damage are cleared then.
@@ -77,12 +81,12 @@ pub fn treat(
     ensures { λ r. ⌜ TreatsAt (Call.Portion width height (now (store .entry)) (now (screen .entry))) win shared next r (now (screen .exit)) ⌝ }
 {
     let mut window = win;
-    let mut answer: u32 = 1;
+    let mut answer: u32 = STORE_LENGTH;
     let c = shared.c as usize;
     if store.len() == 16 * c {
-        answer = 8;
+        answer = SCREEN_SIZE;
         if screen_fits(width, height, screen.len()) {
-            answer = 20;
+            answer = NO_WALK;
             let due = shared.due;
             if due.walk.on {
                 let full = due.walk.full;
@@ -103,7 +107,7 @@ pub fn treat(
                 window = cleaned(win, full);
                 let rest = due.further(shared.shown);
                 shared.due = rest;
-                answer = 0;
+                answer = OK;
             }
         }
     }

@@ -6,7 +6,7 @@ ghost use Prim.Native.Nat.{_+_, _*_, _≤_};
 ghost use lib.Dec.{leb, eqb};
 ghost use lib.ListN.{length};
 ghost use Rattle.geom.specs.Questions.{small};
-ghost use Rattle.window.specs.Held.{RepWindow};
+ghost use Rattle.window.specs.Represents.{RepWindow};
 ghost use Rattle.rules.specs.Visible.{rectsOf};
 ghost use Rattle.rules.specs.Redraw.{drawAll};
 ghost use Rattle.rules.specs.Calls.{Call};
@@ -19,7 +19,11 @@ use crate::Done;
 use crate::Session;
 use crate::Shared;
 use crate::inner::frames::frames;
+use geom::answers::OK;
+use geom::answers::SCREEN_SIZE;
+use geom::answers::STORE_LENGTH;
 use geom::inner::bools::either;
+use geom::inner::small::MOST;
 use order::places::window_at;
 use order::rects;
 use order::rects::dirty_of;
@@ -41,13 +45,13 @@ pub fn screen_fits(sw: u32, sh: u32, len: usize) -> bool
     if sw < 1 {
         return false;
     }
-    if 32767 < sw {
+    if MOST < sw {
         return false;
     }
     if sh < 1 {
         return false;
     }
-    if 32767 < sh {
+    if MOST < sh {
         return false;
     }
     len == sw as usize * sh as usize
@@ -59,7 +63,7 @@ fn drawn_ids(shared: Shared, answer: u32) -> [bool; 16]
     ensures { λ r. ⌜ Marks r (cond (eqb answer 0) (ids (shared .shown) (shared .order)) []) ⌝ }
 {
     let mut n: usize = 0;
-    if answer == 0 {
+    if answer == OK {
         n = shared.shown;
     }
     let order = shared.order;
@@ -141,23 +145,23 @@ fn draw_all(s: Session, full: bool, store: &[u32], screen: &mut [u32], sw: u32, 
 // The first half of a redraw: asks the questions and draws. It leaves the session as it is.
 pub fn draw(
     s: Session,
-    told: bool,
+    forced: bool,
     width: u32,
     height: u32,
     store: &[u32],
     screen: &mut [u32],
 ) -> Drawn
     requires { ⌜ Given s ⌝ }
-    ensures { λ d. ⌜ Draws (Call.Redraw told width height (now (store .entry)) (now (screen .entry))) s d (now (screen .exit)) ⌝ }
+    ensures { λ d. ⌜ Draws (Call.Redraw forced width height (now (store .entry)) (now (screen .entry))) s d (now (screen .exit)) ⌝ }
 {
-    let full = either(told, s.shared.due.owed);
-    let mut answer: u32 = 1;
+    let full = either(forced, s.shared.due.owed);
+    let mut answer: u32 = STORE_LENGTH;
     let c = s.shared.c as usize;
     if store.len() == 16 * c {
-        answer = 8;
+        answer = SCREEN_SIZE;
         if screen_fits(width, height, screen.len()) {
             draw_all(s, full, store, screen, width, height);
-            answer = 0;
+            answer = OK;
         }
     }
     Drawn { full, answer }
@@ -181,7 +185,7 @@ pub fn settled(mut s: Session, d: Drawn) -> Done
         }
         i += 1;
     }
-    if d.answer == 0 {
+    if d.answer == OK {
         s.shared.due.owed = false;
         s.shared.due.walk.on = false;
     }

@@ -10,10 +10,10 @@ ghost use mathlib.Core.Bool.{false};
 ghost use Rattle.geom.specs.Geom.{rect, isEmpty};
 ghost use Rattle.geom.specs.Rect16.{Small, rectOf};
 ghost use Rattle.scanline.specs.Pixels.{resizedAt};
-ghost use Rattle.window.specs.Held.{RepDamage, RepWindow, winOf};
+ghost use Rattle.window.specs.Represents.{RepDamage, RepWindow, winOf};
 ghost use Rattle.window.specs.inner.Changes.{Dirtied};
 ghost use Rattle.rules.specs.Store.{resizedWin, filledAt, blitAt};
-ghost use Rattle.rules.specs.Displays.{taken};
+ghost use Rattle.rules.specs.Displays.{resizedTo};
 ghost use Rattle.rules.specs.Calls.{Call};
 ghost use Rattle.rules.specs.Panels.{Write};
 ghost use Rattle.windows.specs.View.{filledWin, blitWin};
@@ -27,6 +27,12 @@ use geom::Dims;
 use geom::Intersection;
 use geom::Pos;
 use geom::Rect;
+use geom::answers::OK;
+use geom::answers::STORE_LENGTH;
+use geom::answers::STRIDE;
+use geom::answers::TOO_LARGE;
+use geom::answers::UNKNOWN_ID;
+use geom::answers::WINDOW_SIZE;
 use geom::inner::is_empty;
 use geom::inner::rect16::Rect16;
 use geom::inner::small::is_small;
@@ -101,12 +107,15 @@ fn fill_rect(
             );
             // after the pixels, so that the damage is not copied once more
             let damage = damaged(old, at, part);
-            let result = Altered { answer: 0, altered };
+            let result = Altered {
+                answer: OK,
+                altered,
+            };
             Painted { damage, result }
         }
-        Intersection::Apart => unpainted(old, 0),
+        Intersection::Apart => unpainted(old, OK),
         // never: question 14 holds of both
-        Intersection::Refused => unpainted(old, 0),
+        Intersection::Refused => unpainted(old, OK),
     }
 }
 
@@ -156,18 +165,21 @@ fn blit_rect(
     ensures { λ r. ⌜ PaintsAs at old (blitWin area) (λ w. blitAt base w area (now («data» .entry)) stride (now (store .entry))) (now (store .entry)) r (now (store .exit)) ⌝ }
 {
     if is_empty(area) {
-        return unpainted(old, 0);
+        return unpainted(old, OK);
     }
     let altered = blit_part(at, base, area, data, stride, store);
     let damage = damaged(old, at, area);
-    let result = Altered { answer: 0, altered };
+    let result = Altered {
+        answer: OK,
+        altered,
+    };
     Painted { damage, result }
 }
 
 // The window at a new place and of a new size, with all of it damaged and Resize queued.
-pub fn taken(mut win: Window, at: Rect16) -> Window
+pub fn resized_to(mut win: Window, at: Rect16) -> Window
     requires { ⌜ RepWindow win × Small (rectOf at) ⌝ }
-    ensures { λ r. ⌜ Becomes win (taken (rectOf at) (winOf win)) r ⌝ }
+    ensures { λ r. ⌜ Becomes win (resizedTo (rectOf at) (winOf win)) r ⌝ }
 {
     let damage = Damage::whole(at.w as u32, at.h as u32);
     let waiting = win.queue;
@@ -199,7 +211,7 @@ fn resized(win: Window, base: usize, c: usize, size: Dims, store: &mut [u32]) ->
         w: size.w as u16,
         h: size.h as u16,
     };
-    taken(win, at)
+    resized_to(win, at)
 }
 
 pub fn fill(
@@ -217,13 +229,13 @@ pub fn fill(
 {
     let pixels = c as usize;
     if store.len() != 16 * pixels {
-        return unpainted(damage, 1);
+        return unpainted(damage, STORE_LENGTH);
     }
     if !in_use(id, used) {
-        return unpainted(damage, 3);
+        return unpainted(damage, UNKNOWN_ID);
     }
     if !is_small(area) {
-        return unpainted(damage, 5);
+        return unpainted(damage, TOO_LARGE);
     }
     fill_rect(at, damage, id.0 as usize * pixels, area, colour, store)
 }
@@ -244,16 +256,16 @@ pub fn blit(
 {
     let pixels = c as usize;
     if store.len() != 16 * pixels {
-        return unpainted(damage, 1);
+        return unpainted(damage, STORE_LENGTH);
     }
     if !in_use(id, used) {
-        return unpainted(damage, 3);
+        return unpainted(damage, UNKNOWN_ID);
     }
     if !is_small(area) {
-        return unpainted(damage, 5);
+        return unpainted(damage, TOO_LARGE);
     }
     if stride < 1 {
-        return unpainted(damage, 7);
+        return unpainted(damage, STRIDE);
     }
     blit_rect(
         at,
@@ -278,19 +290,19 @@ pub fn resize(
     ensures { λ r. ⌜ MeetsStoreAt (Call.Resize (id .0) w h (now (store .entry))) (id .0) win shared r (now (store .exit)) ⌝ }
 {
     let mut window = win;
-    let mut answer: u32 = 1;
+    let mut answer: u32 = STORE_LENGTH;
     let c = shared.c as usize;
     if store.len() == 16 * c {
-        answer = 3;
+        answer = UNKNOWN_ID;
         if is_used(win, id) {
-            answer = 5;
+            answer = TOO_LARGE;
             let size = Dims::new(w, h);
             if is_small_size(size) {
-                answer = 6;
+                answer = WINDOW_SIZE;
                 if w * h <= shared.c {
-                    answer = 0;
+                    answer = OK;
                     window = resized(win, id.0 as usize * c, c, size, store);
-                    shared = shared.flagged(id, false);
+                    shared = shared.set_maximised(id, false);
                     shared = shared.owing();
                 }
             }

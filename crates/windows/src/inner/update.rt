@@ -6,20 +6,23 @@ ghost use Prim.Native.Nat.{_<_};
 ghost use lib.Dec.{eqb};
 ghost use lib.ListN.{getD};
 ghost use Rattle.geom.specs.Rect16.{Small, rectOf};
-ghost use Rattle.window.specs.Held.{winOf, RepWindow};
+ghost use Rattle.window.specs.Represents.{winOf, RepWindow};
 ghost use Rattle.window.specs.inner.Ids.{noId};
 ghost use Rattle.windows.specs.View.{Given};
-ghost use Rattle.windows.specs.inner.Walk.{indebted};
+ghost use Rattle.windows.specs.inner.Sharing.{indebted};
 ghost use Rattle.windows.specs.inner.Pixels.{Becomes};
-ghost use Rattle.windows.specs.inner.Dims.{goes, Unmoved, StaysAt, Collects, Plans, Planned, Movable, Moved, MovesAll};
+ghost use Rattle.windows.specs.inner.Maximise.{goes, Unmoved, StaysAt, Collects, Plans, Planned, Movable, Moved, MovesAll};
 use crate::Done;
 use crate::Session;
 use crate::Shared;
 use crate::inner::frames::frames;
-use crate::inner::store::taken;
-use display::dims::Moves;
-use display::dims::all_fit;
-use display::dims::resize_all;
+use crate::inner::store::resized_to;
+use display::update::Moves;
+use display::update::all_fit;
+use display::update::resize_all;
+use geom::answers::OK;
+use geom::answers::STORE_LENGTH;
+use geom::answers::WINDOW_SIZE;
 use geom::inner::rect16::Rect16;
 use window::Window;
 use window::ids::WinId;
@@ -41,10 +44,10 @@ pub struct DimsPlan {
 }
 
 // Whether a window goes: it takes a display, or its rectangle changes.
-fn changes(old: Rect16, at: Rect16, takes: bool) -> bool
-    ensures { λ b. ⌜ (b ≡ true → Unmoved (rectOf old) (rectOf at) takes → ⊥) × (b ≡ false → Unmoved (rectOf old) (rectOf at) takes) ⌝ }
+fn changes(old: Rect16, at: Rect16, resizes: bool) -> bool
+    ensures { λ b. ⌜ (b ≡ true → Unmoved (rectOf old) (rectOf at) resizes → ⊥) × (b ≡ false → Unmoved (rectOf old) (rectOf at) resizes) ⌝ }
 {
-    if takes {
+    if resizes {
         return true;
     }
     if at.x != old.x {
@@ -73,19 +76,23 @@ fn accepted(old: [Rect16; 16], moves: Moves) -> DimsPlan
     ensures { λ t. ⌜ Collects (StaysAt old moves) 16 (t .n) (t .what .order) × (t .answer ≡ 0) × (t .what .moves ≡ moves) ⌝ }
 {
     let areas = moves.areas;
-    let takes = moves.takes;
+    let resizes = moves.resizes;
     let mut order = [WinId(0); 16];
     let mut n: usize = 0;
     let mut i: usize = 0;
     while i < 16 {
-        if changes(old[i], areas[i], takes[i]) {
+        if changes(old[i], areas[i], resizes[i]) {
             order[n] = WinId(i as u32);
             n += 1;
         }
         i += 1;
     }
     let what = Moving { order, moves };
-    DimsPlan { n, answer: 0, what }
+    DimsPlan {
+        n,
+        answer: OK,
+        what,
+    }
 }
 
 // Question 6 is asked of all windows before the pixels of any are resized.
@@ -101,10 +108,10 @@ pub fn plan_moves(s: Session, store: &mut [u32]) -> DimsPlan
     let moves = displays.moves(old, used, flags);
     let c = s.shared.c as usize;
     if store.len() != 16 * c {
-        return refused(moves, 1);
+        return refused(moves, STORE_LENGTH);
     }
     if !all_fit(moves, s.shared.c) {
-        return refused(moves, 6);
+        return refused(moves, WINDOW_SIZE);
     }
     resize_all(store, c, old, moves);
     accepted(old, moves)
@@ -121,12 +128,12 @@ pub fn place(m: Moving, p: usize) -> usize
 }
 
 // A window where it goes, by the rule of resize if it takes a display there.
-fn placed(mut win: Window, at: Rect16, takes: bool) -> Window
+fn placed(mut win: Window, at: Rect16, resizes: bool) -> Window
     requires { ⌜ RepWindow win × Small (rectOf at) ⌝ }
-    ensures { λ r. ⌜ Becomes win (goes takes (rectOf at) (winOf win)) r ⌝ }
+    ensures { λ r. ⌜ Becomes win (goes resizes (rectOf at) (winOf win)) r ⌝ }
 {
-    if takes {
-        return taken(win, at);
+    if resizes {
+        return resized_to(win, at);
     }
     win.at = at;
     win
@@ -139,15 +146,15 @@ pub fn turn(win: Window, m: Moving, at: usize) -> Window
 {
     let moves = m.moves;
     let areas = moves.areas;
-    let takes = moves.takes;
-    placed(win, areas[at], takes[at])
+    let resizes = moves.resizes;
+    placed(win, areas[at], resizes[at])
 }
 
 // What the windows share after the turns: a full redraw is owed, if the call was accepted. The plan is not needed.
 pub fn settle(shared: Shared, m: Moving, answer: u32) -> Shared
     ensures { λ r. ⌜ r ≡ cond (eqb answer 0) (indebted shared) shared ⌝ }
 {
-    if answer == 0 {
+    if answer == OK {
         return shared.owing();
     }
     shared

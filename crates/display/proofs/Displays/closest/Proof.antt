@@ -7,7 +7,7 @@ use Rattle.geom.specs.declared.Rect.{Rect}
 use Rattle.geom.specs.Nearest.{nearestX, nearestY, distance²}
 use Rattle.geom.specs.Displays.{away²}
 use Rattle.geom.specs.Rect16.{rectOf}
-use Rattle.display.specs.Held.{OnScreen}
+use Rattle.display.specs.Represents.{OnScreen}
 use Rattle.display.proofs.laws.Regions.{region, screen-fits, screen-solid}
 use Rattle.display.proofs.laws.Search.{near-enough, Nearing, is-nearer, not-nearer, at-end}
 use borrow.Author.Needs.{needs}

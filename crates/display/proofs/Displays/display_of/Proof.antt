@@ -4,7 +4,7 @@ use Rattle.geom.specs.Displays as rule
 use Rattle.geom.specs.Displays.{answered, displayFor}
 use Rattle.geom.specs.Rect16.{Small, rectOf}
 use Rattle.display.specs.declared.Located.{Located}
-use Rattle.display.specs.Held.{regions, locatedOf}
+use Rattle.display.specs.Represents.{regions, locatedOf}
 use Rattle.display.proofs.laws.Regions.{answer-small}
 use native.Mathlib.Omega.{arith}
 use Rattle.rules.specs.Displays.{onOnly, locate}

@@ -6,7 +6,7 @@ use mathlib.Core.Option.{Option}
 use Rattle.geom.specs.declared.Rect.{Rect}
 use Rattle.geom.specs.Displays.{closest, firstOn, closestTo, onOr, displayFor}
 use Rattle.display.specs.declared.AtPos.{AtPos}
-use Rattle.display.specs.Held.{regionOf}
+use Rattle.display.specs.Represents.{regionOf}
 use borrow.Author.Needs.{needs}
 use Rattle.display.proofs.Displays.get_display_for_pos.Statement.{statement}
 use Rattle.display.proofs.Displays.get_display_for_pos.Tie as tie

@@ -1,19 +1,19 @@
 -- Of the windows passed it is known where they go.
 use Prim.Native.Nat.{_-_, _≤_}
 use native.Mathlib.Omega.{arith}
-use Rattle.display.specs.Held.{regions}
-use Rattle.display.specs.inner.Dims.{MovesTo}
-use Rattle.display.proofs.laws.Dims.{moves-none, moves-more, moves-all}
+use Rattle.display.specs.Represents.{regions}
+use Rattle.display.specs.inner.Update.{MovesTo}
+use Rattle.display.proofs.laws.Update.{moves-none, moves-more, moves-all}
 use borrow.Author.Needs.{needs}
 use Rattle.display.proofs.Displays.moves.Statement.{statement}
 use Rattle.display.proofs.Displays.moves.Tie as tie
 
 abbrev Inv-loop : tie.InvT-loop
-Inv-loop self areas used maximised to₀ takes₀ i₀ to takes i =
-    (i ≤ 16) × MovesTo (regions self) areas used maximised i (record { areas = to; takes = takes })
+Inv-loop self areas used maximised to₀ resizes₀ i₀ to resizes i =
+    (i ≤ 16) × MovesTo (regions self) areas used maximised i (record { areas = to; resizes = resizes })
 
 abbrev μ-loop : tie.MeasureT-loop
-μ-loop self areas used maximised to₀ takes₀ i₀ to takes i = 16 - i
+μ-loop self areas used maximised to₀ resizes₀ i₀ to resizes i = 16 - i
 
 loop-holds : tie.Need-loop-holds Inv-loop μ-loop
 loop-holds c = (omega arith, moves-none _ _ (search needs) (search needs))
@@ -42,8 +42,8 @@ mul-to c = search needs
 array-set-from-to : tie.Need-array-set-from-to Inv-loop μ-loop
 array-set-from-to c = search needs
 
-array-write-takes : tie.Need-array-write-takes Inv-loop μ-loop
-array-write-takes c = search needs
+array-write-resizes : tie.Need-array-write-resizes Inv-loop μ-loop
+array-write-resizes c = search needs
 
 add-i : tie.Need-add-i Inv-loop μ-loop
 add-i c = search needs
@@ -76,7 +76,7 @@ moves-spec =
     updated-at-requires
     mul-to
     array-set-from-to
-    array-write-takes
+    array-write-resizes
     add-i
     loop-less
     loop-again

@@ -1,7 +1,7 @@
 -- The full rectangle where the rule's test passes, else the entries.
 use mathlib.Core.Path.{_≡_, _∙_}
 use mathlib.Core.Bool.{_||_}
-use Rattle.window.specs.Held.{rects}
+use Rattle.window.specs.Represents.{rects}
 use Rattle.rules.specs.Redraw.{none?}
 use Rattle.order.proofs.laws.Above.{dirty-full}
 use borrow.Author.Needs.{needs}

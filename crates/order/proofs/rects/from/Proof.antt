@@ -39,19 +39,19 @@ mul-area c = search needs
 array-copy-out-area : tie.Need-array-copy-out-area Inv-loop μ-loop
 array-copy-out-area c = low (c .before .before)
 
-slice-aggregate-put : tie.Need-slice-aggregate-put Inv-loop μ-loop
-slice-aggregate-put c = search needs
+slice-aggregate-write-rect : tie.Need-slice-aggregate-write-rect Inv-loop μ-loop
+slice-aggregate-write-rect c = search needs
 
 rect-requires : tie.Need-rect-requires Inv-loop μ-loop
 rect-requires c κs = search needs
 
-put-requires : tie.Need-put-requires Inv-loop μ-loop
-put-requires c κs =
+write-rect-requires : tie.Need-write-rect-requires Inv-loop μ-loop
+write-rect-requires c κs =
     let t = c .before .before .before .before .before in
     omega (arith, t .loop-test .taken, t .before .loop .inv .0, t .before .loop .inv .1 .holds .room, t .before .before .pre .0 .few)
 
 -- the turn, from the place behind the call of `put`
-abbrev turn : tie.After-put Inv-loop μ-loop → tie.In-loop Inv-loop μ-loop
+abbrev turn : tie.After-write-rect Inv-loop μ-loop → tie.In-loop Inv-loop μ-loop
 turn c = c .before .before .before .before .before .before
 
 add-next : tie.Need-add-next Inv-loop μ-loop
@@ -67,14 +67,14 @@ loop-less c = let t = turn (c .before) in omega (arith, t .loop-test .taken)
 
 loop-again : tie.Need-loop-again Inv-loop μ-loop
 loop-again c =
-    let put = c .before in
-    let t = turn put in
+    let write-rect = c .before in
+    let t = turn write-rect in
     let s = t .before .before in
     let a = s .args in
     let q = t .before .loop .inv in (
       omega (arith, q .0),
       above-next (a .t1) (a .t2) (a .shown) (a .p .0) (search needs) (s .pre .0 .few) (q .1) _ (q .0) (t .loop-test .taken) _ refl
-          (s .pre .0 .small _ (low t)) _ (rw (put .before .rect .ensures) at (put .put .ensures)),
+          (s .pre .0 .small _ (low t)) _ (rw (write-rect .before .rect .ensures) at (write-rect .write-rect .ensures)),
     )
 
 returns : tie.Need-returns Inv-loop μ-loop
@@ -96,9 +96,9 @@ from-spec =
     cast-at
     mul-area
     array-copy-out-area
-    slice-aggregate-put
+    slice-aggregate-write-rect
     rect-requires
-    put-requires
+    write-rect-requires
     add-next
     add-i
     loop-less

@@ -7,19 +7,19 @@ use Rattle.replay.proofs.sheets.read_sheet.Tie as tie
 list-len-requires : tie.Need-list-len-requires
 list-len-requires c κs = search needs
 
-asked-requires : tie.Need-asked-requires
-asked-requires c κs =
+read-numbers-requires : tie.Need-read-numbers-requires
+read-numbers-requires c κs =
     let p = c .before .before .pre in
     let b = p .1 .bytes (p .2) in
     (b .0, b .1, search needs)
 
-put-rects-requires : tie.Need-put-rects-requires
-put-rects-requires c κs =
+write-rects-requires : tie.Need-write-rects-requires
+write-rects-requires c κs =
     let q = c .before .before in
-    (omega (arith, q .asked .ensures .room, q .before .before .list-len .ensures .1), search needs)
+    (omega (arith, q .read-numbers .ensures .room, q .before .before .list-len .ensures .1), search needs)
 
 returns : tie.Need-returns
 returns c = search needs
 
 pub read-sheet-spec : {M : Type 1} → statement M
-read-sheet-spec = tie.close (tie.spec list-len-requires asked-requires put-rects-requires returns)
+read-sheet-spec = tie.close (tie.spec list-len-requires read-numbers-requires write-rects-requires returns)

@@ -45,19 +45,19 @@ mul-n c =
     let lent = c .before .before .before in
     record { fits = omega (arith, inside lent, lent .if2 .taken, entry lent .pre .1) }
 
-cast-put : tie.Need-cast-put
-cast-put c = search needs
+cast-write-pixels : tie.Need-cast-write-pixels
+cast-write-pixels c = search needs
 
-mul-put : tie.Need-mul-put
-mul-put c =
+mul-write-pixels : tie.Need-mul-write-pixels
+mul-write-pixels c =
     let lent = c .before .before .before .before .before in
     record { fits = omega (arith, inside lent, lent .if2 .taken, entry lent .pre .1) }
 
-put-requires : tie.Need-put-requires
-put-requires c κs =
+write-pixels-requires : tie.Need-write-pixels-requires
+write-pixels-requires c κs =
     let lent = c .before .before .before .before .before .before in (
       omega
-          (arith, inside lent, lent .if2 .taken, entry lent .pre .1, c .before .before .put-arg .given),
+          (arith, inside lent, lent .if2 .taken, entry lent .pre .1, c .before .before .write-pixels-arg .given),
       entry lent .pre .2,
     )
 
@@ -81,9 +81,9 @@ pixels-spec =
     cast-n
     cast-n-2
     mul-n
-    cast-put
-    mul-put
-    put-requires
+    cast-write-pixels
+    mul-write-pixels
+    write-pixels-requires
     returns
     answer-requires
     returns-2)

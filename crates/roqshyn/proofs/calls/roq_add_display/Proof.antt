@@ -4,16 +4,16 @@ use contract.Running.{tables}
 use denote.Triple.Spec.{tripleOf}
 use denote.Triple.Table.{entered}
 use Rattle.rules.specs.Calls.{AddDisplay}
-use Rattle.display.specs.Held.{RepDisplays, Adds}
+use Rattle.display.specs.Represents.{RepDisplays, Adds}
 use Rattle.display.proofs.Displays.add.Symbol as value
 use Rattle.display.proofs.Displays.add.Met as value′
 use Rattle.windows.specs.View.{Given, Meets}
 use Rattle.windows.specs.View as View
-use Rattle.windows.proofs.laws.Dims.{adds-display}
-use Rattle.roqshyn.proofs.shims.Field as shim
-use Rattle.roqshyn.proofs.shims.Args.{value as plain}
-use Rattle.roqshyn.proofs.shims.Slots.{third}
-use Rattle.roqshyn.proofs.shims.Parameters.{window, shared, displays, rect, number, windows, added}
+use Rattle.windows.proofs.laws.Maximised.{adds-display}
+use Rattle.roqshyn.proofs.forms.Field as shim
+use Rattle.roqshyn.proofs.forms.Args.{value as plain}
+use Rattle.roqshyn.proofs.forms.Slots.{third}
+use Rattle.roqshyn.proofs.forms.Parameters.{window, shared, displays, rect, number, windows, added}
 use Rattle.roqshyn.proofs.calls.roq_add_display as f
 use Rattle.roqshyn.proofs.calls.roq_add_display.Key as key
 use Rattle.roqshyn.proofs.calls.roq_add_display.Statement.{statement}

@@ -11,11 +11,11 @@ use Rattle.windows.specs.inner.One.{MeetsShared}
 use Rattle.windows.proofs.inner.portion.begin as g
 use Rattle.windows.proofs.inner.portion.begin.Symbol as value
 use Rattle.windows.proofs.inner.portion.begin.Met as value′
-use Rattle.roqshyn.proofs.shims.Field as shim
-use Rattle.roqshyn.proofs.shims.Args.{value as plain}
-use Rattle.roqshyn.proofs.shims.Slots.{second}
-use Rattle.roqshyn.proofs.shims.Steps.{asks-nothing}
-use Rattle.roqshyn.proofs.shims.Parameters.{window, shared, displays, number, flag, windows, sharedDone}
+use Rattle.roqshyn.proofs.forms.Field as shim
+use Rattle.roqshyn.proofs.forms.Args.{value as plain}
+use Rattle.roqshyn.proofs.forms.Slots.{second}
+use Rattle.roqshyn.proofs.forms.Steps.{asks-nothing}
+use Rattle.roqshyn.proofs.forms.Parameters.{window, shared, displays, number, flag, windows, sharedDone}
 use Rattle.roqshyn.proofs.calls.roq_begin as f
 use Rattle.roqshyn.proofs.calls.roq_begin.Key as key
 use Rattle.roqshyn.proofs.calls.roq_begin.Statement.{statement}

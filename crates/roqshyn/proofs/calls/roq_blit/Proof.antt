@@ -14,11 +14,11 @@ use Rattle.windows.proofs.inner.one.slot.Symbol as find
 use Rattle.windows.proofs.inner.one.slot.Met as find′
 use Rattle.windows.proofs.inner.store.blit.Symbol as value
 use Rattle.windows.proofs.inner.store.blit.Met as value′
-use Rattle.roqshyn.proofs.shims.Fields as shim
-use Rattle.roqshyn.proofs.shims.Args.{value, reads, writes}
-use Rattle.roqshyn.proofs.shims.Parameters.{window, shared, displays, winId, rect, size, number, flag, windows}
-use Rattle.roqshyn.proofs.shims.Parameters.{altered}
-use Rattle.roqshyn.proofs.shims.Ways.{area, damage, its-used, its-at, its-damage, its-c, painted}
+use Rattle.roqshyn.proofs.forms.Fields as shim
+use Rattle.roqshyn.proofs.forms.Args.{value, reads, writes}
+use Rattle.roqshyn.proofs.forms.Parameters.{window, shared, displays, winId, rect, size, number, flag, windows}
+use Rattle.roqshyn.proofs.forms.Parameters.{altered}
+use Rattle.roqshyn.proofs.forms.Ways.{area, damage, its-used, its-at, its-damage, its-c, painted}
 use Rattle.roqshyn.proofs.calls.roq_blit as f
 use Rattle.roqshyn.proofs.calls.roq_blit.Key as key
 use Rattle.roqshyn.proofs.calls.roq_blit.Statement.{statement}

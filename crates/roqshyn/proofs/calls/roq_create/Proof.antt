@@ -14,8 +14,8 @@ use Rattle.windows.proofs.inner.one.free_slot.Symbol as find
 use Rattle.windows.proofs.inner.one.free_slot.Met as find′
 use Rattle.roqshyn.proofs.values.create.Symbol as value
 use Rattle.roqshyn.proofs.values.create.Met as value′
-use Rattle.roqshyn.proofs.shims.Seek as shim
-use Rattle.roqshyn.proofs.shims.Parameters.{window, shared, displays, winId, created, windows, free, made}
+use Rattle.roqshyn.proofs.forms.Seek as shim
+use Rattle.roqshyn.proofs.forms.Parameters.{window, shared, displays, winId, created, windows, free, made}
 use Rattle.roqshyn.proofs.calls.roq_create as f
 use Rattle.roqshyn.proofs.calls.roq_create.Key as key
 use Rattle.roqshyn.proofs.calls.roq_create.Statement.{statement}

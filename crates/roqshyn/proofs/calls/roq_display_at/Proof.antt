@@ -9,9 +9,9 @@ use Rattle.windows.specs.View.{group, Given}
 use Rattle.roqshyn.specs.Answers.{displayed}
 use Rattle.roqshyn.proofs.values.display_at.Symbol as value
 use Rattle.roqshyn.proofs.values.display_at.Met as value′
-use Rattle.roqshyn.proofs.shims.Args.{value as plain}
-use Rattle.roqshyn.proofs.shims.Read as shim
-use Rattle.roqshyn.proofs.shims.Parameters.{session, number, display}
+use Rattle.roqshyn.proofs.forms.Args.{value as plain}
+use Rattle.roqshyn.proofs.forms.Read as shim
+use Rattle.roqshyn.proofs.forms.Parameters.{session, number, display}
 use Rattle.roqshyn.proofs.calls.roq_display_at as f
 use Rattle.roqshyn.proofs.calls.roq_display_at.Key as key
 use Rattle.roqshyn.proofs.calls.roq_display_at.Statement.{statement}

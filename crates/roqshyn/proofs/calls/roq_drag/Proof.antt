@@ -6,7 +6,7 @@ use lib.ListN.{getD}
 use contract.Running.{tables}
 use denote.Triple.Spec.{tripleOf}
 use denote.Triple.Table.{entered}
-use Rattle.window.specs.Held.{winOf}
+use Rattle.window.specs.Represents.{winOf}
 use Rattle.window.specs.inner.Ids.{noId}
 use Rattle.rules.specs.Calls.{Drag}
 use Rattle.windows.specs.View.{Given, Meets}
@@ -23,10 +23,10 @@ use Rattle.windows.proofs.inner.drag.turn.Met as turn′
 use Rattle.windows.proofs.inner.drag.settle as g
 use Rattle.windows.proofs.inner.drag.settle.Symbol as settle
 use Rattle.windows.proofs.inner.drag.settle.Met as settle′
-use Rattle.roqshyn.proofs.shims.Turns as shim
-use Rattle.roqshyn.proofs.shims.Args.{value as plain}
-use Rattle.roqshyn.proofs.shims.Steps.{asks-nothing}
-use Rattle.roqshyn.proofs.shims.Parameters.{window, shared, displays, winId, dragging, number, windows, dragPlan}
+use Rattle.roqshyn.proofs.forms.Turns as shim
+use Rattle.roqshyn.proofs.forms.Args.{value as plain}
+use Rattle.roqshyn.proofs.forms.Steps.{asks-nothing}
+use Rattle.roqshyn.proofs.forms.Parameters.{window, shared, displays, winId, dragging, number, windows, dragPlan}
 use Rattle.roqshyn.proofs.calls.roq_drag as f
 use Rattle.roqshyn.proofs.calls.roq_drag.Key as key
 use Rattle.roqshyn.proofs.calls.roq_drag.Statement.{statement}

@@ -12,8 +12,8 @@ use Rattle.windows.proofs.inner.one.slot.Symbol as find
 use Rattle.windows.proofs.inner.one.slot.Met as find′
 use Rattle.windows.proofs.inner.one.drop.Symbol as value
 use Rattle.windows.proofs.inner.one.drop.Met as value′
-use Rattle.roqshyn.proofs.shims.Place as shim
-use Rattle.roqshyn.proofs.shims.Parameters.{window, shared, displays, winId, number, windows, changed}
+use Rattle.roqshyn.proofs.forms.Place as shim
+use Rattle.roqshyn.proofs.forms.Parameters.{window, shared, displays, winId, number, windows, changed}
 use Rattle.roqshyn.proofs.calls.roq_drop as f
 use Rattle.roqshyn.proofs.calls.roq_drop.Key as key
 use Rattle.roqshyn.proofs.calls.roq_drop.Statement.{statement}

@@ -9,9 +9,9 @@ use Rattle.windows.specs.View.{group}
 use Rattle.windows.proofs.Session.focus as g
 use Rattle.windows.proofs.Session.focus.Symbol as value
 use Rattle.windows.proofs.Session.focus.Met as value′
-use Rattle.roqshyn.proofs.shims.Read as shim
-use Rattle.roqshyn.proofs.shims.Steps.{asks-nothing, nothing-asked}
-use Rattle.roqshyn.proofs.shims.Parameters.{session, winId}
+use Rattle.roqshyn.proofs.forms.Read as shim
+use Rattle.roqshyn.proofs.forms.Steps.{asks-nothing, nothing-asked}
+use Rattle.roqshyn.proofs.forms.Parameters.{session, winId}
 use Rattle.roqshyn.proofs.calls.roq_focus as f
 use Rattle.roqshyn.proofs.calls.roq_focus.Key as key
 use Rattle.roqshyn.proofs.calls.roq_focus.Statement.{statement}

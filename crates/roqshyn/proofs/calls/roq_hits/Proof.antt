@@ -7,10 +7,10 @@ use denote.Triple.Table.{entered}
 use Rattle.windows.specs.View.{group, Given, Hits}
 use Rattle.windows.proofs.Session.hits.Symbol as value
 use Rattle.windows.proofs.Session.hits.Met as value′
-use Rattle.roqshyn.proofs.shims.Args.{reads, writes}
-use Rattle.roqshyn.proofs.shims.Args.{reads, writes}
-use Rattle.roqshyn.proofs.shims.Read as shim
-use Rattle.roqshyn.proofs.shims.Parameters.{session, number}
+use Rattle.roqshyn.proofs.forms.Args.{reads, writes}
+use Rattle.roqshyn.proofs.forms.Args.{reads, writes}
+use Rattle.roqshyn.proofs.forms.Read as shim
+use Rattle.roqshyn.proofs.forms.Parameters.{session, number}
 use Rattle.roqshyn.proofs.calls.roq_hits as f
 use Rattle.roqshyn.proofs.calls.roq_hits.Key as key
 use Rattle.roqshyn.proofs.calls.roq_hits.Statement.{statement}

@@ -8,9 +8,9 @@ use Rattle.windows.specs.View.{group, Given, Looks}
 use Rattle.roqshyn.specs.Looks.{lookOf}
 use Rattle.roqshyn.proofs.looks.look.Symbol as value
 use Rattle.roqshyn.proofs.looks.look.Met as value′
-use Rattle.roqshyn.proofs.shims.Args.{value, reads, writes}
-use Rattle.roqshyn.proofs.shims.Read as shim
-use Rattle.roqshyn.proofs.shims.Parameters.{session, winId, look, number}
+use Rattle.roqshyn.proofs.forms.Args.{value, reads, writes}
+use Rattle.roqshyn.proofs.forms.Read as shim
+use Rattle.roqshyn.proofs.forms.Parameters.{session, winId, look, number}
 use Rattle.roqshyn.proofs.calls.roq_look as f
 use Rattle.roqshyn.proofs.calls.roq_look.Key as key
 use Rattle.roqshyn.proofs.calls.roq_look.Statement.{statement}

@@ -7,15 +7,15 @@ use denote.Triple.Table.{entered}
 use Rattle.rules.specs.Calls.{Portion}
 use Rattle.windows.specs.View.{Given, MeetsScreen}
 use Rattle.windows.specs.View as View
-use Rattle.windows.specs.inner.Walk.{Turns, Turned, TreatsAt}
+use Rattle.windows.specs.inner.Sharing.{Turns, Turned, TreatsAt}
 use Rattle.windows.proofs.laws.Portions.{own-turn, turned}
 use Rattle.windows.proofs.inner.portion.whose_turn.Symbol as find
 use Rattle.windows.proofs.inner.portion.whose_turn.Met as find′
 use Rattle.windows.proofs.inner.portion.treat.Symbol as value
 use Rattle.windows.proofs.inner.portion.treat.Met as value′
-use Rattle.roqshyn.proofs.shims.Turn as shim
-use Rattle.roqshyn.proofs.shims.Args.{value as plain, reads, writes}
-use Rattle.roqshyn.proofs.shims.Parameters.{window, shared, displays, next, number, windows, turn, changed}
+use Rattle.roqshyn.proofs.forms.Turn as shim
+use Rattle.roqshyn.proofs.forms.Args.{value as plain, reads, writes}
+use Rattle.roqshyn.proofs.forms.Parameters.{window, shared, displays, next, number, windows, turn, changed}
 use Rattle.roqshyn.proofs.calls.roq_portion as f
 use Rattle.roqshyn.proofs.calls.roq_portion.Key as key
 use Rattle.roqshyn.proofs.calls.roq_portion.Statement.{statement}

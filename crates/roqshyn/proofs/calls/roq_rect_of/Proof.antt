@@ -8,9 +8,9 @@ use Rattle.windows.specs.View as View
 use Rattle.windows.specs.View.{group, Given}
 use Rattle.windows.proofs.Session.rect_of.Symbol as value
 use Rattle.windows.proofs.Session.rect_of.Met as value′
-use Rattle.roqshyn.proofs.shims.Args.{value}
-use Rattle.roqshyn.proofs.shims.Read as shim
-use Rattle.roqshyn.proofs.shims.Parameters.{session, winId, placed}
+use Rattle.roqshyn.proofs.forms.Args.{value}
+use Rattle.roqshyn.proofs.forms.Read as shim
+use Rattle.roqshyn.proofs.forms.Parameters.{session, winId, placed}
 use Rattle.roqshyn.proofs.calls.roq_rect_of as f
 use Rattle.roqshyn.proofs.calls.roq_rect_of.Key as key
 use Rattle.roqshyn.proofs.calls.roq_rect_of.Statement.{statement}

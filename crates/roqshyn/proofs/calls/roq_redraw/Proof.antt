@@ -22,9 +22,9 @@ use Rattle.roqshyn.proofs.redraw.draw_turn.Symbol as turn
 use Rattle.roqshyn.proofs.redraw.draw_turn.Met as turn′
 use Rattle.roqshyn.proofs.redraw.paid.Symbol as paid
 use Rattle.roqshyn.proofs.redraw.paid.Met as paid′
-use Rattle.roqshyn.proofs.shims.Each as shim
-use Rattle.roqshyn.proofs.shims.Parameters.{window, shared, displays, flag, number, windows}
-use Rattle.roqshyn.proofs.shims.Spots.{byte, damage, due, damaged, marked, entries, dues, order, layout, redrawPlan, cleared}
+use Rattle.roqshyn.proofs.forms.Each as shim
+use Rattle.roqshyn.proofs.forms.Parameters.{window, shared, displays, flag, number, windows}
+use Rattle.roqshyn.proofs.forms.Spots.{byte, damage, due, damaged, marked, entries, dues, order, layout, redrawPlan, cleared}
 use Rattle.roqshyn.proofs.calls.roq_redraw as f
 use Rattle.roqshyn.proofs.calls.roq_redraw.Key as key
 use Rattle.roqshyn.proofs.calls.roq_redraw.Statement.{statement}

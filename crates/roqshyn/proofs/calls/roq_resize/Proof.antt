@@ -13,9 +13,9 @@ use Rattle.windows.proofs.inner.one.slot.Symbol as find
 use Rattle.windows.proofs.inner.one.slot.Met as find′
 use Rattle.windows.proofs.inner.store.resize.Symbol as value
 use Rattle.windows.proofs.inner.store.resize.Met as value′
-use Rattle.roqshyn.proofs.shims.Place as shim
-use Rattle.roqshyn.proofs.shims.Args.{value, writes}
-use Rattle.roqshyn.proofs.shims.Parameters.{window, shared, displays, winId, number, windows, changed}
+use Rattle.roqshyn.proofs.forms.Place as shim
+use Rattle.roqshyn.proofs.forms.Args.{value, writes}
+use Rattle.roqshyn.proofs.forms.Parameters.{window, shared, displays, winId, number, windows, changed}
 use Rattle.roqshyn.proofs.calls.roq_resize as f
 use Rattle.roqshyn.proofs.calls.roq_resize.Key as key
 use Rattle.roqshyn.proofs.calls.roq_resize.Statement.{statement}

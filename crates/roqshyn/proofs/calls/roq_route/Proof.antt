@@ -7,13 +7,13 @@ use contract.Running.{tables}
 use denote.Triple.Spec.{tripleOf}
 use denote.Triple.Table.{entered}
 use Rattle.window.specs.declared.Window.{Window}
-use Rattle.window.specs.Held.{RepCursor, place, noSlot}
+use Rattle.window.specs.Represents.{RepCursor, place, noSlot}
 use Rattle.windows.specs.declared.Session.{Session}
 use Rattle.windows.specs.declared.inner.events.Aim.{Aim}
 use Rattle.windows.specs.declared.inner.events.Told.{Told}
 use Rattle.windows.specs.View.{Given, windowAt, done}
-use Rattle.windows.specs.inner.One.{put}
-use Rattle.windows.specs.inner.Walk.{holding}
+use Rattle.windows.specs.inner.One.{withWindow}
+use Rattle.windows.specs.inner.Sharing.{grabbing}
 use Rattle.windows.specs.inner.Events.{Tellable}
 use Rattle.windows.specs.inner.Aimed.{Hears, Aims, toldBack}
 use Rattle.windows.proofs.laws.Aimed.{told-there}
@@ -25,10 +25,10 @@ use Rattle.window.proofs.queue.back.Symbol as back
 use Rattle.window.proofs.queue.back.Met as back′
 use Rattle.windows.proofs.inner.events.tell.Symbol as value
 use Rattle.windows.proofs.inner.events.tell.Met as value′
-use Rattle.roqshyn.proofs.shims.Back as shim
-use Rattle.roqshyn.proofs.shims.Parameters.{window, shared, displays, event, message, number, winId, windows}
-use Rattle.roqshyn.proofs.shims.Ways.{small, cursor, its-cursor, its-held}
-use Rattle.roqshyn.proofs.shims.Queues.{slot, its-head, its-len, its-slots, aim, told}
+use Rattle.roqshyn.proofs.forms.Back as shim
+use Rattle.roqshyn.proofs.forms.Parameters.{window, shared, displays, event, message, number, winId, windows}
+use Rattle.roqshyn.proofs.forms.Ways.{small, cursor, its-cursor, its-grab}
+use Rattle.roqshyn.proofs.forms.Queues.{slot, its-head, its-len, its-slots, aim, told}
 use Rattle.roqshyn.proofs.calls.roq_route as f
 use Rattle.roqshyn.proofs.calls.roq_route.Key as key
 use Rattle.roqshyn.proofs.calls.roq_route.Statement.{statement}
@@ -50,16 +50,16 @@ with k d w =
 routed : (s : Session) (e : RoqEvent) (t : Aim) (k : ℕ) (d : Told) → Given s → Aims (Routes (eventOf e) s) s t
     → (let w = windowAt s (t .at) in k ≡ place (w .queue .head) (w .queue .len))
     → (let w = windowAt s (t .at) in Hears (getD (w .queue .slots) k noSlot) (w .cursor) (w .queue .len)
-    (s .shared .held) (t .what) d)
-    → Routes (eventOf e) s (done (put (t .at) (with k d (windowAt s (t .at))) (holding (d .held) (s .shared)) s)
+    (s .shared .grab) (t .what) d)
+    → Routes (eventOf e) s (done (withWindow (t .at) (with k d (windowAt s (t .at))) (grabbing (d .grab) (s .shared)) s)
     (d .answer))
 routed s e t k d h p is hears =
     let w = windowAt s (t .at) in
-    subst (λ (m : ℕ). Routes (eventOf e) s (done (put (t .at) (with m d w) (holding (d .held) (s .shared)) s)
+    subst (λ (m : ℕ). Routes (eventOf e) s (done (withWindow (t .at) (with m d w) (grabbing (d .grab) (s .shared)) s)
     (d .answer))) (sym is)
     (told-there (Routes (eventOf e) s) s t (record {
       window = toldBack d w;
-      shared = holding (d .held) (s .shared);
+      shared = grabbing (d .grab) (s .shared);
       answer = d .answer;
     }) p
     (hears w (s .shared) (record {
@@ -67,7 +67,7 @@ routed s e t k d h p is hears =
       cursor = refl;
       len = refl;
       old = ap (λ (m : ℕ). getD (w .queue .slots) m noSlot) (sym is);
-      held = refl;
+      grab = refl;
     })))
 
 pub roq-route-spec : {M : Type 1} → statement M
@@ -76,7 +76,7 @@ roq-route-spec 𝓤 H 𝓜 𝓖 𝓡 =
     entered 𝓤 H (tripleOf 𝓤 H (𝓖 .A) f.signature (f.spec 𝓤 H (𝓖 .A) (𝓜 .mem) (𝓡 .run)))
     (tables 𝓤 H 𝓜 𝓡 code.env .C) (tables 𝓤 H 𝓜 𝓡 code.env .Λ) key.name code.function (code.unfolded 𝓤 H 𝓜 𝓡)
     (shim.meets window shared displays cursor small slot winId message event number windows its-cursor its-head its-len
-    its-slots its-held aim told
+    its-slots its-grab aim told
     Given (λ s e t. Aims (Routes (eventOf e) s) s t) (λ h n. (h < 16) × (n ≤ 16)) (λ h n k. (k ≡ place h n) × (k < 16))
     (λ o p n i m. RepCursor p × (n ≤ 16) × (m .told ≡ true → Tellable (m .event))) (λ o p n i m d. Hears o p n i m d)
     (λ κs s a n t e. Routes (eventOf (a .0)) s (done t n))

@@ -12,9 +12,9 @@ use Rattle.windows.proofs.inner.one.slot.Symbol as find
 use Rattle.windows.proofs.inner.one.slot.Met as find′
 use Rattle.windows.proofs.inner.one.set_layer.Symbol as value
 use Rattle.windows.proofs.inner.one.set_layer.Met as value′
-use Rattle.roqshyn.proofs.shims.Place as shim
-use Rattle.roqshyn.proofs.shims.Args.{value}
-use Rattle.roqshyn.proofs.shims.Parameters.{window, shared, displays, winId, number, windows, changed}
+use Rattle.roqshyn.proofs.forms.Place as shim
+use Rattle.roqshyn.proofs.forms.Args.{value}
+use Rattle.roqshyn.proofs.forms.Parameters.{window, shared, displays, winId, number, windows, changed}
 use Rattle.roqshyn.proofs.calls.roq_set_layer as f
 use Rattle.roqshyn.proofs.calls.roq_set_layer.Key as key
 use Rattle.roqshyn.proofs.calls.roq_set_layer.Statement.{statement}

@@ -6,9 +6,9 @@ use denote.Triple.Table.{entered}
 use Rattle.windows.specs.View.{group, Given, Shares}
 use Rattle.windows.proofs.Session.share.Symbol as value
 use Rattle.windows.proofs.Session.share.Met as value′
-use Rattle.roqshyn.proofs.shims.Args.{value}
-use Rattle.roqshyn.proofs.shims.Read as shim
-use Rattle.roqshyn.proofs.shims.Parameters.{session, winId, inView}
+use Rattle.roqshyn.proofs.forms.Args.{value}
+use Rattle.roqshyn.proofs.forms.Read as shim
+use Rattle.roqshyn.proofs.forms.Parameters.{session, winId, inView}
 use Rattle.roqshyn.proofs.calls.roq_share as f
 use Rattle.roqshyn.proofs.calls.roq_share.Key as key
 use Rattle.roqshyn.proofs.calls.roq_share.Statement.{statement}

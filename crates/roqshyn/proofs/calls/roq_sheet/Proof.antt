@@ -8,9 +8,9 @@ use denote.Triple.Table.{entered}
 use Rattle.windows.specs.View.{group, Given, Prints}
 use Rattle.windows.proofs.Session.sheet.Symbol as value
 use Rattle.windows.proofs.Session.sheet.Met as value′
-use Rattle.roqshyn.proofs.shims.Args.{value, writesOf}
-use Rattle.roqshyn.proofs.shims.Read as shim
-use Rattle.roqshyn.proofs.shims.Parameters.{session, winId, count}
+use Rattle.roqshyn.proofs.forms.Args.{value, writesOf}
+use Rattle.roqshyn.proofs.forms.Read as shim
+use Rattle.roqshyn.proofs.forms.Parameters.{session, winId, count}
 use Rattle.roqshyn.proofs.calls.roq_sheet as f
 use Rattle.roqshyn.proofs.calls.roq_sheet.Key as key
 use Rattle.roqshyn.proofs.calls.roq_sheet.Statement.{statement}

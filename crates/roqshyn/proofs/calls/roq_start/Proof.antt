@@ -7,8 +7,8 @@ use Rattle.windows.specs.View.{Starts}
 use Rattle.windows.specs.View as View
 use Rattle.roqshyn.proofs.values.start.Symbol as value
 use Rattle.roqshyn.proofs.values.start.Met as value′
-use Rattle.roqshyn.proofs.shims.One as shim
-use Rattle.roqshyn.proofs.shims.Parameters.{session, number, done}
+use Rattle.roqshyn.proofs.forms.One as shim
+use Rattle.roqshyn.proofs.forms.Parameters.{session, number, done}
 use Rattle.roqshyn.proofs.calls.roq_start as f
 use Rattle.roqshyn.proofs.calls.roq_start.Key as key
 use Rattle.roqshyn.proofs.calls.roq_start.Statement.{statement}

@@ -13,8 +13,8 @@ use Rattle.window.specs.inner.Ids.{noId}
 use Rattle.rules.specs.Calls.{UpdateDims}
 use Rattle.windows.specs.View.{Given, MeetsStore}
 use Rattle.windows.specs.View as View
-use Rattle.windows.specs.inner.Walk.{indebted}
-use Rattle.windows.specs.inner.Dims.{Plans, Movable, Moved}
+use Rattle.windows.specs.inner.Sharing.{indebted}
+use Rattle.windows.specs.inner.Maximise.{Plans, Movable, Moved}
 use Rattle.windows.proofs.laws.Updated.{Updating, begins, asks, inside, movable, goes-on, ends}
 use Rattle.windows.proofs.inner.update.plan_moves.Symbol as plan
 use Rattle.windows.proofs.inner.update.plan_moves.Met as plan′
@@ -25,10 +25,10 @@ use Rattle.windows.proofs.inner.update.turn.Met as turn′
 use Rattle.windows.proofs.inner.update.settle as g
 use Rattle.windows.proofs.inner.update.settle.Symbol as settle
 use Rattle.windows.proofs.inner.update.settle.Met as settle′
-use Rattle.roqshyn.proofs.shims.Turns as shim
-use Rattle.roqshyn.proofs.shims.Args.{writes}
-use Rattle.roqshyn.proofs.shims.Steps.{asks-nothing}
-use Rattle.roqshyn.proofs.shims.Parameters.{window, shared, displays, moving, number, windows, dimsPlan}
+use Rattle.roqshyn.proofs.forms.Turns as shim
+use Rattle.roqshyn.proofs.forms.Args.{writes}
+use Rattle.roqshyn.proofs.forms.Steps.{asks-nothing}
+use Rattle.roqshyn.proofs.forms.Parameters.{window, shared, displays, moving, number, windows, dimsPlan}
 use Rattle.roqshyn.proofs.calls.roq_update_dims as f
 use Rattle.roqshyn.proofs.calls.roq_update_dims.Key as key
 use Rattle.roqshyn.proofs.calls.roq_update_dims.Statement.{statement}

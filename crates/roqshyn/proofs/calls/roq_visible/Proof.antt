@@ -7,9 +7,9 @@ use denote.Triple.Table.{entered}
 use Rattle.windows.specs.View.{group, Given, Lists}
 use Rattle.windows.proofs.Session.visible.Symbol as value
 use Rattle.windows.proofs.Session.visible.Met as value′
-use Rattle.roqshyn.proofs.shims.Args.{value, writes}
-use Rattle.roqshyn.proofs.shims.Read as shim
-use Rattle.roqshyn.proofs.shims.Parameters.{session, winId, listing}
+use Rattle.roqshyn.proofs.forms.Args.{value, writes}
+use Rattle.roqshyn.proofs.forms.Read as shim
+use Rattle.roqshyn.proofs.forms.Parameters.{session, winId, listing}
 use Rattle.roqshyn.proofs.calls.roq_visible as f
 use Rattle.roqshyn.proofs.calls.roq_visible.Key as key
 use Rattle.roqshyn.proofs.calls.roq_visible.Statement.{statement}

@@ -4,7 +4,7 @@ use mathlib.Core.Path.{_≡_, refl, sym, ap, subst, _∙_}
 use mathlib.Core.Bool.{Bool, cond, _||_}
 use mathlib.Core.List.{[], _∷_}
 use Rattle.geom.specs.Rect16.{Small}
-use Rattle.window.specs.Held.{rects}
+use Rattle.window.specs.Represents.{rects}
 use Rattle.rules.specs.Redraw.{none?}
 use Rattle.order.specs.inner.Rects.{fullRect}
 use Rattle.order.proofs.laws.Above.{dirty-full}

@@ -10,7 +10,7 @@ use Rattle.roqshyn.proofs.redraw.plan.Statement.{statement}
 use Rattle.roqshyn.proofs.redraw.plan.Tie as tie
 
 -- the layout, as full as the rule says
-laid : (c : tie.After-lay-out) → let a = c .before .before .args in LaidOut (a .s) (a .told || a .s .shared .due .owed) (c .lay-out .result)
+laid : (c : tie.After-lay-out) → let a = c .before .before .args in LaidOut (a .s) (a .forced || a .s .shared .due .owed) (c .lay-out .result)
 laid c = let a = c .before .before .args in subst (λ (f : Bool). LaidOut (a .s) f (c .lay-out .result)) (c .before .either .ensures) (c .lay-out .ensures)
 
 either-requires : tie.Need-either-requires
@@ -49,7 +49,7 @@ returns-2 c =
       order = refl;
       layout = laid y;
       accepted = λ e. absurd (suc-ne-zero 7 e);
-      refused = λ n. (refl, no-screen (s .args .s) (s .args .told) (s .args .width) (s .args .height) _ _ (s .pre) (t .if1 .taken) (sym (q .screen-fits .ensures) ∙ c .if2 .left));
+      refused = λ n. (refl, no-screen (s .args .s) (s .args .forced) (s .args .width) (s .args .height) _ _ (s .pre) (t .if1 .taken) (sym (q .screen-fits .ensures) ∙ c .if2 .left));
     }
 
 returns-3 : tie.Need-returns-3
@@ -60,7 +60,7 @@ returns-3 c =
       order = refl;
       layout = laid y;
       accepted = λ e. absurd (suc-ne-zero 0 e);
-      refused = λ n. (refl, no-store (s .args .s) (s .args .told) (s .args .width) (s .args .height) _ _ (s .pre) (c .if1 .left));
+      refused = λ n. (refl, no-store (s .args .s) (s .args .forced) (s .args .width) (s .args .height) _ _ (s .pre) (c .if1 .left));
     }
 
 pub plan-spec : {M : Type 1} → statement M

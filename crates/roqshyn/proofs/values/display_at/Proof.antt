@@ -3,7 +3,7 @@ use Prim.Native.Nat.{ℕ}
 use mathlib.Core.Path.{_≡_, sym, ap, _∙_}
 use Rattle.rules.specs.DisplayAt.{displayAt}
 use Rattle.display.specs.declared.Located.{Located}
-use Rattle.display.specs.Held.{locatedOf}
+use Rattle.display.specs.Represents.{locatedOf}
 use Rattle.windows.specs.declared.Session.{Session}
 use Rattle.windows.specs.declared.ForPos.{ForPos}
 use Rattle.windows.specs.View.{group, Locates}

@@ -65,14 +65,14 @@ has : (c : tie.Then2)
     In (a .r) (getD (a .points .now) (2 * a .i) 0) (getD (a .points .now) (2 * a .i + 1) 0)
 has c = says-in _ _ _ .fact (sym (asks (c .before)) ∙ c .if2 .taken)
 
-sub-put : tie.Need-sub-put
-sub-put c = has (c .before .before) .west
+sub-write-hit : tie.Need-sub-write-hit
+sub-write-hit c = has (c .before .before) .west
 
-sub-put-2 : tie.Need-sub-put-2
-sub-put-2 c = has (c .before .before .before) .north
+sub-write-hit-2 : tie.Need-sub-write-hit-2
+sub-write-hit-2 c = has (c .before .before .before) .north
 
-put-requires : tie.Need-put-requires
-put-requires c κs = search needs
+write-hit-requires : tie.Need-write-hit-requires
+write-hit-requires c κs = search needs
 
 same-length : tie.Need-same-length
 same-length c = search needs
@@ -83,7 +83,7 @@ returns c =
     let t = p .before .before .before .before in
     let a = start (t .before) .args in
     takes (a .id .0) (a .r) (a .points .now) (a .answers .now) (a .i) _ (unanswered (t .before) .if1 .taken)
-    (sym (asks (t .before)) ∙ t .if2 .taken) (p .put .ensures)
+    (sym (asks (t .before)) ∙ t .if2 .taken) (p .write-hit .ensures)
 
 returns-2 : tie.Need-returns-2
 returns-2 c =
@@ -111,9 +111,9 @@ look-spec =
     shared-slice-read-y
     new-requires
     contains-requires
-    sub-put
-    sub-put-2
-    put-requires
+    sub-write-hit
+    sub-write-hit-2
+    write-hit-requires
     same-length
     returns
     returns-2

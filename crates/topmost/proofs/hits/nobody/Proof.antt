@@ -16,8 +16,8 @@ abbrev μ-loop : tie.MeasureT-loop
 loop-holds : tie.Need-loop-holds Inv-loop μ-loop
 loop-holds c = (written-none _ _, omega arith)
 
-put-requires : tie.Need-put-requires Inv-loop μ-loop
-put-requires c κs =
+write-hit-requires : tie.Need-write-hit-requires Inv-loop μ-loop
+write-hit-requires c κs =
     let i = c .before in
     omega (arith, i .loop-test .taken, i .before .loop .inv .0 .same, i .before .before .before .pre)
 
@@ -32,7 +32,7 @@ loop-less c = omega (arith, c .before .before .before .before .loop-test .taken)
 loop-again : tie.Need-loop-again Inv-loop μ-loop
 loop-again c =
     let i = c .before .before .before .before in
-    (written-next (i .before .loop .inv .0) toNobody _ (c .before .before .put .ensures) refl refl (omega (arith, i .loop-test .taken, i .before .before .before .pre)), omega (arith, i .loop-test .taken))
+    (written-next (i .before .loop .inv .0) toNobody _ (c .before .before .write-hit .ensures) refl refl (omega (arith, i .loop-test .taken, i .before .before .before .pre)), omega (arith, i .loop-test .taken))
 
 same-length : tie.Need-same-length Inv-loop μ-loop
 same-length c = c .before .loop .inv .0 .same
@@ -49,7 +49,7 @@ nobody-spec =
     Inv-loop
     μ-loop
     loop-holds
-    put-requires
+    write-hit-requires
     add-i
     loop-less
     loop-again

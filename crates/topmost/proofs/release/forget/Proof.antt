@@ -7,22 +7,22 @@ use lib.Dec.{ltb}
 use borrow.Author.Tests.{eq-eqb, ne-eqb}
 use Rattle.window.specs.declared.ids.WinId.{WinId}
 use Rattle.rules.specs.Order as Rule
-use Rattle.order.specs.Ids.{heldOf}
+use Rattle.order.specs.Ids.{grabOf}
 use Rattle.topmost.proofs.release.forget.Statement.{statement}
 use Rattle.topmost.proofs.release.forget.Tie as tie
 
-hidden : (held : WinId) (id : ℕ) → held .0 ≡ id → none ≡ Rule.forget id (heldOf held)
-hidden held id e = go (ltb (held .0) 16)
+hidden : (grab : WinId) (id : ℕ) → grab .0 ≡ id → none ≡ Rule.forget id (grabOf grab)
+hidden grab id e = go (ltb (grab .0) 16)
   where
-    go : (b : Bool) → none ≡ Rule.forget id (cond b (some (held .0)) none)
-    go true = rw (eq-eqb (held .0) id e) refl
+    go : (b : Bool) → none ≡ Rule.forget id (cond b (some (grab .0)) none)
+    go true = rw (eq-eqb (grab .0) id e) refl
     go false = refl
 
-another : (held : WinId) (id : ℕ) → (held .0 ≡ id → ⊥) → heldOf held ≡ Rule.forget id (heldOf held)
-another held id n = go (ltb (held .0) 16)
+another : (grab : WinId) (id : ℕ) → (grab .0 ≡ id → ⊥) → grabOf grab ≡ Rule.forget id (grabOf grab)
+another grab id n = go (ltb (grab .0) 16)
   where
-    go : (b : Bool) → cond b (some (held .0)) none ≡ Rule.forget id (cond b (some (held .0)) none)
-    go true = rw (ne-eqb (held .0) id n) refl
+    go : (b : Bool) → cond b (some (grab .0)) none ≡ Rule.forget id (cond b (some (grab .0)) none)
+    go true = rw (ne-eqb (grab .0) id n) refl
     go false = refl
 
 returns : tie.Need-returns

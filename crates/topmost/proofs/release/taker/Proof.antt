@@ -9,21 +9,21 @@ use borrow.Author.Tests.{lt-ltb, le-ltb, not-true, not-false}
 use Rattle.geom.specs.declared.Rect.{Rect}
 use Rattle.geom.specs.Geom.{isEmpty}
 use Rattle.window.specs.declared.ids.WinId.{WinId}
-use Rattle.order.specs.Ids.{heldOf}
+use Rattle.order.specs.Ids.{grabOf}
 use Rattle.topmost.specs.inner.Topmost.{topmostAt, takerAt}
 use borrow.Author.Needs.{needs}
 use Rattle.topmost.proofs.release.taker.Statement.{statement}
 use Rattle.topmost.proofs.release.taker.Tie as tie
 
-module _ (frame : ℕ → Rect) (x y : ℕ) (os : List ℕ) (held : WinId) where
-  remembered : held .0 < 16 → isEmpty (frame (held .0)) ≡ false → some (held .0) ≡ takerAt frame x y os (heldOf held)
-  remembered l e = rw (lt-ltb (held .0) 16 l, e) refl
+module _ (frame : ℕ → Rect) (x y : ℕ) (os : List ℕ) (grab : WinId) where
+  remembered : grab .0 < 16 → isEmpty (frame (grab .0)) ≡ false → some (grab .0) ≡ takerAt frame x y os (grabOf grab)
+  remembered l e = rw (lt-ltb (grab .0) 16 l, e) refl
 
-  no-pixels : held .0 < 16 → isEmpty (frame (held .0)) ≡ true → topmostAt frame x y os none ≡ takerAt frame x y os (heldOf held)
-  no-pixels l e = rw (lt-ltb (held .0) 16 l, e) refl
+  no-pixels : grab .0 < 16 → isEmpty (frame (grab .0)) ≡ true → topmostAt frame x y os none ≡ takerAt frame x y os (grabOf grab)
+  no-pixels l e = rw (lt-ltb (grab .0) 16 l, e) refl
 
-  nobody : 16 ≤ held .0 → topmostAt frame x y os none ≡ takerAt frame x y os (heldOf held)
-  nobody l = rw (le-ltb (held .0) 16 l) refl
+  nobody : 16 ≤ grab .0 → topmostAt frame x y os none ≡ takerAt frame x y os (grabOf grab)
+  nobody l = rw (le-ltb (grab .0) 16 l) refl
 
 cast-at : tie.Need-cast-at
 cast-at c = search needs

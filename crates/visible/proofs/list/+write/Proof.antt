@@ -28,7 +28,7 @@ use borrow.Fn.PlainCycle.{Measures, is, falls, and}
 use Rattle.visible.proofs.list.write.Reads as write
 use Rattle.visible.proofs.list.write.Kinds as write-kinds
 use Rattle.visible.proofs.list.+write.Lts-write as lts
-use Rattle.geom.proofs.inner.numbers.put.Reads as put-reads
+use Rattle.geom.proofs.inner.numbers.write_rect.Reads as write-rect-reads
 use Rattle.visible.proofs.table.east.Reads as east-reads
 use Rattle.visible.proofs.table.first_met.Reads as first-met-reads
 use Rattle.visible.proofs.table.north.Reads as north-reads
@@ -54,8 +54,8 @@ calls t = (
   first-met-reads.Learnt,
   relative-reads.Asked,
   relative-reads.Learnt,
-  put-reads.Asked,
-  put-reads.Learnt,
+  write-rect-reads.Asked,
+  write-rect-reads.Learnt,
   west-reads.Asked,
   west-reads.Learnt,
   north-reads.Asked,
@@ -98,8 +98,8 @@ module _ (t : ℕ) where
       room-one (s .args .place) _ (length (s .args .out .now))
       (ap length (seen-leaf (c .before .first-met .ensures .0) (c .if1 .taken) (window s))) (s .pre .1 .1 .1)
 
-  put-requires : lts.Need-put-requires (calls t) (at t) write.Post
-  put-requires c κs = leaf (c .before .before)
+  write-rect-requires : lts.Need-write-rect-requires (calls t) (at t) write.Post
+  write-rect-requires c κs = leaf (c .before .before)
 
   add-result : lts.Need-add-result (calls t) (at t) write.Post
   add-result c = omega (arith, leaf (c .before .before .before .before .before))
@@ -114,7 +114,7 @@ module _ (t : ℕ) where
       let m = w .before .before .before in
       let s = m .before .before .before in
       written-leaf (m .before .first-met .ensures .0) (m .if1 .taken) (window s) (r .result)
-      (s .args .out .now) (w .put .last .0) (s .args .place) (r .ensures) (w .put .ensures)
+      (s .args .out .now) (w .write-rect .last .0) (s .args .place) (r .ensures) (w .write-rect .ensures)
 
   -- What is known once the part is split ------------------------------------------------------------------------------
 
@@ -355,7 +355,7 @@ pub +write-spec : {M : Type 1} → statement M
     write.Post
     (first-met-requires t)
     (relative-requires t)
-    (put-requires t)
+    (write-rect-requires t)
     (add-result t)
     (same-length t)
     (returns t)

@@ -15,14 +15,14 @@ Inv-loop at above n table₀ k₀ i₀ table k i = Gathering at n above i k tabl
 abbrev μ-loop : tie.MeasureT-loop
 μ-loop at above n table₀ k₀ i₀ table k i = n - i
 
-put-requires : tie.Need-put-requires Inv-loop μ-loop
-put-requires c κs = search needs
+write-rect-requires : tie.Need-write-rect-requires Inv-loop μ-loop
+write-rect-requires c κs = search needs
 
 loop-holds : tie.Need-loop-holds Inv-loop μ-loop
 loop-holds c =
     let s = c .before .before .before in
     let a = s .args in
-    gathering-none (a .at) (a .n) (a .above .now) (a .table .now) (c .put .last .0) (s .pre .3) (c .put .ensures)
+    gathering-none (a .at) (a .n) (a .above .now) (a .table .now) (c .write-rect .last .0) (s .pre .3) (c .write-rect .ensures)
 
 -- the rectangle that is read has sides of 32 bits
 fits : (c : tie.After-rect-at Inv-loop μ-loop) → Fits (c .rect-at .result)
@@ -65,4 +65,4 @@ returns c =
 pub gather-spec : {M : Type 1} → statement M
 gather-spec =
     tie.close
-    (tie.spec Inv-loop μ-loop put-requires loop-holds rect-at-requires keep-requires add-i loop-less loop-again returns)
+    (tie.spec Inv-loop μ-loop write-rect-requires loop-holds rect-at-requires keep-requires add-i loop-less loop-again returns)

@@ -7,8 +7,8 @@ use Rattle.visible.proofs.table.keep.Tie as tie
 overlap-requires : tie.Need-overlap-requires
 overlap-requires c κs = search needs
 
-put-requires : tie.Need-put-requires
-put-requires c κs = search needs
+write-rect-requires : tie.Need-write-rect-requires
+write-rect-requires c κs = search needs
 
 add-result : tie.Need-add-result
 add-result c = search needs
@@ -23,4 +23,4 @@ returns-2 : tie.Need-returns-2
 returns-2 c = rw (sym (c .before .overlap .ensures) ∙ c .if1 .left) (search needs)
 
 pub keep-spec : {M : Type 1} → statement M
-keep-spec = tie.close (tie.spec overlap-requires put-requires add-result returns returns-2)
+keep-spec = tie.close (tie.spec overlap-requires write-rect-requires add-result returns returns-2)

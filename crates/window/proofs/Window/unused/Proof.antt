@@ -1,7 +1,7 @@
 -- Each part is new.
 use mathlib.Core.Path.{refl, sym, subst}
 use native.Mathlib.Omega.{arith}
-use Rattle.window.specs.Held.{RepCursor}
+use Rattle.window.specs.Represents.{RepCursor}
 use borrow.Author.Needs.{needs}
 use Rattle.window.proofs.Window.unused.Statement.{statement}
 use Rattle.window.proofs.Window.unused.Tie as tie

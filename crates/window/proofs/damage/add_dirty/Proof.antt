@@ -3,7 +3,7 @@ use mathlib.Core.Path.{_≡_, _∙_, sym}
 use mathlib.Core.Bool.{false}
 use Rattle.geom.specs.Geom.{isEmpty}
 use Rattle.window.specs.Window.{anyContains}
-use Rattle.window.specs.Held.{rects}
+use Rattle.window.specs.Represents.{rects}
 use Rattle.window.proofs.laws.Entries.{dirty-empty, dirty-inside, dirty-merged, dirty-joined}
 use borrow.Author.Needs.{needs}
 use Rattle.window.proofs.damage.add_dirty.Statement.{statement}

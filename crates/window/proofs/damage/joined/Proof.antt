@@ -4,7 +4,7 @@ use native.Mathlib.Omega.{arith}
 use Rattle.geom.specs.Geom.{union}
 use Rattle.geom.proofs.geometry.Answers.{union-is}
 use Rattle.geom.proofs.geometry.Facts.{small-fits}
-use Rattle.window.specs.Held.{Low}
+use Rattle.window.specs.Represents.{Low}
 use Rattle.window.proofs.laws.Entries.{low-fits, low-union}
 use borrow.Author.Needs.{needs}
 use Rattle.window.proofs.damage.joined.Statement.{statement}

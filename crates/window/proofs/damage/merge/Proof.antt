@@ -7,7 +7,7 @@ use Rattle.geom.specs.declared.Rect.{Rect}
 use Rattle.geom.specs.Geom.{union}
 use Rattle.geom.proofs.geometry.Facts.{small-fits}
 use Rattle.window.specs.Window.{merges}
-use Rattle.window.specs.Held.{Low}
+use Rattle.window.specs.Represents.{Low}
 use Rattle.window.proofs.laws.Entries.{entry, low-fits, Sought, sought-low, merge-hit, merge-miss, merge-none}
 use Rattle.window.proofs.damage.merge.Statement.{statement}
 use Rattle.window.proofs.damage.merge.Tie as tie

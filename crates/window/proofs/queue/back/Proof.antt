@@ -1,7 +1,7 @@
 -- The sum, or what it is past the end.
 use Prim.Native.Nat.{_+_}
 use native.Mathlib.Omega.{arith}
-use Rattle.window.specs.Held.{place}
+use Rattle.window.specs.Represents.{place}
 use borrow.Author.Needs.{needs}
 use borrow.Author.Tests.{lt-ltb, le-ltb}
 use Rattle.window.proofs.queue.back.Statement.{statement}

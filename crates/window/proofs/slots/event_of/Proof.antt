@@ -1,6 +1,6 @@
 -- `eventOf` in code: each arm of the match gives the kind, at which the rule computes.
 use borrow.Author.Tests.{ne-eqb}
-use Rattle.window.specs.Held.{eventOf}
+use Rattle.window.specs.Represents.{eventOf}
 use borrow.Author.Needs.{needs}
 use Rattle.window.proofs.slots.event_of.Statement.{statement}
 use Rattle.window.proofs.slots.event_of.Tie as tie

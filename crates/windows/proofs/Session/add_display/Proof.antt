@@ -1,5 +1,5 @@
 -- The displays alone are others.
-use Rattle.windows.proofs.laws.Dims.{adds-display}
+use Rattle.windows.proofs.laws.Maximised.{adds-display}
 use borrow.Author.Needs.{needs}
 use Rattle.windows.proofs.Session.add_display.Statement.{statement}
 use Rattle.windows.proofs.Session.add_display.Tie as tie

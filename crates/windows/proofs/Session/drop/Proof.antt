@@ -16,14 +16,14 @@ element-copy-out-drop c = search needs
 drop-requires : tie.Need-drop-requires
 drop-requires c κs = let p = c .before .before in held (p .before .pre) (p .slot .ensures)
 
-put-requires : tie.Need-put-requires
-put-requires c κs = search needs
+with-window-requires : tie.Need-with-window-requires
+with-window-requires c κs = search needs
 
 returns : tie.Need-returns
 returns c =
     let d = c .before in
     let p = d .before .before .before in
-    by-meets (p .before .pre) (p .slot .ensures) (d .drop .result) (d .drop .ensures) (c .put .ensures)
+    by-meets (p .before .pre) (p .slot .ensures) (d .drop .result) (d .drop .ensures) (c .with-window .ensures)
 
 pub drop-spec : {M : Type 1} → statement M
-drop-spec = tie.close (tie.spec slot-requires mul-drop element-copy-out-drop drop-requires put-requires returns)
+drop-spec = tie.close (tie.spec slot-requires mul-drop element-copy-out-drop drop-requires with-window-requires returns)

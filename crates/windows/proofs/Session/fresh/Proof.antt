@@ -6,10 +6,10 @@ use mathlib.Core.List.{[]}
 use native.Mathlib.Omega.{arith}
 use lib.ListN.{replicate, getD-replicate}
 use Rattle.window.specs.declared.Window.{Window}
-use Rattle.window.specs.Held.{RepWindow}
+use Rattle.window.specs.Represents.{RepWindow}
 use Rattle.rules.specs.Group as Rule
 use Rattle.display.specs.declared.Displays.{Displays}
-use Rattle.display.specs.Held.{regions, RepDisplays}
+use Rattle.display.specs.Represents.{regions, RepDisplays}
 use Rattle.windows.specs.declared.Session.{Session}
 use Rattle.windows.specs.View.{cell, walkOf, group, blank, Rep}
 use Rattle.due.specs.inner.Due.{noWalk}
@@ -20,7 +20,7 @@ use Rattle.windows.proofs.Session.fresh.Tie as tie
 
 abbrev made : ℕ → Window → Displays → Session
 made c w d =
-    record { windows = replicate 16 w; shared = record { order = replicate 16 (record { 0 = 0 }); shown = 0; c = c; focus = record { 0 = 0 }; dimmed = false; held = nobody; due = record { walk = noWalk; owed = true }; layers = replicate 16 0; maximised = replicate 16 false }; displays = d }
+    record { windows = replicate 16 w; shared = record { order = replicate 16 (record { 0 = 0 }); shown = 0; c = c; focus = record { 0 = 0 }; dimmed = false; grab = nobody; due = record { walk = noWalk; owed = true }; layers = replicate 16 0; maximised = replicate 16 false }; displays = d }
 
 fresh-group : (c : ℕ) (w : Window) (d : Displays) → w .used ≡ false → regions d ≡ [] → group (made c w d) ≡ Rule.fresh c
 unfolding group cell walkOf

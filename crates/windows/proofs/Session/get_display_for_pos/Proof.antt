@@ -11,7 +11,7 @@ use Rattle.geom.proofs.basics.Tests.{fst, snd}
 use Rattle.rules.specs.DisplayAt.{displayAt}
 use Rattle.display.specs.declared.Located.{Located}
 use Rattle.display.specs.declared.Located.the-variants.{Closest}
-use Rattle.display.specs.Held.{regions, locatedOf}
+use Rattle.display.specs.Represents.{regions, locatedOf}
 use Rattle.windows.specs.declared.Session.{Session}
 use Rattle.windows.specs.View.{group, Locates}
 use borrow.Author.Needs.{needs}

@@ -16,14 +16,14 @@ element-copy-out-hide c = search needs
 hide-requires : tie.Need-hide-requires
 hide-requires c κs = let p = c .before .before in held (p .before .pre) (p .slot .ensures)
 
-put-requires : tie.Need-put-requires
-put-requires c κs = search needs
+with-window-requires : tie.Need-with-window-requires
+with-window-requires c κs = search needs
 
 returns : tie.Need-returns
 returns c =
     let d = c .before in
     let p = d .before .before .before in
-    by-meets (p .before .pre) (p .slot .ensures) (d .hide .result) (d .hide .ensures) (c .put .ensures)
+    by-meets (p .before .pre) (p .slot .ensures) (d .hide .result) (d .hide .ensures) (c .with-window .ensures)
 
 pub hide-spec : {M : Type 1} → statement M
-hide-spec = tie.close (tie.spec slot-requires mul-hide element-copy-out-hide hide-requires put-requires returns)
+hide-spec = tie.close (tie.spec slot-requires mul-hide element-copy-out-hide hide-requires with-window-requires returns)

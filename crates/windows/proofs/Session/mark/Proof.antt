@@ -16,14 +16,14 @@ element-copy-out-mark c = search needs
 mark-requires : tie.Need-mark-requires
 mark-requires c κs = let p = c .before .before in held (p .before .pre) (p .slot .ensures)
 
-put-requires : tie.Need-put-requires
-put-requires c κs = search needs
+with-window-requires : tie.Need-with-window-requires
+with-window-requires c κs = search needs
 
 returns : tie.Need-returns
 returns c =
     let d = c .before in
     let p = d .before .before .before in
-    by-mark (p .before .pre) (p .slot .ensures) (d .mark .result) (d .mark .ensures) (c .put .ensures)
+    by-mark (p .before .pre) (p .slot .ensures) (d .mark .result) (d .mark .ensures) (c .with-window .ensures)
 
 pub mark-spec : {M : Type 1} → statement M
-mark-spec = tie.close (tie.spec slot-requires mul-mark element-copy-out-mark mark-requires put-requires returns)
+mark-spec = tie.close (tie.spec slot-requires mul-mark element-copy-out-mark mark-requires with-window-requires returns)

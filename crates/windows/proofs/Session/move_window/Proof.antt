@@ -16,14 +16,14 @@ element-copy-out-move-window c = search needs
 move-window-requires : tie.Need-move-window-requires
 move-window-requires c κs = let p = c .before .before in held (p .before .pre) (p .slot .ensures)
 
-put-requires : tie.Need-put-requires
-put-requires c κs = search needs
+with-window-requires : tie.Need-with-window-requires
+with-window-requires c κs = search needs
 
 returns : tie.Need-returns
 returns c =
     let d = c .before in
     let p = d .before .before .before in
-    by-meets (p .before .pre) (p .slot .ensures) (d .move-window .result) (d .move-window .ensures) (c .put .ensures)
+    by-meets (p .before .pre) (p .slot .ensures) (d .move-window .result) (d .move-window .ensures) (c .with-window .ensures)
 
 pub move-window-spec : {M : Type 1} → statement M
-move-window-spec = tie.close (tie.spec slot-requires mul-move-window element-copy-out-move-window move-window-requires put-requires returns)
+move-window-spec = tie.close (tie.spec slot-requires mul-move-window element-copy-out-move-window move-window-requires with-window-requires returns)

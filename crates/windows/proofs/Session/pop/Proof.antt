@@ -1,7 +1,7 @@
 -- The fields of the window at the id's place are put back as the function of them gives them.
 use mathlib.Core.Path.{refl}
 use native.Mathlib.Omega.{arith}
-use Rattle.window.specs.Held.{RepWindow}
+use Rattle.window.specs.Represents.{RepWindow}
 use Rattle.windows.specs.View.{windowAt}
 use borrow.Author.Needs.{needs}
 use Rattle.windows.proofs.Session.pop.Statement.{statement}

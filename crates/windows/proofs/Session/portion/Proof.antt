@@ -16,8 +16,8 @@ element-copy-out-treat c = search needs
 treat-requires : tie.Need-treat-requires
 treat-requires c κs = let t = c .before .before .before in turned (t .before .before .before .pre) (t .whose-turn .ensures)
 
-put-requires : tie.Need-put-requires
-put-requires c κs = search needs
+with-window-requires : tie.Need-with-window-requires
+with-window-requires c κs = search needs
 
 same-length : tie.Need-same-length
 same-length c = search needs
@@ -26,7 +26,7 @@ returns : tie.Need-returns
 returns c =
     let d = c .before .before .before in
     let t = d .before .before .before .before in
-    rw (c .put .ensures) (d .treat .ensures _ _ (own-turn (t .before .before .before .pre) (t .whose-turn .ensures)))
+    rw (c .with-window .ensures) (d .treat .ensures _ _ (own-turn (t .before .before .before .pre) (t .whose-turn .ensures)))
 
 pub portion-spec : {M : Type 1} → statement M
 portion-spec =
@@ -36,6 +36,6 @@ portion-spec =
     mul-treat
     element-copy-out-treat
     treat-requires
-    put-requires
+    with-window-requires
     same-length
     returns)

@@ -16,14 +16,14 @@ element-copy-out-raise c = search needs
 raise-requires : tie.Need-raise-requires
 raise-requires c κs = let p = c .before .before in held (p .before .pre) (p .slot .ensures)
 
-put-requires : tie.Need-put-requires
-put-requires c κs = search needs
+with-window-requires : tie.Need-with-window-requires
+with-window-requires c κs = search needs
 
 returns : tie.Need-returns
 returns c =
     let d = c .before in
     let p = d .before .before .before in
-    by-meets (p .before .pre) (p .slot .ensures) (d .raise .result) (d .raise .ensures) (c .put .ensures)
+    by-meets (p .before .pre) (p .slot .ensures) (d .raise .result) (d .raise .ensures) (c .with-window .ensures)
 
 pub raise-spec : {M : Type 1} → statement M
-raise-spec = tie.close (tie.spec slot-requires mul-raise element-copy-out-raise raise-requires put-requires returns)
+raise-spec = tie.close (tie.spec slot-requires mul-raise element-copy-out-raise raise-requires with-window-requires returns)

@@ -16,8 +16,8 @@ element-copy-out-resize c = search needs
 resize-requires : tie.Need-resize-requires
 resize-requires c κs = let p = c .before .before .before in held (p .before .before .pre) (p .slot .ensures)
 
-put-requires : tie.Need-put-requires
-put-requires c κs = search needs
+with-window-requires : tie.Need-with-window-requires
+with-window-requires c κs = search needs
 
 same-length : tie.Need-same-length
 same-length c = search needs
@@ -26,8 +26,8 @@ returns : tie.Need-returns
 returns c =
     let d = c .before .before .before in
     let p = d .before .before .before .before in
-    by-store (p .before .before .pre) (p .slot .ensures) (d .resize .result) (d .resize .ensures) (c .put .ensures)
+    by-store (p .before .before .pre) (p .slot .ensures) (d .resize .result) (d .resize .ensures) (c .with-window .ensures)
 
 pub resize-spec : {M : Type 1} → statement M
 resize-spec =
-    tie.close (tie.spec slot-requires mul-resize element-copy-out-resize resize-requires put-requires same-length returns)
+    tie.close (tie.spec slot-requires mul-resize element-copy-out-resize resize-requires with-window-requires same-length returns)

@@ -1,6 +1,6 @@
 -- The window that is aimed at is told, and put in its place.
 use mathlib.Core.Path.{refl}
-use Rattle.window.specs.Held.{RepWindow}
+use Rattle.window.specs.Represents.{RepWindow}
 use Rattle.windows.specs.View.{windowAt}
 use Rattle.windows.proofs.laws.Aimed.{told-there}
 use borrow.Author.Needs.{needs}
@@ -41,8 +41,8 @@ mul-slot c = search needs
 element-set-from-slot : tie.Need-element-set-from-slot
 element-set-from-slot c = search needs
 
-put-requires : tie.Need-put-requires
-put-requires c κs = search needs
+with-window-requires : tie.Need-with-window-requires
+with-window-requires c κs = search needs
 
 returns : tie.Need-returns
 returns c =
@@ -50,10 +50,10 @@ returns c =
     let b = t .before .before .before in
     let a = b .before .before .before in
     let s = a .before .args .t1 in
-    rw (c .put .ensures, b .back .ensures .0)
+    rw (c .with-window .ensures, b .back .ensures .0)
     (told-there _ s (a .aim-event .result) _ (a .aim-event .ensures)
     (t .tell .ensures _ (s .shared)
-    (record { rep = rep a; cursor = refl; len = refl; old = rw (b .back .ensures .0); held = refl })))
+    (record { rep = rep a; cursor = refl; len = refl; old = rw (b .back .ensures .0); grab = refl })))
 
 pub route-spec : {M : Type 1} → statement M
 route-spec =
@@ -68,5 +68,5 @@ route-spec =
     tell-requires
     mul-slot
     element-set-from-slot
-    put-requires
+    with-window-requires
     returns)

@@ -16,14 +16,14 @@ element-copy-out-set-layer c = search needs
 set-layer-requires : tie.Need-set-layer-requires
 set-layer-requires c κs = let p = c .before .before in held (p .before .pre) (p .slot .ensures)
 
-put-requires : tie.Need-put-requires
-put-requires c κs = search needs
+with-window-requires : tie.Need-with-window-requires
+with-window-requires c κs = search needs
 
 returns : tie.Need-returns
 returns c =
     let d = c .before in
     let p = d .before .before .before in
-    by-meets (p .before .pre) (p .slot .ensures) (d .set-layer .result) (d .set-layer .ensures) (c .put .ensures)
+    by-meets (p .before .pre) (p .slot .ensures) (d .set-layer .result) (d .set-layer .ensures) (c .with-window .ensures)
 
 pub set-layer-spec : {M : Type 1} → statement M
-set-layer-spec = tie.close (tie.spec slot-requires mul-set-layer element-copy-out-set-layer set-layer-requires put-requires returns)
+set-layer-spec = tie.close (tie.spec slot-requires mul-set-layer element-copy-out-set-layer set-layer-requires with-window-requires returns)

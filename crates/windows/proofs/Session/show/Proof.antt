@@ -16,14 +16,14 @@ element-copy-out-show c = search needs
 show-requires : tie.Need-show-requires
 show-requires c κs = let p = c .before .before in held (p .before .pre) (p .slot .ensures)
 
-put-requires : tie.Need-put-requires
-put-requires c κs = search needs
+with-window-requires : tie.Need-with-window-requires
+with-window-requires c κs = search needs
 
 returns : tie.Need-returns
 returns c =
     let d = c .before in
     let p = d .before .before .before in
-    by-meets (p .before .pre) (p .slot .ensures) (d .show .result) (d .show .ensures) (c .put .ensures)
+    by-meets (p .before .pre) (p .slot .ensures) (d .show .result) (d .show .ensures) (c .with-window .ensures)
 
 pub show-spec : {M : Type 1} → statement M
-show-spec = tie.close (tie.spec slot-requires mul-show element-copy-out-show show-requires put-requires returns)
+show-spec = tie.close (tie.spec slot-requires mul-show element-copy-out-show show-requires with-window-requires returns)

@@ -2,7 +2,7 @@
 use Prim.Native.Nat.{_-_}
 use mathlib.Core.Path.{refl}
 use native.Mathlib.Omega.{arith}
-use Rattle.window.specs.Held.{rects}
+use Rattle.window.specs.Represents.{rects}
 use Rattle.order.proofs.laws.Rects.{Filling, fill-end}
 use Rattle.order.proofs.laws.Above.{dirty-count, dirty-none, dirty-next}
 use borrow.Author.Needs.{needs}
@@ -27,19 +27,19 @@ mul-area c = omega (arith, c .before .before .pre .len, c .loop-test .taken)
 element-copy-out-area : tie.Need-element-copy-out-area Inv-loop μ-loop
 element-copy-out-area c = omega (arith, c .before .before .pre .len, c .loop-test .taken)
 
-slice-aggregate-put : tie.Need-slice-aggregate-put Inv-loop μ-loop
-slice-aggregate-put c = search needs
+slice-aggregate-write-rect : tie.Need-slice-aggregate-write-rect Inv-loop μ-loop
+slice-aggregate-write-rect c = search needs
 
 rect-requires : tie.Need-rect-requires Inv-loop μ-loop
 rect-requires c κs = search needs
 
-put-requires : tie.Need-put-requires Inv-loop μ-loop
-put-requires c κs =
+write-rect-requires : tie.Need-write-rect-requires Inv-loop μ-loop
+write-rect-requires c κs =
     let t = c .before .before .before in
     omega (arith, t .before .before .pre .len, t .loop-test .taken, t .before .loop .inv .holds .room)
 
 -- the turn, from the place behind the call of `put`
-abbrev turn : tie.After-put Inv-loop μ-loop → tie.In-loop Inv-loop μ-loop
+abbrev turn : tie.After-write-rect Inv-loop μ-loop → tie.In-loop Inv-loop μ-loop
 turn c = c .before .before .before .before
 
 add-i : tie.Need-add-i Inv-loop μ-loop
@@ -50,9 +50,9 @@ loop-less c = let t = turn (c .before) in omega (arith, t .loop-test .taken)
 
 loop-again : tie.Need-loop-again Inv-loop μ-loop
 loop-again c =
-    let put = c .before in
-    let t = turn put in
-    dirty-next _ (t .before .before .pre) _ (t .before .loop .inv) (t .loop-test .taken) (rw (put .before .rect .ensures) at (put .put .ensures))
+    let write-rect = c .before in
+    let t = turn write-rect in
+    dirty-next _ (t .before .before .pre) _ (t .before .loop .inv) (t .loop-test .taken) (rw (write-rect .before .rect .ensures) at (write-rect .write-rect .ensures))
 
 returns : tie.Need-returns Inv-loop μ-loop
 returns c = fill-end (c .before .loop .inv) _ (c .loop-test .left) (dirty-count _ (c .before .before .pre))
@@ -67,9 +67,9 @@ of-damage-spec =
     loop-holds
     mul-area
     element-copy-out-area
-    slice-aggregate-put
+    slice-aggregate-write-rect
     rect-requires
-    put-requires
+    write-rect-requires
     add-i
     loop-less
     loop-again

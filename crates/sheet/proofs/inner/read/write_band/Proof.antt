@@ -39,11 +39,11 @@ read-requires-2 c κs = search needs
 rect-of-requires : tie.Need-rect-of-requires Inv-loop μ-loop
 rect-of-requires c κs = omega (arith, c .before .read .ensures .small, c .read2 .ensures .small, c .before .before .before .before .before .before .pre)
 
-add-put : tie.Need-add-put Inv-loop μ-loop
-add-put c = omega arith
+add-write-rect : tie.Need-add-write-rect Inv-loop μ-loop
+add-write-rect c = omega arith
 
-put-requires : tie.Need-put-requires Inv-loop μ-loop
-put-requires c κs =
+write-rect-requires : tie.Need-write-rect-requires Inv-loop μ-loop
+write-rect-requires c κs =
     let head = c .before .before .before .before .before in
     omega (arith, head .loop .inv, head .before .before .before .pre)
 
@@ -55,12 +55,12 @@ loop-less c = omega arith
 
 loop-again : tie.Need-loop-again Inv-loop μ-loop
 loop-again c =
-    let after-put = c .before .before in
-    let turn = after-put .before .before .before .before .before in
+    let after-write-rect = c .before .before in
+    let turn = after-write-rect .before .before .before .before .before in
     let l = turn .before .loop in
-    written-next (l .inv) (turn .loop-test .taken) (after-put .before .before .before .before .read .ensures)
-    (after-put .before .before .before .read2 .ensures) (after-put .before .before .rect-of .ensures)
-    (after-put .put .ensures)
+    written-next (l .inv) (turn .loop-test .taken) (after-write-rect .before .before .before .before .read .ensures)
+    (after-write-rect .before .before .before .read2 .ensures) (after-write-rect .before .before .rect-of .ensures)
+    (after-write-rect .write-rect .ensures)
 
 same-length : tie.Need-same-length Inv-loop μ-loop
 same-length c = c .before .loop .inv .room
@@ -85,8 +85,8 @@ write-band-spec =
     add-read-3
     read-requires-2
     rect-of-requires
-    add-put
-    put-requires
+    add-write-rect
+    write-rect-requires
     add-i
     loop-less
     loop-again

@@ -24,8 +24,8 @@ returns c =
     let p = c .before .before .before in
     writes-short (p .args .nums .now) (p .args .n) (p .args .end) (p .pre .1) (p .args .out .now) (c .if1 .taken)
 
-put-sheet-requires : tie.Need-put-sheet-requires
-put-sheet-requires c κs =
+write-sheet-requires : tie.Need-write-sheet-requires
+write-sheet-requires c κs =
     let p = c .before .before .before .before in
     ((p .pre .0, omega (arith, p .pre .1, p .pre .2)), room-bits (p .args .nums .now) (p .args .n) (p .args .end) (p .pre .1) (p .args .out .now) (p .pre .3) (c .before .if1 .left))
 
@@ -34,10 +34,10 @@ same-length c = search needs
 
 returns-2 : tie.Need-returns-2
 returns-2 c =
-    let after-put = c .before .before in
-    let p = after-put .before .before .before .before .before in
+    let after-write-bits = c .before .before in
+    let p = after-write-bits .before .before .before .before .before in
     writes-whole (p .args .nums .now) (p .args .n) (p .args .end) (p .pre .1) (p .args .out .now)
-    (after-put .before .before .if1 .left) (after-put .put-sheet .last .0) (after-put .put-sheet .ensures)
+    (after-write-bits .before .before .if1 .left) (after-write-bits .write-sheet .last .0) (after-write-bits .write-sheet .ensures)
 
 pub write-spec : {M : Type 1} → statement M
 write-spec =
@@ -48,6 +48,6 @@ write-spec =
     mul-size-2
     sub-size
     returns
-    put-sheet-requires
+    write-sheet-requires
     same-length
     returns-2)

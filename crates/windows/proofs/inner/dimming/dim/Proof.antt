@@ -5,7 +5,7 @@ use Rattle.rules.specs.Calls.{Dim}
 use Rattle.rules.specs.Dim.{same}
 use Rattle.windows.specs.declared.Shared.{Shared}
 use Rattle.windows.specs.View.{Meets, done}
-use Rattle.windows.specs.inner.Walk.{sharing, indebted, dimming}
+use Rattle.windows.specs.inner.Sharing.{sharing, indebted, dimming}
 use Rattle.windows.proofs.laws.Dimmed.{is-set, switches}
 use borrow.Author.Needs.{needs}
 use Rattle.windows.proofs.inner.dimming.dim.Statement.{statement}

@@ -13,7 +13,7 @@ use Rattle.geom.proofs.geometry.Facts.{says-meet, common-within}
 use Rattle.window.specs.declared.Window.{Window}
 use Rattle.window.specs.declared.damage.Damage.{Damage}
 use Rattle.window.specs.Window.{addDirty}
-use Rattle.window.specs.Held.{winOf, rects, RepWindow}
+use Rattle.window.specs.Represents.{winOf, rects, RepWindow}
 use Rattle.window.specs.inner.Changes.{Dirtied}
 use Rattle.rules.specs.Group.{withMark}
 use Rattle.rules.specs.Store.{withDamage}

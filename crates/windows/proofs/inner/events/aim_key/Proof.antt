@@ -36,7 +36,7 @@ returns c =
     let known = is-shown s (a .pre .0) (s .shared .focus .0) _ (sym (ap idxOf (c .before .before .enum-told .given .1)) ∙ m .get-render-idx .ensures) in
     let u = shown-used s (s .shared .focus .0) (a .pre .0) known in
     rw (c .to-window .ensures)
-    (aims-window _ s (s .shared .focus .0) e (s .shared .held) (u .0) (key-tellable e (s .shared .held) (a .pre .1)) (λ t to. focus-told s e (a .pre .0) (a .pre .1) known (u .1) t to))
+    (aims-window _ s (s .shared .focus .0) e (s .shared .grab) (u .0) (key-tellable e (s .shared .grab) (a .pre .1)) (λ t to. focus-told s e (a .pre .0) (a .pre .1) known (u .1) t to))
 
 returns-2 : tie.Need-returns-2
 returns-2 c =

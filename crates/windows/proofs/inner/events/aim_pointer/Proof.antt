@@ -2,12 +2,12 @@
 use mathlib.Core.Path.{_≡_, sym, ap, _∙_}
 use mathlib.Core.Bool.{true, _&&_}
 use Rattle.geom.specs.Questions.{small}
-use Rattle.order.specs.Ids.{heldOf}
+use Rattle.order.specs.Ids.{grabOf}
 use Rattle.topmost.specs.inner.Topmost.{hitOf}
 use Rattle.windows.specs.inner.Events.{atPoint}
 use Rattle.windows.proofs.laws.Frames.{Found, order-lies, none-found, found}
 use Rattle.windows.proofs.laws.Routing.{too-far, nowhere}
-use Rattle.windows.proofs.laws.Aimed.{held-known, aims-point, aims-nobody}
+use Rattle.windows.proofs.laws.Aimed.{grab-known, aims-point, aims-nobody}
 use borrow.Author.Needs.{needs}
 use Rattle.windows.proofs.inner.events.aim_pointer.Statement.{statement}
 use Rattle.windows.proofs.inner.events.aim_pointer.Tie as tie
@@ -27,13 +27,13 @@ after-frames known = after-taker known .before .before .before
 at : (c : tie.After-struct-known)
     → let f = after-frames c in
     let a = f .before .before .before .args in
-    Found (a .s) (f .frames .result .areas) (a .x) (a .y) (heldOf (a .held)) (c .before .before .hit .given .0 .0 .0)
+    Found (a .s) (f .frames .result .areas) (a .x) (a .y) (grabOf (a .grab)) (c .before .before .hit .given .0 .0 .0)
 at c =
     let f = after-frames c in
     let s = f .before .before .before in
     let a = s .args in
-    found (a .s) (s .pre .0) (f .frames .result) (f .frames .ensures) (a .x) (a .y) (heldOf (a .held))
-    (held-known (a .e) (a .s) (a .held) (a .x) (a .y) (s .pre .0) (s .pre .1)) (c .before .before .hit .given .0 .0 .0)
+    found (a .s) (s .pre .0) (f .frames .result) (f .frames .ensures) (a .x) (a .y) (grabOf (a .grab))
+    (grab-known (a .e) (a .s) (a .grab) (a .x) (a .y) (s .pre .0) (s .pre .1)) (c .before .before .hit .given .0 .0 .0)
     (sym (ap hitOf (c .before .before .hit .given .1)) ∙ after-taker c .taker .ensures)
 
 small-point-requires : tie.Need-small-point-requires
@@ -81,8 +81,8 @@ nearest-requires-2 c κs = at (c .before .before .before .before .before .before
 at-point-requires : tie.Need-at-point-requires
 at-point-requires c κs = search needs
 
-held-after-requires : tie.Need-held-after-requires
-held-after-requires c κs =
+grab-after-requires : tie.Need-grab-after-requires
+grab-after-requires c κs =
     let after-nearest = c .before .before .before .before in
     at (after-nearest .before .before .before .before) .low
 
@@ -100,7 +100,7 @@ nobody-requires-2 c κs = search needs
 
 returns : tie.Need-returns
 returns c =
-    let m = c .before .held-after in
+    let m = c .before .grab-after in
     let p = c .before .before in
     let v = p .before in
     let u = v .before .before .before in
@@ -109,7 +109,7 @@ returns c =
     let s = f .before .before .before in
     let a = s .args in
     rw (c .to-window .ensures)
-    (aims-point (a .e) (a .s) (f .frames .result .areas) (a .held) (a .x) (a .y) (k .before .before .hit .given .0 .0 .0) (s .pre .0) (s .pre .1) (at k)
+    (aims-point (a .e) (a .s) (f .frames .result .areas) (a .grab) (a .x) (a .y) (k .before .before .hit .given .0 .0 .0) (s .pre .0) (s .pre .1) (at k)
     (is-small (f .before)) (p .at-point .result)
     (p .at-point .ensures ∙ (λ i. atPoint (a .e) (u .nearest .ensures i) (v .nearest2 .ensures i))) (m .result) (m .ensures))
 
@@ -120,10 +120,10 @@ returns-2 c =
     let s = f .before .before .before in
     let a = s .args in
     let no =
-    none-found (a .s) (s .pre .0) (f .frames .result) (f .frames .ensures) (a .x) (a .y) (heldOf (a .held))
-    (held-known (a .e) (a .s) (a .held) (a .x) (a .y) (s .pre .0) (s .pre .1)) (sym (ap hitOf (c .before .enum-told .given .1)) ∙ t .taker .ensures) in
+    none-found (a .s) (s .pre .0) (f .frames .result) (f .frames .ensures) (a .x) (a .y) (grabOf (a .grab))
+    (grab-known (a .e) (a .s) (a .grab) (a .x) (a .y) (s .pre .0) (s .pre .1)) (sym (ap hitOf (c .before .enum-told .given .1)) ∙ t .taker .ensures) in
     rw (c .nobody .ensures)
-    (aims-nobody _ (a .s) 11 (nowhere (a .s) (a .e) (s .pre .0) (a .held) (a .x) (a .y) (s .pre .1) (is-small (f .before)) (no .0) (no .1)))
+    (aims-nobody _ (a .s) 11 (nowhere (a .s) (a .e) (s .pre .0) (a .grab) (a .x) (a .y) (s .pre .1) (is-small (f .before)) (no .0) (no .1)))
 
 returns-3 : tie.Need-returns-3
 returns-3 c =
@@ -131,7 +131,7 @@ returns-3 c =
     let a = s .args in
     rw (c .nobody2 .ensures)
     (aims-nobody _ (a .s) 5
-    (too-far (a .s) (a .e) (s .pre .0) (a .held) (a .x) (a .y) (s .pre .1) (sym (c .before .before .small-point .ensures) ∙ c .before .if1 .left)))
+    (too-far (a .s) (a .e) (s .pre .0) (a .grab) (a .x) (a .y) (s .pre .1) (sym (c .before .before .small-point .ensures) ∙ c .before .if1 .left)))
 
 pub aim-pointer-spec : {M : Type 1} → statement M
 aim-pointer-spec =
@@ -151,7 +151,7 @@ aim-pointer-spec =
     cast-nearest-4
     nearest-requires-2
     at-point-requires
-    held-after-requires
+    grab-after-requires
     to-window-requires
     enum-told
     nobody-requires

@@ -7,8 +7,8 @@ use borrow.Author.Needs.{needs}
 use Rattle.windows.proofs.inner.events.target_of.Statement.{statement}
 use Rattle.windows.proofs.inner.events.target_of.Tie as tie
 
-by-event : (held : WinId) {d e : Event} → d ≡ e → targetOf e held ≡ targetOf d held
-by-event held q = sym (ap (λ (o : Event). targetOf o held) q)
+by-event : (grab : WinId) {d e : Event} → d ≡ e → targetOf e grab ≡ targetOf d grab
+by-event grab q = sym (ap (λ (o : Event). targetOf o grab) q)
 
 enum-told : tie.Need-enum-told
 enum-told c = search needs
@@ -53,16 +53,16 @@ returns-5 : tie.Need-returns-5
 returns-5 c = search needs
 
 returns-6 : tie.Need-returns-6
-returns-6 c = by-event (c .before .before .before .args .held) (c .before .e .given .1)
+returns-6 c = by-event (c .before .before .before .args .grab) (c .before .e .given .1)
 
 returns-7 : tie.Need-returns-7
-returns-7 c = by-event (c .before .before .before .args .held) (c .before .e2 .given .1)
+returns-7 c = by-event (c .before .before .before .args .grab) (c .before .e2 .given .1)
 
 returns-8 : tie.Need-returns-8
-returns-8 c = by-event (c .before .before .before .args .held) (c .before .e3 .given .1)
+returns-8 c = by-event (c .before .before .before .args .grab) (c .before .e3 .given .1)
 
 returns-9 : tie.Need-returns-9
-returns-9 c = by-event (c .before .before .before .args .held) (c .before .e4 .given .1)
+returns-9 c = by-event (c .before .before .before .args .grab) (c .before .e4 .given .1)
 
 pub target-of-spec : {M : Type 1} → statement M
 target-of-spec =

@@ -5,14 +5,14 @@ use mathlib.Core.Bool.{false}
 use lib.ListN.{set}
 use borrow.Author.Tests.{not-true, not-false}
 use Rattle.window.specs.declared.Window.{Window}
-use Rattle.window.specs.Held.{RepWindow}
+use Rattle.window.specs.Represents.{RepWindow}
 use Rattle.rules.specs.Calls.{Create}
 use Rattle.windows.specs.declared.Session.{Session}
 use Rattle.windows.specs.declared.Shared.{Shared}
 use Rattle.windows.specs.declared.NewId.the-variants.{Id, Absent}
 use Rattle.windows.specs.View.{MeetsId}
-use Rattle.windows.specs.inner.One.{put}
-use Rattle.windows.specs.inner.Walk.{layering, flagged}
+use Rattle.windows.specs.inner.One.{withWindow}
+use Rattle.windows.specs.inner.Sharing.{layering, withMaximised}
 use Rattle.windows.proofs.laws.One.{put-back}
 use Rattle.windows.proofs.laws.Created.{full, created, renewed, renewed-rep}
 use borrow.Author.Needs.{needs}
@@ -39,12 +39,12 @@ returns c s f h q id is same =
     let v = renewed (a .win) in
     rw (n .new .ensures)
     (subst (λ (n : ℕ). MeetsId Create s (record {
-      session = put (f .at) v (flagged n false (layering (set (a .t2 .layers) n 0) (a .t2))) s;
+      session = withWindow (f .at) v (withMaximised n false (layering (set (a .t2 .layers) n 0) (a .t2))) s;
       answer = 0;
       id = Id (record { 0 = n });
     })) (sym (q .same) ∙ id)
     (subst (λ (k : Shared). MeetsId Create s (record {
-      session = put (f .at) v (flagged (f .at) false (layering (set (k .layers) (f .at) 0) k)) s;
+      session = withWindow (f .at) v (withMaximised (f .at) false (layering (set (k .layers) (f .at) 0) k)) s;
       answer = 0;
       id = Id (record { 0 = f .at });
     })) same

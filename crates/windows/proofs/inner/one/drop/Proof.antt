@@ -4,7 +4,7 @@ use mathlib.Core.Path.{_≡_, refl, sym, ap, subst, _∙_}
 use mathlib.Core.Bool.{true, false}
 use mathlib.Core.Option.{none}
 use Rattle.window.specs.declared.Window.{Window}
-use Rattle.window.specs.Held.{RepWindow}
+use Rattle.window.specs.Represents.{RepWindow}
 use Rattle.order.specs.inner.Order.{idxOf}
 use Rattle.rules.specs.Group.{used, setWin}
 use Rattle.rules.specs.Order as Order
@@ -12,8 +12,8 @@ use Rattle.rules.specs.Calls.{Drop, does}
 use Rattle.windows.specs.declared.Session.{Session}
 use Rattle.windows.specs.declared.Shared.{Shared}
 use Rattle.windows.specs.View.{group, windowAt, Rep, Given, Meets, done}
-use Rattle.windows.specs.inner.One.{put}
-use Rattle.windows.specs.inner.Walk.{sharing}
+use Rattle.windows.specs.inner.One.{withWindow}
+use Rattle.windows.specs.inner.Sharing.{sharing}
 use Rattle.windows.proofs.laws.Session.{used-at, put-none, put-rep, refuses, gives}
 use Rattle.windows.proofs.laws.One.{accepts, not-used, same-place}
 use Rattle.windows.proofs.laws.Hidden.{hidden-already}
@@ -29,11 +29,11 @@ freed-rep r = record { at = r .at; damage = r .damage; queue = r .queue; cursor 
 
 module _ (s : Session) (id : ℕ) where
   drops : (v : Window) (k : Shared) → Given s → windowAt s id .used ≡ true → v .used ≡ false → RepWindow v
-      → (group (sharing k s) ≡ Order.hidden id (group s)) × Rep (sharing k s) → Meets (Drop id) s (done (put id v k s) 0)
+      → (group (sharing k s) ≡ Order.hidden id (group s)) × Rep (sharing k s) → Meets (Drop id) s (done (withWindow id v k s) 0)
   unfolding does Order.dropWindow
   drops v k h u n r e =
       let q : used (group s) id ≡ true = used-at s id ∙ u in
-      gives (Drop id) s (put id v k s) h (put-rep (sharing k s) id v (e .1) r) (rw q) (put-none (sharing k s) id v n ∙ ap (setWin id none) (e .0) ∙ rw q)
+      gives (Drop id) s (withWindow id v k s) h (put-rep (sharing k s) id v (e .1) r) (rw q) (put-none (sharing k s) id v n ∙ ap (setWin id none) (e .0) ∙ rw q)
 
   no-window : Given s → used (group s) id ≡ false → Meets (Drop id) s (done s 3)
   unfolding does Order.dropWindow
@@ -69,7 +69,7 @@ returns c =
     let t = g .before .before in
     let u = t .before in
     let id = u .before .args .id .0 in
-    accepts (λ s at w k. Meets (Drop id) s (done (put at (freed w) (r .result) s) 0))
+    accepts (λ s at w k. Meets (Drop id) s (done (withWindow at (freed w) (r .result) s) 0))
     (sym (u .is-used .ensures) ∙ t .if1 .taken)
     (λ s q.
     drops s id (freed (windowAt s id)) (r .result) (q .given) (q .used) refl (freed-rep (q .rep))
@@ -82,7 +82,7 @@ returns-2 c =
     let u = t .before in
     let id = u .before .args .id .0 in
     let nowhere = sym (ap idxOf (c .enum-told .given .1)) ∙ g .get-render-idx .ensures in
-    accepts (λ s at w k. Meets (Drop id) s (done (put at (freed w) k s) 0)) (sym (u .is-used .ensures) ∙ t .if1 .taken)
+    accepts (λ s at w k. Meets (Drop id) s (done (withWindow at (freed w) k s) 0)) (sym (u .is-used .ensures) ∙ t .if1 .taken)
     (λ s q.
     drops s id (freed (windowAt s id)) (s .shared) (q .given) (q .used) refl (freed-rep (q .rep))
     (hidden-already s (q .given) id (same-place _ _ (q .shared) nowhere)))

@@ -9,7 +9,7 @@ use Rattle.rules.specs.Calls.{Hide, does}
 use Rattle.windows.specs.declared.Session.{Session}
 use Rattle.windows.specs.declared.Shared.{Shared}
 use Rattle.windows.specs.View.{group, windowAt, Rep, Given, Meets, done}
-use Rattle.windows.specs.inner.One.{put}
+use Rattle.windows.specs.inner.One.{withWindow}
 use Rattle.windows.proofs.laws.Session.{used-at, refuses, gives}
 use Rattle.windows.proofs.laws.One.{accepts, not-used, shares, same-place}
 use Rattle.windows.proofs.laws.Hidden.{hidden-already}
@@ -58,7 +58,7 @@ returns c =
     let t = g .before .before in
     let u = t .before in
     let id = u .before .args .id .0 in
-    accepts (λ s at w k. Meets (Hide id) s (done (put at w (r .result) s) 0))
+    accepts (λ s at w k. Meets (Hide id) s (done (withWindow at w (r .result) s) 0))
     (sym (u .is-used .ensures) ∙ t .if1 .taken)
     (λ s q. shares (λ v. Meets (Hide id) s (done v 0)) s id (r .result)
     (hides s id _ (q .given) (q .used) (r .ensures s (q .given) (q .shared))))
@@ -70,7 +70,7 @@ returns-2 c =
     let u = t .before in
     let id = u .before .args .id .0 in
     let nowhere = sym (ap idxOf (c .enum-told .given .1)) ∙ g .get-render-idx .ensures in
-    accepts (λ s at w k. Meets (Hide id) s (done (put at w k s) 0)) (sym (u .is-used .ensures) ∙ t .if1 .taken)
+    accepts (λ s at w k. Meets (Hide id) s (done (withWindow at w k s) 0)) (sym (u .is-used .ensures) ∙ t .if1 .taken)
     (λ s q. shares (λ v. Meets (Hide id) s (done v 0)) s id (s .shared)
     (hides s id s (q .given) (q .used) (hidden-already s (q .given) id (same-place _ _ (q .shared) nowhere))))
 

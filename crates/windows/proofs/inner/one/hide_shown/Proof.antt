@@ -7,12 +7,12 @@ use native.Mathlib.Omega.{arith}
 use lib.Dec.{eqb}
 use lib.ListN.{getD}
 use Rattle.window.specs.declared.ids.WinId.{WinId}
-use Rattle.order.specs.Ids.{ids, heldOf}
+use Rattle.order.specs.Ids.{ids, grabOf}
 use Rattle.order.specs.inner.Order.{Closed}
 use Rattle.rules.specs.Order as Rule
 use Rattle.windows.specs.declared.Shared.{Shared}
 use Rattle.windows.specs.View.{group, Rep}
-use Rattle.windows.specs.inner.Walk.{ordered, holding, sharing, indebted}
+use Rattle.windows.specs.inner.Sharing.{ordered, grabbing, sharing, indebted}
 use Rattle.windows.proofs.laws.One.{same-place}
 use Rattle.windows.proofs.laws.Places.{in-order}
 use Rattle.windows.proofs.laws.Hidden.{hidden-now}
@@ -22,7 +22,7 @@ use Rattle.windows.proofs.inner.one.hide_shown.Tie as tie
 
 -- the share without the window
 abbrev left : List WinId → WinId → WinId → Shared → Shared
-left order focus held k = holding held (ordered order (k .shown - 1) focus k)
+left order focus grab k = grabbing grab (ordered order (k .shown - 1) focus k)
 
 few : (c : tie.Start) → c .args .shared .shown ≤ 16
 few c = let q = c .pre .0 in subst (λ (k : Shared). k .shown ≤ 16) (q .shared) (q .given .rep .shown)
@@ -53,7 +53,7 @@ owing-requires c κs = search needs
 
 returns : tie.Need-returns
 returns c s h same =
-    let held = c .before .forget in
+    let grab = c .before .forget in
     let f = c .before .before in
     let order = f .before .close-gap in
     let focus = f .focus-after in
@@ -62,15 +62,15 @@ returns c s h same =
     let p = start .args .p .0 in
     rw (c .owing .ensures)
     (subst (λ (k : Shared).
-    (group (sharing (indebted (left (order .result) (focus .result) (held .result) k)) s) ≡ Rule.hidden id (group s))
-    × Rep (sharing (indebted (left (order .result) (focus .result) (held .result) k)) s)) same
+    (group (sharing (indebted (left (order .result) (focus .result) (grab .result) k)) s) ≡ Rule.hidden id (group s))
+    × Rep (sharing (indebted (left (order .result) (focus .result) (grab .result) k)) s)) same
     (hidden-now s h id p (same-place _ _ same (start .pre .1)) (order .result)
     (subst (λ (k : Shared). Closed (k .order) (k .shown) p (order .result)) (sym same) (order .ensures))
-    (focus .result) (held .result)
+    (focus .result) (grab .result)
     (subst (λ (k : Shared).
     focus .result .0 ≡ cond (eqb (k .focus .0) id) (getD (ids (k .shown - 1) (order .result)) (p - 1) 0) (k .focus .0))
     (sym same) (focus .ensures))
-    (subst (λ (k : Shared). heldOf (held .result) ≡ Rule.forget id (heldOf (k .held))) (sym same) (held .ensures))))
+    (subst (λ (k : Shared). grabOf (grab .result) ≡ Rule.forget id (grabOf (k .grab))) (sym same) (grab .ensures))))
 
 pub hide-shown-spec : {M : Type 1} → statement M
 hide-shown-spec =

@@ -11,7 +11,7 @@ use Rattle.order.specs.inner.Layers.{Low, Raised}
 use Rattle.windows.specs.declared.Session.{Session}
 use Rattle.windows.specs.declared.Shared.{Shared}
 use Rattle.windows.specs.View.{group, Rep}
-use Rattle.windows.specs.inner.Walk.{ordered, layering, sharing, indebted}
+use Rattle.windows.specs.inner.Sharing.{ordered, layering, sharing, indebted}
 use Rattle.windows.proofs.laws.One.{same-place}
 use Rattle.windows.proofs.laws.Places.{order-low}
 use Rattle.windows.proofs.laws.Layered.{changed, has-layer, hidden-layer, shown-layer}

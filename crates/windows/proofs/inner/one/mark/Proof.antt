@@ -6,14 +6,14 @@ use mathlib.Core.Option.{some}
 use native.Mathlib.Omega.{arith}
 use Rattle.window.specs.declared.Window.{Window}
 use Rattle.window.specs.Window.{Win}
-use Rattle.window.specs.Held.{winOf, RepDamage, RepWindow}
+use Rattle.window.specs.Represents.{winOf, RepDamage, RepWindow}
 use Rattle.window.proofs.laws.Entries.{all-of}
 use Rattle.rules.specs.Group as Rule
 use Rattle.rules.specs.Group.{used, setWin, withMark}
 use Rattle.rules.specs.Calls.{Mark, does}
 use Rattle.windows.specs.declared.Session.{Session}
-use Rattle.windows.specs.View.{group, windowAt, holding, Given, MeetsMark, done}
-use Rattle.windows.specs.inner.One.{put}
+use Rattle.windows.specs.View.{group, windowAt, grabbing, Given, MeetsMark, done}
+use Rattle.windows.specs.inner.One.{withWindow}
 use Rattle.windows.proofs.laws.Session.{used-at, win-at, putWindow, refuses, puts}
 use Rattle.windows.proofs.laws.One.{accepts, not-used}
 use borrow.Author.Needs.{needs}
@@ -24,7 +24,7 @@ abbrev marked : Window → Window
 marked w = record { queue = w .queue; damage = w .damage; at = w .at; cursor = w .cursor; used = w .used; marked = true }
 
 -- nothing else of it changes
-is-marked : (w : Window) → RepDamage (w .damage) → marked w ≡ holding (withMark (winOf w)) w
+is-marked : (w : Window) → RepDamage (w .damage) → marked w ≡ grabbing (withMark (winOf w)) w
 is-marked w ok =
     let damage = all-of (w .damage) (w .damage) ok refl in
     λ i. record { queue = w .queue; damage = damage i; at = w .at; cursor = w .cursor; used = w .used; marked = true }
@@ -51,7 +51,7 @@ returns : tie.Need-returns
 returns c =
     let a = c .before .before .args in
     let id = a .id .0 in
-    accepts (λ s at w k. MeetsMark id s (done (put at (marked w) k s) 0)) (sym (c .before .is-used .ensures) ∙ c .if1 .taken)
+    accepts (λ s at w k. MeetsMark id s (done (withWindow at (marked w) k s) 0)) (sym (c .before .is-used .ensures) ∙ c .if1 .taken)
     (λ s q. let r = q .rep in mark-yes s id (q .given) (q .used) (record { at = r .at; damage = r .damage; queue = r .queue; cursor = r .cursor }))
 
 returns-2 : tie.Need-returns-2

@@ -9,14 +9,14 @@ use Rattle.geom.specs.Questions.{small}
 use Rattle.geom.proofs.basics.Tests.{fst, snd}
 use Rattle.window.specs.declared.Window.{Window}
 use Rattle.window.specs.Window.{Win}
-use Rattle.window.specs.Held.{RepWindow}
+use Rattle.window.specs.Represents.{RepWindow}
 use Rattle.rules.specs.Group as Rule
 use Rattle.rules.specs.Group.{Group, used, setWin, setMaximised, movedTo, owing}
 use Rattle.rules.specs.Calls.{Move, does}
 use Rattle.windows.specs.declared.Session.{Session}
 use Rattle.windows.specs.View.{group, windowAt, Given, Meets, done}
-use Rattle.windows.specs.inner.One.{put}
-use Rattle.windows.specs.inner.Walk.{flagged, indebted}
+use Rattle.windows.specs.inner.One.{withWindow}
+use Rattle.windows.specs.inner.Sharing.{withMaximised, indebted}
 use Rattle.windows.proofs.laws.Session.{used-at, win-at, putWindow, put-group, put-rep, refuses, gives}
 use Rattle.windows.proofs.laws.Shared.{flag-debt}
 use Rattle.windows.proofs.laws.One.{here, accepts, not-used, shares}
@@ -40,13 +40,13 @@ module _ (s : Session) (id x y : ℕ) (h : Given s) (u : windowAt s id .used ≡
   in-use = used-at s id ∙ u
 
   move-yes : small x && small y ≡ true → RepWindow (moved x y (windowAt s id))
-      → Meets (Move id x y) s (done (put id (moved x y (windowAt s id)) (indebted (flagged id false (s .shared))) s) 0)
+      → Meets (Move id x y) s (done (withWindow id (moved x y (windowAt s id)) (indebted (withMaximised id false (s .shared))) s) 0)
   unfolding does Rule.move
   move-yes l r =
       let t = putWindow id (moved x y (windowAt s id)) s in
       let k = put-rep s id (moved x y (windowAt s id)) (h .rep) r in
       let f = flag-debt id false in
-      gives (Move id x y) s (put id (moved x y (windowAt s id)) (indebted (flagged id false (s .shared))) s) h (f .rep t k) (rw (in-use, l))
+      gives (Move id x y) s (withWindow id (moved x y (windowAt s id)) (indebted (withMaximised id false (s .shared))) s) h (f .rep t k) (rw (in-use, l))
       (f .group t k ∙ ap (λ (g : Group). owing (setMaximised id false g)) (put-group s id _ u)
       ∙ ap (λ (w : Win). owing (setMaximised id false (setWin id (some (movedTo x y w)) (group s)))) (sym (win-at s id u)) ∙ rw (in-use, l))
 
@@ -79,8 +79,8 @@ cast-area c = omega (arith, low c)
 cast-area-2 : tie.Need-cast-area-2
 cast-area-2 c = omega (arith, low c)
 
-flagged-requires : tie.Need-flagged-requires
-flagged-requires c κs =
+set-maximised-requires : tie.Need-set-maximised-requires
+set-maximised-requires c κs =
     let u = c .before .before .before .before in
     here (sym (u .is-used .ensures) ∙ c .before .before .before .if1 .taken) (u .before .pre .holds) .low
 
@@ -92,8 +92,8 @@ returns c =
     let d = c .before .before in
     let a = d .before .before .before .before .before .args in
     let id = a .id .0 in
-    rw (c .owing .ensures, c .before .flagged .ensures)
-    (accepts (λ s at w k. Meets (Move id (a .x) (a .y)) s (done (put at (moved (a .x) (a .y) w) (indebted (flagged id false k)) s) 0))
+    rw (c .owing .ensures, c .before .set-maximised .ensures)
+    (accepts (λ s at w k. Meets (Move id (a .x) (a .y)) s (done (withWindow at (moved (a .x) (a .y) w) (indebted (withMaximised id false k)) s) 0))
     (sym (d .before .before .before .before .is-used .ensures) ∙ d .before .before .before .if1 .taken)
     (λ s q.
     let r = q .rep in
@@ -104,7 +104,7 @@ returns-2 : tie.Need-returns-2
 returns-2 c =
     let a = c .before .before .before .before .args in
     let id = a .id .0 in
-    accepts (λ s at w k. Meets (Move id (a .x) (a .y)) s (done (put at w k s) 5)) (sym (c .before .before .before .is-used .ensures) ∙ c .before .before .if1 .taken)
+    accepts (λ s at w k. Meets (Move id (a .x) (a .y)) s (done (withWindow at w k s) 5)) (sym (c .before .before .before .is-used .ensures) ∙ c .before .before .if1 .taken)
     (λ s q. shares (λ t. Meets (Move id (a .x) (a .y)) s (done t 5)) s id (s .shared)
     (too-far s id (a .x) (a .y) (q .given) (q .used) (sym (c .before .small-point .ensures) ∙ c .if2 .left)))
 
@@ -116,4 +116,4 @@ returns-3 c =
 
 pub move-window-spec : {M : Type 1} → statement M
 move-window-spec =
-    tie.close (tie.spec is-used-requires small-point-requires cast-area cast-area-2 flagged-requires owing-requires returns returns-2 returns-3)
+    tie.close (tie.spec is-used-requires small-point-requires cast-area cast-area-2 set-maximised-requires owing-requires returns returns-2 returns-3)

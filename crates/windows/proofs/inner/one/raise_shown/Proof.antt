@@ -7,7 +7,7 @@ use mathlib.Core.Option.{some}
 use lib.Dec.{ltb}
 use Rattle.window.specs.declared.Window.{Window}
 use Rattle.window.specs.declared.ids.WinId.{WinId}
-use Rattle.window.specs.Held.{winOf}
+use Rattle.window.specs.Represents.{winOf}
 use Rattle.rules.specs.Repair.{whollyRepaired}
 use Rattle.rules.specs.Calls.{Raise}
 use Rattle.order.specs.Ids.{ids}
@@ -15,9 +15,9 @@ use Rattle.order.specs.inner.Order.{renderIdx}
 use Rattle.order.specs.inner.Layers.{Low, Raised}
 use Rattle.windows.specs.declared.Shared.{Shared}
 use Rattle.windows.specs.View.{Meets, done}
-use Rattle.windows.specs.inner.One.{put}
+use Rattle.windows.specs.inner.One.{withWindow}
 use Rattle.windows.specs.inner.Pixels.{Becomes}
-use Rattle.windows.specs.inner.Walk.{ordered, indebted}
+use Rattle.windows.specs.inner.Sharing.{ordered, indebted}
 use Rattle.windows.proofs.laws.One.{here, accepts, shares, same-place}
 use Rattle.windows.proofs.laws.Places.{order-low}
 use Rattle.windows.proofs.laws.Raised.{isLast, isPending, is-in-use, focusses, owes, repairs}
@@ -63,7 +63,7 @@ returns c =
     let a = b .args in
     let id = a .id .0 in
     let p = a .p .0 in
-    accepts (λ s at w k. Meets (Raise id) s (done (put at w (fronted (k .order) (a .id) k) s) 0)) (in-use b)
+    accepts (λ s at w k. Meets (Raise id) s (done (withWindow at w (fronted (k .order) (a .id) k) s) 0)) (in-use b)
     (λ s q.
     shares (λ t. Meets (Raise id) s (done t 0)) s id (fronted (s .shared .order) (a .id) (s .shared))
     (focusses s (q .given) (a .id) (q .used) p (same-place _ _ (q .shared) (b .pre .1))
@@ -89,7 +89,7 @@ returns-2 c =
     let p = a .p .0 in
     let order = m .to-top .result in
     rw (c .owing .ensures)
-    (accepts (λ s at w k. Meets (Raise id) s (done (put at w (indebted (fronted order (a .id) k)) s) 0)) (in-use b)
+    (accepts (λ s at w k. Meets (Raise id) s (done (withWindow at w (indebted (fronted order (a .id) k)) s) 0)) (in-use b)
     (λ s q.
     shares (λ t. Meets (Raise id) s (done t 0)) s id (indebted (fronted order (a .id) (s .shared)))
     (owes s (q .given) (a .id) (q .used) p (same-place _ _ (q .shared) (b .pre .1))
@@ -115,7 +115,7 @@ returns-3 c =
     let p = a .p .0 in
     let order = m .to-top .result in
     let r = c .repaired in
-    accepts (λ s at w k. Meets (Raise id) s (done (put at (r .result) (fronted order (a .id) k) s) 0)) (in-use b)
+    accepts (λ s at w k. Meets (Raise id) s (done (withWindow at (r .result) (fronted order (a .id) k) s) 0)) (in-use b)
     (λ s q.
     repairs s (q .given) (a .id) (q .used) p (same-place _ _ (q .shared) (b .pre .1))
     (last-is id p false (q .shared) (sym (t .is-top .ensures) ∙ m .before .if1 .left)) order (raised-in id order (q .shared) (m .to-top .ensures))

@@ -6,7 +6,7 @@ use Rattle.geom.specs.Geom.{rect}
 use Rattle.geom.specs.Rect16.{rectOf}
 use Rattle.window.specs.declared.Window.{Window}
 use Rattle.window.specs.declared.damage.Damage.{Damage}
-use Rattle.window.specs.Held.{winOf, rects, events, RepWindow, RepDamage}
+use Rattle.window.specs.Represents.{winOf, rects, events, RepWindow, RepDamage}
 use Rattle.rules.specs.Repair.{whollyRepaired}
 use Rattle.windows.specs.inner.Pixels.{Becomes}
 use borrow.Author.Needs.{needs}

@@ -9,7 +9,7 @@ use Rattle.rules.specs.Order as Order
 use Rattle.rules.specs.Calls.{SetLayer, does}
 use Rattle.windows.specs.declared.Session.{Session}
 use Rattle.windows.specs.View.{group, windowAt, Rep, Given, Meets, done}
-use Rattle.windows.specs.inner.One.{put}
+use Rattle.windows.specs.inner.One.{withWindow}
 use Rattle.windows.proofs.laws.Session.{used-at, refuses, gives}
 use Rattle.windows.proofs.laws.One.{here, accepts, not-used, shares}
 use Rattle.windows.proofs.laws.Layered.{changed}
@@ -56,7 +56,7 @@ returns c =
     let id = a .id .0 in
     let l = a .layer in
     let r = c .layered in
-    accepts (λ s at w k. Meets (SetLayer id l) s (done (put at w (r .result) s) 0)) (in-use (u .before))
+    accepts (λ s at w k. Meets (SetLayer id l) s (done (withWindow at w (r .result) s) 0)) (in-use (u .before))
     (λ s q. shares (λ t. Meets (SetLayer id l) s (done t 0)) s id (r .result) (sets s id l _ (q .given) (q .used) (u .if2 .taken) (r .ensures s (q .given) (q .shared))))
 
 returns-2 : tie.Need-returns-2
@@ -64,7 +64,7 @@ returns-2 c =
     let a = c .before .before .before .args in
     let id = a .id .0 in
     let l = a .layer in
-    accepts (λ s at w k. Meets (SetLayer id l) s (done (put at w k s) 17)) (in-use (c .before))
+    accepts (λ s at w k. Meets (SetLayer id l) s (done (withWindow at w k s) 17)) (in-use (c .before))
     (λ s q. shares (λ t. Meets (SetLayer id l) s (done t 17)) s id (s .shared) (too-high s id l (q .given) (q .used) (c .if2 .left)))
 
 returns-3 : tie.Need-returns-3

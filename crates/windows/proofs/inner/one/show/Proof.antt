@@ -13,8 +13,8 @@ use Rattle.order.specs.inner.Layers.{Low, Inserted}
 use Rattle.rules.specs.Calls.{Show}
 use Rattle.windows.specs.declared.Shared.{Shared}
 use Rattle.windows.specs.View.{Meets, done}
-use Rattle.windows.specs.inner.One.{put}
-use Rattle.windows.specs.inner.Walk.{ordered, indebted}
+use Rattle.windows.specs.inner.One.{withWindow}
+use Rattle.windows.specs.inner.Sharing.{ordered, indebted}
 use Rattle.windows.proofs.laws.One.{here, accepts, not-used, shares, same-place}
 use Rattle.windows.proofs.laws.Places.{order-low}
 use Rattle.windows.proofs.laws.Shown.{is-shown, is-hidden, has-room, no-window}
@@ -77,7 +77,7 @@ returns c =
     let id = a .id .0 in
     let order = l .insert .result in
     rw (c .owing .ensures)
-    (accepts (λ s at w k. Meets (Show id) s (done (put at w (indebted (joined order (a .id) k)) s) 0)) (used (l .before))
+    (accepts (λ s at w k. Meets (Show id) s (done (withWindow at w (indebted (joined order (a .id) k)) s) 0)) (used (l .before))
     (λ s q.
     shares (λ t. Meets (Show id) s (done t 0)) s id (indebted (joined order (a .id) (s .shared)))
     (is-hidden s id (q .given) (q .used) (same-place _ _ (q .shared) (hidden (l .before))) (a .id) refl order
@@ -88,7 +88,7 @@ returns-2 c =
     let t = c .before .before .before .before .before in
     let a = t .before .before .args in
     let id = a .id .0 in
-    accepts (λ s at w k. Meets (Show id) s (done (put at w k s) 0)) (sym (t .before .is-used .ensures) ∙ t .if1 .taken)
+    accepts (λ s at w k. Meets (Show id) s (done (withWindow at w k s) 0)) (sym (t .before .is-used .ensures) ∙ t .if1 .taken)
     (λ s q.
     shares (λ t. Meets (Show id) s (done t 0)) s id (s .shared)
     (is-shown s id (q .given) (q .used) _ (same-place _ _ (q .shared) (sym (ap idxOf (c .enum-told2 .given .1)) ∙ c .before .before .get-render-idx .ensures))))

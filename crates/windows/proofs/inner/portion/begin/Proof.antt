@@ -4,7 +4,7 @@ use Rattle.rules.specs.Calls.{Begin}
 use Rattle.due.specs.inner.Due.{begun}
 use Rattle.windows.specs.declared.Shared.{Shared}
 use Rattle.windows.specs.View.{Meets, done}
-use Rattle.windows.specs.inner.Walk.{noted, sharing}
+use Rattle.windows.specs.inner.Sharing.{noted, sharing}
 use Rattle.windows.proofs.laws.Portions.{begins}
 use borrow.Author.Needs.{needs}
 use Rattle.windows.proofs.inner.portion.begin.Statement.{statement}
@@ -15,9 +15,9 @@ begin-requires c κs = search needs
 
 returns : tie.Need-returns
 returns c s h same =
-    let told = c .before .before .args .told in
+    let forced = c .before .before .args .forced in
     rw (c .begin .ensures)
-    (subst (λ (k : Shared). Meets (Begin told) s (done (sharing (noted (begun told (k .due) (k .shown)) k) s) 0)) same (begins s h told))
+    (subst (λ (k : Shared). Meets (Begin forced) s (done (sharing (noted (begun forced (k .due) (k .shown)) k) s) 0)) same (begins s h forced))
 
 pub begin-spec : {M : Type 1} → statement M
 begin-spec = tie.close (tie.spec begin-requires returns)

@@ -3,7 +3,7 @@ use Prim.Native.Nat.{_*_, _<_}
 use mathlib.Core.Logic.{⊎-elim}
 use native.Mathlib.Omega.{arith}
 use Rattle.geom.proofs.basics.Tests.{clash}
-use Rattle.windows.specs.inner.Walk.{Turns}
+use Rattle.windows.specs.inner.Sharing.{Turns}
 use Rattle.windows.proofs.laws.Frames.{order-lies}
 use Rattle.windows.proofs.laws.Portions.{place-low, place-fits, its-turn}
 use borrow.Author.Needs.{needs}

@@ -36,7 +36,7 @@ returns c =
     let e = f .before .before .before in
     let s = e .before .before .before in
     let a = s .args in
-    draws (a .s) (a .told) (a .width) (a .height) (a .store .now) (a .screen .now) (s .pre) _ (e .either .ensures) _
+    draws (a .s) (a .forced) (a .width) (a .height) (a .store .now) (a .screen .now) (s .pre) _ (e .either .ensures) _
     (is-whole (a .s) (a .store .now) (f .before .if1 .taken)) (sym (f .screen-fits .ensures) ∙ d .before .before .if2 .taken) (d .draw-all .ensures)
 
 returns-2 : tie.Need-returns-2
@@ -45,7 +45,7 @@ returns-2 c =
     let e = f .before .before .before in
     let s = e .before .before .before in
     let a = s .args in
-    no-screen (a .s) (a .told) (a .width) (a .height) (a .store .now) (a .screen .now) (s .pre) _ (e .either .ensures)
+    no-screen (a .s) (a .forced) (a .width) (a .height) (a .store .now) (a .screen .now) (s .pre) _ (e .either .ensures)
     (is-whole (a .s) (a .store .now) (f .before .if1 .taken)) (sym (f .screen-fits .ensures) ∙ c .if2 .left)
 
 returns-3 : tie.Need-returns-3
@@ -53,7 +53,7 @@ returns-3 c =
     let e = c .before .before in
     let s = e .before .before .before in
     let a = s .args in
-    no-store (a .s) (a .told) (a .width) (a .height) (a .store .now) (a .screen .now) (s .pre) _ (e .either .ensures) (isnt-whole (a .s) (a .store .now) (c .if1 .left))
+    no-store (a .s) (a .forced) (a .width) (a .height) (a .store .now) (a .screen .now) (s .pre) _ (e .either .ensures) (isnt-whole (a .s) (a .store .now) (c .if1 .left))
 
 pub draw-spec : {M : Type 1} → statement M
 draw-spec =

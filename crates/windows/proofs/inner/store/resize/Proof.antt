@@ -98,8 +98,8 @@ resized-requires c κs =
       height≤ = b .1;
     })
 
-flagged-requires : tie.Need-flagged-requires
-flagged-requires c κs =
+set-maximised-requires : tie.Need-set-maximised-requires
+set-maximised-requires c κs =
     let r = c .before .before .before in
     let f = r .before .before .before .before in
     known (f .before .before .before) .low
@@ -119,7 +119,7 @@ returns c =
     let t = f .before .before .before in
     let s = start t in
     let a = s .args in
-    rw (c .owing .ensures, c .before .flagged .ensures)
+    rw (c .owing .ensures, c .before .set-maximised .ensures)
     (yes rule (known t) (flag-debt (a .id .0) false) (r .resized .result) _ (rw (small f, le-leb (a .w * a .h) (a .shared .c) (g .if4 .taken))) (rw (n .0, n .1) at (r .resized .ensures)))
 
 returns-2 : tie.Need-returns-2
@@ -158,7 +158,7 @@ resize-spec =
     cast-resized
     mul-resized
     resized-requires
-    flagged-requires
+    set-maximised-requires
     owing-requires
     same-length
     returns

@@ -3,18 +3,18 @@ use Prim.Native.Nat.{_-_, _≤_}
 use mathlib.Core.Path.{refl}
 use mathlib.Core.Logic.{⊎-elim}
 use native.Mathlib.Omega.{arith}
-use Rattle.windows.specs.inner.Dims.{StaysAt, Collects}
+use Rattle.windows.specs.inner.Maximise.{StaysAt, Collects}
 use Rattle.windows.proofs.laws.Planned.{collects-none, collects-more, collects-past, collects-all}
 use borrow.Author.Needs.{needs}
 use Rattle.windows.proofs.inner.update.accepted.Statement.{statement}
 use Rattle.windows.proofs.inner.update.accepted.Tie as tie
 
 abbrev Inv-loop : tie.InvT-loop
-Inv-loop moves old areas takes order₀ n₀ i₀ order n i =
-    (i ≤ 16) × Collects (StaysAt old (record { areas = areas; takes = takes })) i n order
+Inv-loop moves old areas resizes order₀ n₀ i₀ order n i =
+    (i ≤ 16) × Collects (StaysAt old (record { areas = areas; resizes = resizes })) i n order
 
 abbrev μ-loop : tie.MeasureT-loop
-μ-loop moves old areas takes order₀ n₀ i₀ order n i = 16 - i
+μ-loop moves old areas resizes order₀ n₀ i₀ order n i = 16 - i
 
 loop-holds : tie.Need-loop-holds Inv-loop μ-loop
 loop-holds c = (omega arith, collects-none (search needs))

@@ -2,7 +2,7 @@
 use Prim.Native.Nat.{ℕ, _-_, _<_}
 use mathlib.Core.List.{List}
 use native.Mathlib.Omega.{arith}
-use Rattle.windows.specs.inner.Dims.{Plans}
+use Rattle.windows.specs.inner.Maximise.{Plans}
 use Rattle.windows.proofs.laws.Updated.{Updating, begins, asks, inside, movable, goes-on, ends}
 use borrow.Author.Needs.{needs}
 use Rattle.windows.proofs.inner.update.moved.Statement.{statement}
