@@ -36,7 +36,7 @@
  *
  * When the screen is right. After a redraw each pixel under a shown window is that of its topmost window, if three things are kept. A window
  * is marked after its last write (roq_fill, roq_blit): what is written and not marked may stay undrawn. Every redraw and portion is lent the
- * same screen, at one size, since it writes only what it has to; told `true` it writes all that is seen. Nobody else writes store or screen: a
+ * same screen, at one size, since it writes only what it has to; forced, it writes all that is seen. Nobody else writes store or screen: a
  * copy of the session that makes calls of its own is somebody else. A pixel under no shown window keeps its old value, also in a full redraw, so
  * keep a window of the screen's size lowest, such as the plan. A full redraw is owed, which draws everything, in a new session; after each
  * move, resize, maximise and update_dims that is accepted; and after each show, hide, change of a shown window's layer and switch of dimming that
@@ -241,14 +241,14 @@ typedef struct RoqPopped {
 /* The oldest event of a window's queue, or else its unread MouseMove. Asks 3, 10. */
 RoqPopped roq_pop(RoqSession *s, uint32_t id);
 
-/* Draws the shown windows on the screen, lowest first: everything where `told` or where a full redraw is owed, else the marked windows. Reads
+/* Draws the shown windows on the screen, lowest first: everything where `forced` or where a full redraw is owed, else the marked windows. Reads
  * the store, writes the screen. Asks 1, 8. */
-uint32_t roq_redraw(RoqSession *s, bool told, uint32_t width, uint32_t height, const uint32_t *store, size_t store_len,
+uint32_t roq_redraw(RoqSession *s, bool forced, uint32_t width, uint32_t height, const uint32_t *store, size_t store_len,
                     uint32_t *screen, size_t screen_len);
 
-/* Begins a walk, which is a redraw window by window: everything where `told` or where a full redraw is owed, else the marked windows. Drops the
+/* Begins a walk, which is a redraw window by window: everything where `forced` or where a full redraw is owed, else the marked windows. Drops the
  * walk that is on; so does roq_redraw. With no window shown the walk is over at once. Asks nothing. */
-uint32_t roq_begin(RoqSession *s, bool told);
+uint32_t roq_begin(RoqSession *s, bool forced);
 
 /* Draws the walk's next window, lowest first; after the last one the walk is over. Any calls may come between two portions: one that owes a full
  * redraw sends the walk back to the lowest window, to draw everything; what is written to a window after its portion is damage for the next

@@ -198,8 +198,8 @@ impl Side for Ours {
             Call::Press(x, y) => answer(s.route(Event::MouseDown { at: Pos::new(x, y), button: 1 })),
             Call::Release(x, y) => answer(s.route(Event::MouseUp { at: Pos::new(x, y), button: 1 })),
             Call::Point(x, y) => answer(s.route(Event::mouse_move(Pos::new(x, y)))),
-            Call::Redraw(told) => answer(s.redraw(told, self.width, self.height, &self.store, &mut self.screen)),
-            Call::Begin(told) => answer(s.begin(told)),
+            Call::Redraw(forced) => answer(s.redraw(forced, self.width, self.height, &self.store, &mut self.screen)),
+            Call::Begin(forced) => answer(s.begin(forced)),
             Call::Portion => answer(s.portion(self.width, self.height, &self.store, &mut self.screen)),
             Call::Dim(on) => answer(s.dim(on)),
         })

@@ -119,7 +119,7 @@ impl Side for Theirs {
             Call::UpdateDims => g.update_dims(),
             Call::Fill(id, a, colour) => g.fill(id, rect(a), colour),
             Call::Blit(id, a, ref data) => g.blit(id, rect(a), data, a.2 as usize),
-            Call::Redraw(told) => g.redraw(told || self.owed),
+            Call::Redraw(forced) => g.redraw(forced || self.owed),
             Call::Hits(ref points) => {
                 self.points.clear();
                 self.points.extend(points.iter().map(|point| g.at(point.x, point.y)));

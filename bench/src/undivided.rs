@@ -4,23 +4,23 @@ use crate::ours::Ours;
 
 pub struct Undivided {
     ours: Ours,
-    /// What a walk was told, until its first portion.
-    told: Option<bool>,
+    /// Whether a walk was begun as a full one, until its first portion.
+    forced: Option<bool>,
 }
 
 impl Undivided {
     pub fn new(ours: Ours) -> Undivided {
-        Undivided { ours, told: None }
+        Undivided { ours, forced: None }
     }
 }
 
 impl Side for Undivided {
     fn call(&mut self, call: &Call) -> Reply {
         match *call {
-            Call::Begin(told) => self.told = Some(told),
+            Call::Begin(forced) => self.forced = Some(forced),
             Call::Portion => {
-                if let Some(told) = self.told.take() {
-                    return self.ours.call(&Call::Redraw(told));
+                if let Some(forced) = self.forced.take() {
+                    return self.ours.call(&Call::Redraw(forced));
                 }
             }
             _ => return self.ours.call(call),

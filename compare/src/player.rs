@@ -187,9 +187,9 @@ impl Player {
             Call::UpdateDims => surfaces::update_dims(group, &self.displays),
             Call::Fill(id, area, colour) => group.fill(id, area, colour),
             Call::Blit(id, area, stride, ref data) => group.blit(id, area, data, stride as usize),
-            Call::Redraw(told, w, h) => {
+            Call::Redraw(forced, w, h) => {
                 lend_screen(&self.screen, w, h);
-                group.redraw(told || self.shadow.owed)
+                group.redraw(forced || self.shadow.owed)
             }
             Call::Lend(pixels) => self.lent.store = pixels,
             Call::LendScreen(pixels) => self.lent.screen = Some(pixels),

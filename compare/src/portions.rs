@@ -99,8 +99,8 @@ impl Pair {
         let mut answer = Text::default();
         player.line(line.as_bytes(), &mut answer);
         match call {
-            Call::Redraw(told, w, h) if answer.0 == b"0\n" => {
-                let (begin, portion) = (format!("begin {}", u32::from(told)), format!("portion {w} {h}"));
+            Call::Redraw(forced, w, h) if answer.0 == b"0\n" => {
+                let (begin, portion) = (format!("begin {}", u32::from(forced)), format!("portion {w} {h}"));
                 self.redraw(random, &Walk { redraw: line, begin, portion, places: &player.shadow.places });
             }
             _ => self.both(line),

@@ -170,8 +170,8 @@ impl Shadow {
             Call::Resize(id, w, h) => self.damage[*id as usize].set(Area::new(0, 0, *w, *h)),
             Call::Fill(id, area, _) => self.fill(*id as usize, Area::of(area)),
             Call::Blit(id, area, ..) => self.hurt(*id as usize, Area::of(area)),
-            Call::Redraw(told, ..) => self.redraw(*told),
-            Call::Begin(told) => self.begin(*told),
+            Call::Redraw(forced, ..) => self.redraw(*forced),
+            Call::Begin(forced) => self.begin(*forced),
             Call::Portion(..) => self.portion(),
             Call::Dim(on) => self.dim(*on),
             _ => {}
@@ -202,9 +202,9 @@ impl Shadow {
     }
 
     /// "an undivided redraw … drops the walk"
-    fn redraw(&mut self, told: bool) {
+    fn redraw(&mut self, forced: bool) {
         for id in self.places.order.clone() {
-            self.treat(id, told || self.owed);
+            self.treat(id, forced || self.owed);
         }
         self.owed = false;
         self.walk = None;
@@ -218,8 +218,8 @@ impl Shadow {
     }
 
     /// "full if told so or owed"
-    fn begin(&mut self, told: bool) {
-        self.go_on(Walk { done: 0, full: told || self.owed });
+    fn begin(&mut self, forced: bool) {
+        self.go_on(Walk { done: 0, full: forced || self.owed });
     }
 
     /// "each portion treats the next window of the render order, lowest first"

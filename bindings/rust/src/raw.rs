@@ -142,8 +142,8 @@ extern "C" {
     pub fn roq_blit(s: *mut Session, id: u32, area: Rect, stride: usize, data: *const u32, data_len: usize, store: *mut u32, store_len: usize) -> Altered;
     pub fn roq_route(s: *mut Session, e: Event) -> u32;
     pub fn roq_pop(s: *mut Session, id: u32) -> Popped;
-    pub fn roq_redraw(s: *mut Session, told: bool, width: u32, height: u32, store: *const u32, store_len: usize, screen: *mut u32, screen_len: usize) -> u32;
-    pub fn roq_begin(s: *mut Session, told: bool) -> u32;
+    pub fn roq_redraw(s: *mut Session, forced: bool, width: u32, height: u32, store: *const u32, store_len: usize, screen: *mut u32, screen_len: usize) -> u32;
+    pub fn roq_begin(s: *mut Session, forced: bool) -> u32;
     pub fn roq_portion(s: *mut Session, width: u32, height: u32, store: *const u32, store_len: usize, screen: *mut u32, screen_len: usize) -> u32;
     pub fn roq_dim(s: *mut Session, on: bool) -> u32;
     pub fn roq_visible(s: *const Session, id: u32, list: *mut u32, list_len: usize) -> Listing;

@@ -210,11 +210,11 @@ impl Session {
         Error::checked(popped.answer).map(|()| Event::of(popped.event))
     }
 
-    /// Draws the shown windows on the screen: everything where `told` or owed, else the marked ones.
+    /// Draws the shown windows on the screen: everything where `forced` or owed, else the marked ones.
     #[inline]
     pub fn redraw(
         &mut self,
-        told: bool,
+        forced: bool,
         width: u32,
         height: u32,
         store: &[u32],
@@ -222,13 +222,13 @@ impl Session {
     ) -> Result<(), Error> {
         let (px, len) = (screen.as_mut_ptr(), screen.len());
         let s = &mut self.0;
-        Error::checked(unsafe { raw::roq_redraw(s, told, width, height, store.as_ptr(), store.len(), px, len) })
+        Error::checked(unsafe { raw::roq_redraw(s, forced, width, height, store.as_ptr(), store.len(), px, len) })
     }
 
     /// Begins a walk, which is a redraw window by window.
     #[inline]
-    pub fn begin(&mut self, told: bool) -> Result<(), Error> {
-        Error::checked(unsafe { raw::roq_begin(&mut self.0, told) })
+    pub fn begin(&mut self, forced: bool) -> Result<(), Error> {
+        Error::checked(unsafe { raw::roq_begin(&mut self.0, forced) })
     }
 
     /// Draws the walk's next window, lowest first; [`Error::NoWalk`] where it is over.

@@ -11,9 +11,9 @@ impl Maker<'_> {
 
     pub fn redraw(&mut self) {
         self.mark_written();
-        let told = u32::from(self.random.chance(50));
+        let forced = u32::from(self.random.chance(50));
         let (w, h) = self.screen;
-        self.say(&format!("redraw {told} {w} {h}"));
+        self.say(&format!("redraw {forced} {w} {h}"));
         self.screen();
     }
 
@@ -30,8 +30,8 @@ impl Maker<'_> {
     /// Hidden windows are dragged in it, or other calls come in between: after both, the plays could differ by right.
     fn walk(&mut self) {
         self.mark_written();
-        let told = u32::from(self.random.chance(100));
-        self.say(&format!("begin {told}"));
+        let forced = u32::from(self.random.chance(100));
+        self.say(&format!("begin {forced}"));
         let is_for_hidden = self.random.chance(250);
         for _ in 0..self.random.from_to(0, 3) {
             let shown = self.shadow.places.order.len() as u32;
