@@ -1,6 +1,6 @@
 /* The window group for programs in C and C++: link target/staticlib/libroqshyn.a.
  *
- * Answers. Every call answers 0, or the number of the first question of document 01 that it answers with a no. Then it has changed no
+ * Answers. Every call answers 0, or the number of the first question of document 01 that it answers with a no (duty D14). Then it has changed no
  * session, store, list, buffer, screen or pixel; only a refused roq_start makes a session all the same. "Asks" below names the questions of a
  * call, in their order:
  *    1  the lent store has exactly 16 x C pixels       8  the screen's width and height are 1 to 32,767, its length their product
@@ -25,20 +25,20 @@
  *                                                     27  no time is below the one before it
  *
  * Sessions. A session is one that roq_start, also a refused one, and these calls made, in the caller's memory. It may be copied and moved as a
- * whole; nobody else writes it. One thread at a time uses it. This and the next paragraph are all that a call asks of its caller: every
+ * whole; nobody else writes it (duty D12). One thread at a time uses it (duty D3). This and the next paragraph are all that a call asks of its caller: every
  * number may be anything, and is answered.
  *
  * Lent memory. A pointer and the number after it are an array of that many pixels, numbers or bytes. It is lent for the call alone: nothing
- * of it is kept. It is aligned and not null, also where its length is 0. No two arrays of a call overlap, nor do they overlap the
- * session, unless both are only read (const). A bool is 0 or 1.
+ * of it is kept. It is aligned and not null, also where its length is 0 (duty D4). No two arrays of a call overlap, nor do they overlap the
+ * session, unless both are only read (const) (duty D5). A bool is 0 or 1 (duty D6).
  *
  * The store has 16 x C pixels. Window i has the C from i x C on, in rows of its own width. The screen has width x height pixels.
  *
  * When the screen is right. After a redraw each pixel under a shown window is that of its topmost window, if three things are kept. A window
- * is marked after its last write (roq_fill, roq_blit): what is written and not marked may stay undrawn. Every redraw and portion is lent the
+ * is marked after its last write (roq_fill, roq_blit): what is written and not marked may stay undrawn (duty D7). Every redraw and portion is lent the
  * same screen, at one size, since it writes only what it has to; forced, it writes all that is seen. Nobody else writes store or screen: a
- * copy of the session that makes calls of its own is somebody else. A pixel under no shown window keeps its old value, also in a full redraw, so
- * keep a window of the screen's size lowest, such as the plan. A full redraw is owed, which draws everything, in a new session; after each
+ * copy of the session that makes calls of its own is somebody else (duty D8). A pixel under no shown window keeps its old value, also in a full redraw, so
+ * keep a window of the screen's size lowest, such as the plan (duty D9). A full redraw is owed, which draws everything, in a new session; after each
  * move, resize, maximise and update_dims that is accepted; and after each show, hide, change of a shown window's layer and switch of dimming that
  * changes something. A raise of a shown window has the next redraw draw that window too, a drag also what it uncovered,
  * and not everything; each owes a full redraw only where one is owed already or a walk is on. Neither stands for the
@@ -71,13 +71,13 @@
  * Releases. A MouseUp goes to the window that took the last MouseDown, wherever the finger is by then, at that window's pixel nearest to it
  * (request N1), unless the window was hidden or dropped meanwhile. A second MouseDown, of another finger or button, takes the first one's
  * place. Where no window is remembered, or the one remembered has no pixels, a MouseUp goes to the topmost window at its point, as every one
- * did before N1: so a panel acts on a release only if it took the press. A release beside its window comes at the window's edge, so leave at
- * least one pixel between a button and the edge; else it counts as let go on the button. A window is brought to the front by
+ * did before N1: so a panel acts on a release only if it took the press (duty D10). A release beside its window comes at the window's edge, so leave at
+ * least one pixel between a button and the edge; else it counts as let go on the button (duty D11). A window is brought to the front by
  * roq_raise, before its press is routed or after: a raise forgets no press. A hide does, also if a show follows.
  *
  * Limits. Ids are 0 to 15. Any other number may be given; it is no window's, and question 3 is answered with a no. A
  * pixel has red in bits 16 to 23, green in 8 to 15, blue in 0 to 7; the top byte is kept as it is. No call takes as much
- * as 16 KiB of stack: measured by include/test, not proved. roq_start comes first. Without it a session of zeros answers
+ * as 16 KiB of stack (duty D15): worked out by tools/stack, not proved. roq_start comes first (duty D2). Without it a session of zeros answers
  * as one with C = 0, measured and not promised: windows are created and shown, but a call that is lent a store with any
  * pixel answers 1, and nothing is drawn. */
 #ifndef ROQSHYN_H
@@ -134,7 +134,7 @@ typedef struct RoqSession {
 } RoqSession;
 
 /* Begins a session without windows, whose windows will have room for c pixels each. Asks 2; on a no it begins one all the same, with
- * C = 1. Before the call the memory holds zeros (RoqSession s = {0};) or a session, which ends, also on a no. */
+ * C = 1. Before the call the memory holds zeros (RoqSession s = {0};) or a session, which ends, also on a no (duty D1). */
 uint32_t roq_start(RoqSession *s, uint32_t c);
 
 /* The id that there is not, which no window has. */
@@ -251,7 +251,7 @@ uint32_t roq_redraw(RoqSession *s, bool forced, uint32_t width, uint32_t height,
 uint32_t roq_begin(RoqSession *s, bool forced);
 
 /* Draws the walk's next window, lowest first; after the last one the walk is over. Any calls may come between two portions: one that owes a full
- * redraw sends the walk back to the lowest window, to draw everything; what is written to a window after its portion is damage for the next
+ * redraw sends the walk back to the lowest window, to draw everything (duty D13); what is written to a window after its portion is damage for the next
  * redraw. Reads the store, writes the screen. Asks 1, 8, 20. */
 uint32_t roq_portion(RoqSession *s, uint32_t width, uint32_t height, const uint32_t *store, size_t store_len, uint32_t *screen,
                      size_t screen_len);
@@ -286,7 +286,7 @@ RoqShare roq_share(const RoqSession *s, uint32_t id);
 uint32_t roq_hits(const RoqSession *s, const uint32_t *points, size_t points_len, uint32_t *answers, size_t answers_len);
 
 /* A look at a window: its corner (x,y) in the window and a factor, 0.25, 0.5, 1, 2 or 4; or `fit`, which takes the corner (0,0) and the
- * greatest factor with which the window passes the target in neither width nor height, or else 0.25, and reads x, y and factor not. */
+ * greatest factor with which the window passes the target in neither width nor height, or else 0.25, and reads x, y and factor not (duty D16). */
 typedef struct RoqLook {
     double x, y, factor;
     bool fit;

@@ -261,6 +261,12 @@ class Stack:
             raise Refused(f"{frame.name} calls itself, and is in no table of depths")
         return (self.depths[frame.name][0] - 1) * max(depth for depth, _ in frame.own_calls)
 
+    def turns(self):
+        """A line for each function that calls itself."""
+        for name, (depth, why) in self.depths.items():
+            turn = max(depth for depth, _ in Frame(name, self.code).own_calls)
+            yield f"{name}: {depth} turns of {turn} bytes, {why}"
+
     def exported(self, prefix="roq_"):
         return {name: self.bytes(name) for name in sorted(self.code.functions) if name.startswith(prefix)}
 
@@ -332,20 +338,21 @@ def compare(found, archive, measured, driver):
     yield from wrong_measured(taken, measured_in_speed((ROOT / SPEED).read_text()), SPEED)
 
 
-def calls_of(archive, depths):
+def calls_of(stack):
     """What each exported call takes."""
-    found = Stack(Code(archive), depths).exported()
+    found = stack.exported()
     if not found:
-        raise Refused(f"{archive} has no function roq_*")
+        raise Refused("there is no function roq_*")
     return found
 
 
 def main(archive, *words):
     mode, words = (words[0], words[1:]) if words[0].startswith("--") else ("", words)
-    found = calls_of(archive, DEPTHS)
+    stack = Stack(Code(archive), DEPTHS)
+    found = calls_of(stack)
     if mode == "--write":
         (ROOT / MANUAL).write_text(with_table((ROOT / MANUAL).read_text(), found))
-    print("".join(f"{name} {most}\n" for name, most in found.items()), end="")
+    print("\n".join([*(f"{name} {most}" for name, most in found.items()), *stack.turns()]))
     wrong = above_limit(found) + list(compare(found, archive, *words))
     if wrong:
         raise Refused("\n".join(wrong))

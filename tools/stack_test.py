@@ -62,7 +62,7 @@ REFUSED = [
     ("two functions that call each other", alone("call g\n ret") + function("g", "call f\n ret"), {}, "f calls g calls f"),
     ("a table of depths with a function that is gone", f("ret"), AGAIN, "there is no such function"),
     ("a table of depths with a function that ends", alone("ret"), AGAIN, "does not call itself"),
-    ("no call", function("g", "ret"), {}, "no function roq_*"),
+    ("no call", function("g", "ret"), {}, "there is no function roq_*"),
     ("a call above the limit", f("sub $0x4000,%rsp\n add $0x4000,%rsp\n ret"), {}, "more than 16,384"),
     ("a call above the limit by its turns", alone(OFTEN), {"f": (400, "")}, "more than 16,384"),
 ]
@@ -97,7 +97,7 @@ def assembled(folder, text):
 def said(file, depths):
     """What is wrong with object code; nothing where it is not refused."""
     try:
-        wrong = stack.above_limit(stack.calls_of(file, depths))
+        wrong = stack.above_limit(stack.calls_of(Stack(Code(file), depths)))
     except Refused as why:
         return str(why)
     return "\n".join(wrong)
