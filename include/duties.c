@@ -82,7 +82,7 @@ static void d1_zeros_before_start(void) {
     EXPECT(roq_start(&s, 0) == 2 && roq_rect_of(&s, PLAN).answer == 3 && roq_create(&s).id == 0);
 }
 
-/* Broken: a screen that is said to be a pixel longer than the memory that is there. */
+/* The end of a page behind which nothing may be read or written. */
 static uint32_t *end_of_page(void) {
     size_t page = (size_t)sysconf(_SC_PAGESIZE);
     char *pages = mmap(NULL, 2 * page, PROT_READ | PROT_WRITE, MAP_PRIVATE | MAP_ANONYMOUS, -1, 0);
@@ -93,6 +93,7 @@ static uint32_t *end_of_page(void) {
 static uint32_t *lent;
 static void redraw_lent(void) { roq_redraw(&s, true, WIDTH, HEIGHT, store, STORE, lent, C); }
 
+/* Broken: a screen that is said to be a pixel longer than the memory that is there. */
 static void d4_memory_is_there(void) {
     scene();
     uint32_t *end = end_of_page();

@@ -9,6 +9,8 @@ import pathlib
 import re
 import sys
 
+from stack import DEPTHS
+
 ROOT = pathlib.Path(__file__).resolve().parent.parent
 MANUAL, HEADER, SPEED = "docs/SAFETY-MANUAL.md", "include/roqshyn.h", "docs/SPEED.md"
 TESTS, RUNS = "include/duties.c", "include/test"
@@ -17,8 +19,10 @@ BEGIN, END = "<!-- tools/duties -->\n", "<!-- end -->"
 FIGURES = ("longest call", "session", "store of", "screen")
 # A file in the manual's words: `docs/SPEED.md`, `bash bench/run`, `visible/specs/inner/Seen.antt`. Another repository's
 # or a made one is not looked for.
-NAMED = re.compile(r"`(?:bash )?((?:[\w.-]+/)+[\w.-]+)[^`]*`|\]\(([^)#:]+)[^)]*\)")
+NAMED = re.compile(r"`(?:bash )?((?:[\w.+-]+/)+[\w.+-]*)[^`]*`|\]\(([^)#:]+)[^)]*\)")
 MADE = ("target/",)
+# A definition and its part: `few` of `Table`, `visible/specs/inner/Seen.antt`.
+DEFINED = re.compile(r"`(\w+)`\s+of\s+`(\w+)`,\s+`([\w./+-]+)`")
 
 
 def read_files(root=ROOT):
@@ -79,6 +83,13 @@ def wrong_places(manual, exists):
         name = code or f"docs/{link}"
         if not name.startswith(MADE) and not exists(name) and not exists(f"crates/{name}"):
             yield f"{MANUAL}: there is no {name}"
+    for part, whole, file in DEFINED.findall(manual):
+        said = (ROOT / "crates" / file).read_text() if exists(f"crates/{file}") else ""
+        if not re.search(rf"\brecord {whole}\b.*?\bpub {part} :", said, re.S):
+            yield f"{MANUAL}: {file} has no `{part}` of `{whole}`"
+    for name in DEPTHS:
+        if f"`{name.rpartition('::')[2]}`" not in manual:
+            yield f"{MANUAL}: it does not name {name}, which calls itself"
 
 
 def figures(speed):

@@ -26,6 +26,8 @@ REFUSED = [
     ("a test of no duty", TESTS, "int main", "static void d99_more(void) {}\nint main", "does not name d99_more"),
     ("a file that is not there", MANUAL, "`bash compare/look`", "`bash compare/looks`", "there is no compare/looks"),
     ("a spec that is not there", MANUAL, "`visible/specs/inner/Seen.antt`", "`visible/specs/Seen.antt`", "no visible/specs/Seen.antt"),
+    ("a definition that is not there", MANUAL, "`few` of", "`low` of", "no `low` of `Table`"),
+    ("a function that calls itself, not named", MANUAL, "`count_seen`", "the second", "does not name visible::list::count_seen"),
     ("a link that leads nowhere", MANUAL, "](PROMISES.md)", "](PROMISE.md)", "there is no docs/PROMISE.md"),
     ("another figure in the manual", MANUAL, "| session | ", "| session | 9", "not those of docs/SPEED.md"),
     ("another figure in SPEED.md", SPEED, "| longest call | ", "| longest call | 9", "not those of docs/SPEED.md"),

@@ -1,4 +1,4 @@
-"""stack.py ARCHIVE [--write | --test] [MEASURED DRIVER]: the bytes of stack that each exported call takes at most.
+"""stack.py ARCHIVE [--write | --test] MEASURED DRIVER: the bytes of stack that each exported call takes at most.
 
 It reads the object code. A function is followed from its first instruction along its jumps, with the bytes that lie on
 the stack at each: its return address, what it pushes and what it takes off %rsp. Where a function writes below %rsp,
@@ -28,9 +28,8 @@ EXTERNAL = ("memcpy", "memmove", "memset")
 # How many turns of a function that calls itself are on the stack at most. A turn has the rectangles from the i-th of n
 # on; it looks for the first of them that meets its part, the k-th, and calls itself from k + 1 on; where there is none
 # it calls itself no more. So n - i falls with each turn, which is the measure of the function's proof, and i goes from
-# 0 to n at most: n + 1 turns. That n is at most 16 is proved (`few` of `Table` in visible/specs/inner/Seen.antt, asked
-# at each turn). It is at most 15, since at most 16 windows are shown (`few` of `Shown` in order/specs/inner/Order.antt)
-# and each caller hands over those from the place behind the window's own on.
+# 0 to n at most: n + 1 turns. n is at most 15: at most 16 windows are shown, and each caller hands over those from the
+# place behind the window's own on. The manual names the proofs.
 WINDOWS_ABOVE = 15
 SEARCH = "one turn for each of the at most 15 windows above, and the last"
 DEPTHS = {
