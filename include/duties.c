@@ -1,5 +1,5 @@
-/* The duties of a caller by their numbers in docs/SAFETY-MANUAL.md: what holds where one is kept, and what is seen where
- * it is broken, as far as that is sure. A duty whose breach cannot be detected has no function here. */
+/* The duties of a caller by their numbers in docs/SAFETY-MANUAL.md: what holds where one is kept, and what is seen
+ * where it is broken, as far as that is sure. A duty whose breach cannot be detected has no function here. */
 #define _GNU_SOURCE
 #include "roqshyn.h"
 

@@ -1,7 +1,7 @@
 """duties.py [--write | --test]: sees that header, manual and tests have the same duties of a caller.
 
-A duty of the manual is a paragraph that begins with `**D7. `. It has a sentence after `Broken:` and one after `Noticed:`,
-and either `Tried:` with files and names in them, or `Not detectable:` with the reason. The header cites it by
+A duty of the manual is a paragraph that begins with `**D7. `. It has a sentence after `Broken:` and one after
+`Noticed:`, and either `Tried:` with files and names in them, or `Not detectable:` with the reason. The header cites it by
 `(duty D7)`. A function of include/duties.c belongs to the duty whose number it begins with, as d7_mark_after_write. A
 test in C is one that include/test compiles.
 """

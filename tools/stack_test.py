@@ -1,5 +1,5 @@
-"""Object code and figures that stack.py has to refuse, and some with the bytes that it has to find: assembled anew, in a
-folder of its own."""
+"""Object code and figures that stack.py has to refuse, and some with the bytes that it has to find: assembled anew, in
+a folder of its own."""
 import os
 import pathlib
 import subprocess
