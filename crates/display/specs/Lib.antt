@@ -1,3 +1,3 @@
--- How the displays are held.
+-- What the displays in memory stand for.
 pub mod Represents
 pub mod inner

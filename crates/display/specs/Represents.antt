@@ -1,4 +1,4 @@
--- How the displays are held: an array of eight with a count, in numbers of 16 bits; and what the code keeps of it.
+-- What the displays in memory stand for: an array of eight with a count, in numbers of 16 bits; and what the code keeps of it.
 use Prim.Native.Nat.{ℕ, _≤_, _<_}
 use mathlib.Core.Path.{_≡_}
 use mathlib.Core.List.{List, [], _∷_, _++_, map}

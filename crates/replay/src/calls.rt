@@ -104,7 +104,7 @@ fn started(mut p: Player, c: u32, out: &mut [u8; 65536]) -> Player
     p.answered(done, out)
 }
 
-fn put_id(id: NewId, out: &mut [u8; 65536], at: usize) -> usize
+fn write_id(id: NewId, out: &mut [u8; 65536], at: usize) -> usize
     requires { ⌜ at ≤ 65536 ⌝ }
     ensures { λ r. ⌜ r ≤ 65536 ⌝ }
 {
@@ -124,12 +124,12 @@ fn create(mut p: Player, out: &mut [u8; 65536]) -> Player
     p.session = session;
     let to = answer_text::number(out, p.at, made.answer as u64);
     let id = made.id;
-    let then = put_id(id, out, to);
+    let then = write_id(id, out, to);
     p.at = answer_text::end(out, then);
     p
 }
 
-fn put_event(event: NextEvent, out: &mut [u8; 65536], at: usize) -> usize
+fn write_popped(event: NextEvent, out: &mut [u8; 65536], at: usize) -> usize
     requires { ⌜ at ≤ 65536 ⌝ }
     ensures { λ r. ⌜ r ≤ 65536 ⌝ }
 {
@@ -149,7 +149,7 @@ fn pop(mut p: Player, ns: &[u32; 4200], out: &mut [u8; 65536]) -> Player
     p.session = session;
     let to = answer_text::number(out, p.at, popped.answer as u64);
     let event = popped.event;
-    let then = put_event(event, out, to);
+    let then = write_popped(event, out, to);
     p.at = answer_text::end(out, then);
     p
 }

@@ -26,7 +26,7 @@ fn write_hits(answer: u32, n: usize, list: &[u32; 7812], out: &mut [u8; 65536], 
 {
     if answer == OK {
         let to = answer_text::number(out, at, 0);
-        let last = lend::put_list(list, n, out, to);
+        let last = lend::write_list(list, n, out, to);
         return answer_text::end(out, last);
     }
     answer_text::answer(out, at, answer)

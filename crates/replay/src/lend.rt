@@ -199,7 +199,7 @@ fn listed(s: Session, ns: &[u32; 4200], list: &mut [u32], len: usize) -> Listing
     s.visible(numbers::id(ns), &mut list[0..len])
 }
 
-pub fn put_list(list: &[u32], n: usize, out: &mut [u8; 65536], at: usize) -> usize
+pub fn write_list(list: &[u32], n: usize, out: &mut [u8; 65536], at: usize) -> usize
     requires { ⌜ (n ≤ length (now list)) × (at ≤ 65536) ⌝ }
     ensures { λ r. ⌜ r ≤ 65536 ⌝ }
 {
@@ -207,7 +207,7 @@ pub fn put_list(list: &[u32], n: usize, out: &mut [u8; 65536], at: usize) -> usi
 }
 
 // A line of the answer and, where it is 0, how many rectangles there are and then these, which stand at the front of the list.
-pub fn put_rects(
+pub fn write_rects(
     answer: u32,
     count: usize,
     list: &[u32; 7812],
@@ -220,7 +220,7 @@ pub fn put_rects(
     if answer == OK {
         let to = answer_text::number(out, at, 0);
         let then = answer_text::count(out, to, count);
-        let last = put_list(list, 4 * count, out, then);
+        let last = write_list(list, 4 * count, out, then);
         return answer_text::end(out, last);
     }
     answer_text::answer(out, at, answer)
@@ -239,7 +239,7 @@ pub fn visible(
     let len = list_len(p, 1984);
     let found = listed(s, ns, list, len);
     p.has_list = false;
-    p.at = put_rects(found.answer, found.count, list, out, p.at);
+    p.at = write_rects(found.answer, found.count, list, out, p.at);
     p
 }
 

@@ -59,7 +59,7 @@ pub fn read_sheet(
     let len = lend::list_len(p, 7812);
     let found = read_numbers(ns, line.count, list, len);
     p.has_list = false;
-    p.at = lend::put_rects(found.answer, found.count, list, out, p.at);
+    p.at = lend::write_rects(found.answer, found.count, list, out, p.at);
     p
 }
 

@@ -21,7 +21,6 @@ use crate::values::RoqCreated;
 use crate::values::RoqDisplay;
 use crate::values::RoqPopped;
 use geom::Listing;
-use geom::Listing;
 use geom::Rect;
 use winbuf::Altered;
 use window::ids::WinId;

@@ -120,7 +120,7 @@ Presses c ks =
 
 -- Releases --------------------------------------------------------------------------------------------------------------
 
--- "MouseUp goes there, at the window pixel nearest to the point": to the window held, if it has pixels by the book
+-- "MouseUp goes there, at the window pixel nearest to the point": to the window of the grab, if it has pixels by the book
 abbrev pub ReleasedTo : Book → Ledger → Group → Group → ℕ → ℕ → ℕ → Option ℕ → Type 0
 ReleasedTo b l g h n px py (some to) =
     Taken l g h (some to)

@@ -83,7 +83,7 @@ redrawn e forced w h screen = does (e .group) (Calls.Redraw forced w h (e .store
 pub record Agrees (e : State) (i j : ℕ) (us vs : List Write) (zs : List Act) : Type 0 where
   -- "gives the same session and store"
   pub end : played e zs ≡ played e (map (on i) us ++ map (on j) vs)
-  -- "and so the same next redraw": answer, screen and group, told or not, at any size and on any screen
+  -- "and so the same next redraw": answer, screen and group, forced or not, at any size and on any screen
   pub redraw : (forced : Bool) (w h : ℕ) (screen : List ℕ)
       → redrawn (played e zs) forced w h screen ≡ redrawn (played e (map (on i) us ++ map (on j) vs)) forced w h screen
   -- each list is answered, and its altered pixels are counted, as if there were no other

@@ -26,7 +26,7 @@ pub fn forget(grab: WinId, id: WinId) -> WinId
     grab
 }
 
-// The window `held`, if it is one and has pixels; else the topmost one at the point.
+// The window `grab`, if it is one and has pixels; else the topmost one at the point.
 pub fn taker(
     areas: [Rect16; 16],
     order: [WinId; 16],

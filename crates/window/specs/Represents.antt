@@ -1,4 +1,4 @@
--- How a window is held: arrays of 16 with a count, and numbers of 16 bits. Each part has a view, which the rules of `Window` speak of, and
+-- What a window in memory stands for: arrays of 16 with a count, and numbers of 16 bits. Each part has a view, which the rules of `Window` speak of, and
 -- what the code keeps of it (`Rep…`).
 use Prim.Native.Nat.{ℕ, _+_, _-_, _≤_, _<_}
 use mathlib.Core.Bool.{cond}

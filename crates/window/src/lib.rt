@@ -1,6 +1,6 @@
 // One window by value: its place, its damage, its queue of events and its cursor. Translated from window.rs and, for `CursorPos`, mod.rs.
 //
-// The functions here are called by our own crates. Each `requires` is part of what a session keeps of its windows (specs/Held.antt).
+// The functions here are called by our own crates. Each `requires` is part of what a session keeps of its windows (specs/Represents.antt).
 ghost use mathlib.Core.Path.{_≡_};
 ghost use mathlib.Core.Bool.{false};
 ghost use Rattle.window.specs.Window.{newWin};

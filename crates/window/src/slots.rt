@@ -1,4 +1,4 @@
-// An event in a queue: `slotOf` (specs/inner/Changes.antt) and `eventOf` (specs/Held.antt) in code.
+// An event in a queue: `slotOf` (specs/inner/Changes.antt) and `eventOf` (specs/Represents.antt) in code.
 ghost use mathlib.Core.Path.{_≡_};
 ghost use Prim.Native.Nat.{_≤_};
 ghost use Rattle.window.specs.Represents.{eventOf};

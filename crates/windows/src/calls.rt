@@ -48,7 +48,7 @@ impl Session {
     }
 
     // The damage that a fill or a blit made, put in its window.
-    fn put_damage(mut self, at: usize, d: Painted) -> Written
+    fn with_damage(mut self, at: usize, d: Painted) -> Written
         requires { ⌜ Given self × (at < 16) ⌝ }
         ensures { λ r. ⌜ r ≡ written (withWindow at (setDamage (d .damage) (windowAt self at)) (self .shared) self) (d .result) ⌝ }
     {
@@ -168,7 +168,7 @@ impl Session {
         let damage = win.damage;
         let c = self.shared.c;
         let d = store::fill(win.used, place, damage, c, id, area, colour, store);
-        self.put_damage(at, d)
+        self.with_damage(at, d)
     }
 
     pub fn blit(
@@ -188,7 +188,7 @@ impl Session {
         let damage = win.damage;
         let c = self.shared.c;
         let d = store::blit(win.used, place, damage, c, id, area, stride, data, store);
-        self.put_damage(at, d)
+        self.with_damage(at, d)
     }
 
     // The window takes the display that its position is on, and stays maximised until it is moved or resized.

@@ -30,7 +30,7 @@ mod start;
 mod visible_list;
 
 // What the windows share: the render order, which holds the shown ones in its first `shown` places, lowest first; C; the
-// focus; whether dimming is on; `held`, the window that took the last MouseDown, while it is remembered, else `NOBODY`;
+// focus; whether dimming is on; `grab`, the window that took the last MouseDown, while it is remembered, else `NOBODY`;
 // what is still to be drawn; and the layer of each window by its number, 0 or 1, which is not looked at where the number
 // is not in use.
 #[repr(C)]

@@ -19,7 +19,7 @@ use Rattle.topmost.specs.inner.Topmost.{nobody}
 use Rattle.windows.specs.declared.inner.events.Target.{Target}
 use Rattle.windows.specs.declared.inner.events.Target.the-variants.{Nobody, Focus, Point}
 
--- keys go to the focus, pointer events to a point, where a release alone is for the window that is remembered, `held`; a Resize goes nowhere, and
+-- keys go to the focus, pointer events to a point, where a release alone is for the window that is remembered, `grab`; a Resize goes nowhere, and
 -- a KeyFire is refused
 abbrev pub targetOf : Event → WinId → Target
 targetOf Resize grab = Nobody 0

@@ -36,7 +36,7 @@ use window::slots::Slot;
 use window::slots::event_of;
 use window::slots::slot_of;
 
-// Where an event goes: to no window, with this answer, to the focus, or to a point of the screen: there to window `held`, if it is one and has
+// Where an event goes: to no window, with this answer, to the focus, or to a point of the screen: there to window `grab`, if it is one and has
 // pixels, else to the topmost window.
 pub enum Target {
     Nobody { answer: u32 },

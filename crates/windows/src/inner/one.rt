@@ -194,7 +194,7 @@ pub fn repaired(mut win: Window) -> Window
     win
 }
 
-// The window at a place of the order goes to the top of its layer and gets the focus, and `held` stays. If the order
+// The window at a place of the order goes to the top of its layer and gets the focus, and `grab` stays. If the order
 // changed, all of the window is repaired: a full redraw is owed where one was owed or a walk is on, else it is marked.
 fn raise_shown(win: Window, mut shared: Shared, id: WinId, p: Place) -> Changed
     requires { ⌜ Held (id .0) win shared × (some (p .0) ≡ renderIdx (id .0) (ids (shared .shown) (shared .order))) ⌝ }

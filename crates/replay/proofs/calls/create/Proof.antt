@@ -17,8 +17,8 @@ cast-number c = search needs
 number-requires : tie.Need-number-requires
 number-requires c κs = search needs
 
-put-id-requires : tie.Need-put-id-requires
-put-id-requires c κs = search needs
+write-id-requires : tie.Need-write-id-requires
+write-id-requires c κs = search needs
 
 end-requires : tie.Need-end-requires
 end-requires c κs = search needs
@@ -76,4 +76,4 @@ returns c =
 pub create-spec : {M : Type 1} → statement M
 create-spec =
     tie.close
-    (tie.spec create-requires cast-number number-requires put-id-requires end-requires returns)
+    (tie.spec create-requires cast-number number-requires write-id-requires end-requires returns)

@@ -22,8 +22,8 @@ cast-number c = search needs
 number-requires : tie.Need-number-requires
 number-requires c κs = search needs
 
-put-event-requires : tie.Need-put-event-requires
-put-event-requires c κs = search needs
+write-popped-requires : tie.Need-write-popped-requires
+write-popped-requires c κs = search needs
 
 end-requires : tie.Need-end-requires
 end-requires c κs = search needs
@@ -87,6 +87,6 @@ pop-spec =
     pop-requires
     cast-number
     number-requires
-    put-event-requires
+    write-popped-requires
     end-requires
     returns)

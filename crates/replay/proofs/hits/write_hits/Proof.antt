@@ -7,8 +7,8 @@ use Rattle.replay.proofs.hits.write_hits.Tie as tie
 number-requires : tie.Need-number-requires
 number-requires c κs = search needs
 
-write-hits-list-requires : tie.Need-write-hits-list-requires
-write-hits-list-requires c κs =
+write-list-requires : tie.Need-write-list-requires
+write-list-requires c κs =
     let t = c .before .before .before .before in
     (omega (arith, t .before .pre .0 (t .if1 .taken)), search needs)
 
@@ -27,4 +27,4 @@ returns-2 c = search needs
 pub write-hits-spec : {M : Type 1} → statement M
 write-hits-spec =
     tie.close
-    (tie.spec number-requires write-hits-list-requires end-requires returns answer-requires returns-2)
+    (tie.spec number-requires write-list-requires end-requires returns answer-requires returns-2)

@@ -20,8 +20,8 @@ same-length c = search needs
 returns : tie.Need-returns
 returns c = rw (c .before .before .before .before .before .before .if1 .taken) (c .before .before .portion .ensures)
 
-element-copy-out-told : tie.Need-element-copy-out-told
-element-copy-out-told c = search needs
+element-copy-out-forced : tie.Need-element-copy-out-forced
+element-copy-out-forced c = search needs
 
 element-copy-out-redraw : tie.Need-element-copy-out-redraw
 element-copy-out-redraw c = search needs
@@ -50,7 +50,7 @@ draw-spec =
     portion-requires
     same-length
     returns
-    element-copy-out-told
+    element-copy-out-forced
     element-copy-out-redraw
     element-copy-out-redraw-2
     redraw-requires

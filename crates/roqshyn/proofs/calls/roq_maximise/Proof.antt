@@ -1,4 +1,4 @@
--- `roq_maximise` finds the display that the window takes and resizes its pixels, and then `dims::take` is at the window's place.
+-- `roq_maximise` finds the display that the window takes and resizes its pixels, and then `maximise::apply` is at the window's place.
 use mathlib.Core.Path.{_≡_}
 use mathlib.Core.List.{[], _∷_}
 use Prim.Native.Nat.{_<_}

@@ -18,8 +18,8 @@ blit-requires c κs =
     let p = c .before .before .before .before in
     held-as (p .before .before .before .pre) (p .slot .ensures)
 
-put-damage-requires : tie.Need-put-damage-requires
-put-damage-requires c κs = search needs
+with-damage-requires : tie.Need-with-damage-requires
+with-damage-requires c κs = search needs
 
 same-length : tie.Need-same-length
 same-length c = search needs
@@ -29,7 +29,7 @@ returns c =
     let d = c .before .before .before in
     let p = d .before .before .before .before .before in
     by-altered (p .before .before .before .pre) (p .slot .ensures) (d .blit .result) (d .blit .ensures)
-    (c .put-damage .ensures)
+    (c .with-damage .ensures)
 
 pub blit-spec : {M : Type 1} → statement M
 blit-spec =
@@ -39,6 +39,6 @@ blit-spec =
     mul-win
     element-copy-out-win
     blit-requires
-    put-damage-requires
+    with-damage-requires
     same-length
     returns)

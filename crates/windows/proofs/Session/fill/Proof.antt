@@ -16,8 +16,8 @@ element-copy-out-win c = search needs
 fill-requires : tie.Need-fill-requires
 fill-requires c κs = let p = c .before .before .before .before in held-as (p .before .before .pre) (p .slot .ensures)
 
-put-damage-requires : tie.Need-put-damage-requires
-put-damage-requires c κs = search needs
+with-damage-requires : tie.Need-with-damage-requires
+with-damage-requires c κs = search needs
 
 same-length : tie.Need-same-length
 same-length c = search needs
@@ -26,7 +26,7 @@ returns : tie.Need-returns
 returns c =
     let d = c .before .before .before in
     let p = d .before .before .before .before .before in
-    by-altered (p .before .before .pre) (p .slot .ensures) (d .fill .result) (d .fill .ensures) (c .put-damage .ensures)
+    by-altered (p .before .before .pre) (p .slot .ensures) (d .fill .result) (d .fill .ensures) (c .with-damage .ensures)
 
 pub fill-spec : {M : Type 1} → statement M
 fill-spec =
@@ -36,6 +36,6 @@ fill-spec =
     mul-win
     element-copy-out-win
     fill-requires
-    put-damage-requires
+    with-damage-requires
     same-length
     returns)
