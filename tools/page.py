@@ -1,0 +1,1 @@
+def write(path, matrix, rows): pass
