@@ -8,8 +8,8 @@ import re
 import believed
 
 # Definitions with an equation for each case, which is the constructor in the first pattern that has one.
-CASES = ("rules/specs/Panels.antt", "callOf"), ("rules/specs/Calls.antt", "does")
-CALL = "rules/specs/Calls.antt", "Call"
+CASES = ("rules/specs/Panels.antt", "callOf"), ("rules/specs/Calls.antt", "does"), ("windows/specs/View.antt", "ruled")
+CALL, WRITE = ("rules/specs/Calls.antt", "Call"), ("rules/specs/Panels.antt", "Write")
 # What is about all calls: a contract is not about it, and of a statement it is not opened.
 WHOLE = [(CALL[0], name) for name in ("Call", "Made", "run", "after", "byRule")]
 
@@ -85,7 +85,7 @@ class Nearness:
             spec = self.specs.files.get(file)
             if spec and name in spec.definitions and name not in spec.makers.values() and (file, name) not in CASES:
                 names = self.specs.names[file]
-                words |= {word for word in spec.definitions[name].words if names.get(word) == CALL}
+                words |= {word for word in spec.definitions[name].words if names.get(word) in (CALL, WRITE)}
         return self.spread([root for root in sorted(roots) if root not in believed.OPAQUE], words, False)
 
     def of_statement(self, statement):

@@ -13,7 +13,7 @@ RECORDED = ("answers", "layers", "displays", "sheets")
 WORDS = {"move": "move_window", "pieces": "not_intersect", "scanline": "scanline_rgn", "look-fit": "look"}
 DEFINED = re.compile(r"(?:(?:pub|abbrev|unfoldable) )*(?:record |data )?(\S+)(?= [:({])")
 LEMMA = re.compile(r"^(?:pub )?([\w<>≤≡+-]+) :", re.M)
-TYPE = re.compile(r"^(?:pub )?(?:struct|enum|const) (\w+)", re.M)
+TYPE = re.compile(r"^\s*(?:pub )?(?:struct|enum|const) (\w+)", re.M)
 
 
 def read_files(root=ROOT):
@@ -36,6 +36,8 @@ class Repository:
         self.crates = self.read_crates()
         self.functions = {self.path(f): f for read in self.crates for f in read.functions}
         self.public = {self.path(f) for f in calls.public_calls(self.crates)}
+        # With those of the programs whose contracts are promised too.
+        self.promised = {self.path(f) for f in believed.contracts(files)[0]}
         self.exported = {name for name, f in self.functions.items() if f.exported}
         self.promises = believed.promises(files, self.specs)
         self.lemmas = self.read_lemmas()

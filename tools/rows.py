@@ -17,6 +17,7 @@ KINDS = {
     "comparison": ("test",),
     "form": ("code",),
     "acceptance": ("test",),
+    "text": ("test",),
     "landing": ("why",),
     "background": ("why",),
 }
@@ -77,7 +78,7 @@ class Worker:
     def __init__(self, repository, links):
         self.repository, self.links = repository, links
         near = repository.near
-        self.contracts = {name: near[name] for name in sorted(repository.public, key=by_value_first)}
+        self.contracts = {name: near[name] for name in sorted(repository.promised, key=by_value_first)}
         self.inner = {name: near[name] for name in sorted(near) if is_library(name) and name not in repository.exported}
 
     def named(self, row):
@@ -95,7 +96,7 @@ class Worker:
             found["proof"] += contracts + self.theorems(definition, contracts)
             code, away = nearest(self.inner, definition)
             found["code"] += code if away < 2 else contracts
-        found["proof"] += [key for key in keys["function"] if key in self.repository.public]
+        found["proof"] += [key for key in keys["function"] if key in self.repository.promised]
         found["proof"] += [link.name for link in named if link.sort == "theorem"]
         found["proof"] = sorted(dict.fromkeys(found["proof"]), key=by_value_first)
         if row.kind == "example":
@@ -138,5 +139,7 @@ def is_library(name):
 
 
 def by_value_first(name):
-    """Calls of a session, then the others, then those that are exported, then theorems."""
-    return ("::" not in name, name.startswith("roqshyn::"), not name.startswith("windows::Session"), name)
+    """Calls of a session, then the others, then those that are exported, then theorems, the demands first."""
+    is_theorem = "::" not in name
+    ours = name.startswith("roqshyn::"), not name.startswith("windows::Session")
+    return (is_theorem, "demand" not in name, name) if is_theorem else (is_theorem, *ours, name)

@@ -24,6 +24,8 @@ TRACE = "docs/TRACE.md"
 ADDITIONS = "docs/ADDITIONS.md"
 DEMANDS, SCOPE, REQUESTS, OURS = "00-demands.md", "01-scope.md", "02-change-requests.md", "03-additions.md"
 LANDED = re.compile(r"^Of document 03 have landed: (.*)\.$", re.M)
+# What is known to be missing, as `03 Lines 3 (test)`. It is printed every time; what is missing elsewhere is refused.
+MISSING = re.compile(r"^Missing: (.*)\.$", re.M)
 ASKED = re.compile(r"\((\d+) is ")
 LEFT_OUT = "left out: the quotations and the page, since documents 01 and 02 are not under"
 
@@ -47,6 +49,9 @@ class Matrix:
         self.text = files[TRACE]
         self.rows = read_rows(self.text)
         self.landed = [part.strip() for part in (LANDED.findall(self.text) or [""])[0].split(",")]
+        missing = (MISSING.findall(self.text) or ["nothing"])[0]
+        self.missing = [] if missing == "nothing" else [part.strip() for part in missing.split(",")]
+        self.found_missing = []
         self.sentences = self.read_sentences()
         self.wrong, self.quoted = [], {}
         if documents:
@@ -139,6 +144,8 @@ class Matrix:
             else:
                 self.wrong += [f"{TRACE}:{old[row.name].line}: {row.name}: {text}" for text in self.wrong_row(row, old[row.name])]
         self.wrong += self.without_sentence(rows)
+        for name in [name for name in self.missing if name not in self.found_missing]:
+            self.wrong.append(f"{TRACE}: {name} is named as missing, and is not")
         return rows
 
     def wrong_row(self, row, old):
@@ -161,7 +168,9 @@ class Matrix:
             if need == "why" and not row.why():
                 yield f"no word says why it is {row.kind}"
             elif need != "why" and not row.all[need]:
-                yield f"it is a {row.kind}, and has no {need}"
+                self.found_missing.append(f"{row.name} ({need})")
+                if self.found_missing[-1] not in self.missing:
+                    yield f"it is a {row.kind}, and has no {need}"
 
     def without_sentence(self, rows):
         """Exported calls, questions and mistakes that belong to no sentence."""
@@ -219,6 +228,8 @@ def main(words):
         print(f"{refused(files, documents)} matrices refused")
     if not documents:
         print(f"{LEFT_OUT} {folder()}")
+    if matrix.missing:
+        print(f"missing: {', '.join(matrix.missing)}")
     print(f"{len(rows)} sentences, each with a row of {TRACE}{', and target/trace.html has them' if documents else ''}")
 
 

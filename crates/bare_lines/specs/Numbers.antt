@@ -23,6 +23,6 @@ idOf ns = num ns 0
 abbrev pub rectAt : List ℕ → ℕ → Rect
 rectAt ns i = rect (num ns i) (num ns (i + 1)) (num ns (i + 2)) (num ns (i + 3))
 
--- "x, y and factor as the upper and lower 32 bits of an f64"
+-- "its corner x, y and its factor each as the upper and lower 32 bits of an f64"
 abbrev pub floatOf : ℕ → ℕ → Float
 floatOf high low = ofBits binary64 (high * 4294967296 + low)

@@ -84,10 +84,10 @@ pub record Draws (k : ℕ) (ns : List ℕ) (len : ℕ) (p : Player) (store scree
   pub makes : Makes (screenCall k ns (take (p .lent) store) (take len screen)) (unset p) r
   pub shown : after ≡ does (group (p .session)) (screenCall k ns (take (p .lent) store) (take len screen)) .screen ++ drop len screen
 
--- "A `start` whose C document 01 accepts but whose store the program cannot lend (C from 65,537 on), a `lend`, `lend-screen` or
--- `lend-list` above those limits, and a `redraw` or `portion` (with no `lend-screen` pending) … of more than 384,000 pixels are answered by
--- `!`, and nothing is called." The same holds of a `look` of more than 65,536 pixels, of a `lend-target` above that
--- and of a `lend-sheet` above 2,048
+-- "A `start` whose C document 01 accepts but whose store the program cannot lend (C from 65,537 on), a `lend`,
+-- `lend-screen`, `lend-list`, `lend-target` or `lend-sheet` above those limits, a `redraw` or `portion` (with no
+-- `lend-screen` pending), … of more than 384,000 pixels, and a `look` or `look-fit` (with no `lend-target` pending) of
+-- more than 65,536 are answered by `!`, and nothing is called."
 pub data Beyond (k : ℕ) (ns : List ℕ) (p : Player) : Type 0 where
   no-start : k ≡ Kind.start → 65536 < num ns 0 → num ns 0 ≤ 1048576 → Beyond k ns p
   no-redraw : OnScreen k → 384000 < screenLen p k ns → Beyond k ns p
@@ -129,9 +129,9 @@ pub data Plays (l : Line) (ns : List ℕ) (p : Player) (a : Pixels) (r : Player)
   -- "the target has TW × TH pixels", or as many as `lend-target` said, which it uses up
   asks-look : OnTarget (l .kind) → targetLen p (l .kind) ns ≤ 65536 → Next (untargeted p) (p .session) r → b ≡ a → Plays l ns p a r b
   lends-target : l .kind ≡ Kind.lend-target → num ns 0 ≤ 65536 → Next (lendTarget (num ns 0) p) (p .session) r → b ≡ a → Plays l ns p a r b
-  -- "the list lent has 7,812 numbers", or as many as `lend-list` said, which it uses up
+  -- "lent 7,812 numbers", or as many as `lend-list` said, which it uses up
   reads-sheet : l .kind ≡ Kind.read-sheet → Next (unlisted p) (p .session) r → b ≡ a → Plays l ns p a r b
-  -- "the buffer lent has 2,048 bytes", or as many as `lend-sheet` said, which it uses up
+  -- "lent 2,048 bytes", or as many as `lend-sheet` said, which it uses up
   asks-sheet : l .kind ≡ Kind.sheet → Next (unsheeted p) (p .session) r → b ≡ a → Plays l ns p a r b
   lends-sheet : l .kind ≡ Kind.lend-sheet → num ns 0 ≤ 2048 → Next (lendSheet (num ns 0) p) (p .session) r → b ≡ a → Plays l ns p a r b
   -- "no call"; bare geometry and bare pixels

@@ -17,7 +17,7 @@ pub record ReadsPart (bytes : List ℕ) (n : ℕ) (list : List ℕ) (r : Listing
   pub listed : after ≡ front ++ drop n list
   pub room : 4 * r .count ≤ n
 
--- how many bytes the buffer of a sheet has: what `lend-sheet` said, or "the buffer lent has 2,048 bytes"
+-- how many bytes the buffer of a sheet has: what `lend-sheet` said, or "lent 2,048 bytes"
 abbrev pub sheetLen : Player → ℕ
 sheetLen p = cond (p .«has_sheet») (p .sheet) 2048
 
