@@ -17,35 +17,37 @@ WHOLE = [(CALL[0], name) for name in ("Call", "Made", "run", "after", "byRule")]
 class Nearness:
     def __init__(self, specs, files, lines, promises):
         self.specs, self.files, self.lines, self.promises = specs, files, lines, promises
-        self.fields = {file: self.fields_of(file) for file in lines}
+        self.bodies = {file: self.bodies_of(file) for file in lines}
         self.cited = {}
         for file, spec in specs.files.items():
             for name in spec.definitions:
                 self.cited[file, name] = self.cites((file, name))
 
-    def fields_of(self, file):
-        """The fields of each record: a field may have the name of a definition, and is none."""
+    def bodies_of(self, file):
+        """The text of each definition."""
         found, name = {}, ""
         for number, line in enumerate(self.files[f"crates/{file}"].splitlines(), 1):
             name = self.lines[file].get(number, name)
-            field = re.match(r"  pub (\S+) :", line)
-            if field:
-                found.setdefault(name, set()).add(field[1])
+            found[name] = found.get(name, "") + line + "\n"
         return found
 
     def cites(self, definition):
         file, name = definition
-        names, own = self.specs.names[file], self.fields[file].get(name, ())
+        names, body = self.specs.names[file], self.bodies[file][name]
         words = self.specs.files[file].definitions[name].words
-        words = {word for word in words | {word.rpartition(".")[0] for word in words} if word not in own}
-        return sorted({names[word] for word in words if word in names} - {definition})
+        words = {word for word in words | {word.rpartition(".")[0] for word in words} if word in names}
+        # A field may have the name of a definition: where it is declared or set, it is none.
+        fields = set(re.findall(r"^  pub (\S+) :", body, re.M))
+        for word in set(re.findall(r"(?:^ +|[{;] )(\w+) = ", body, re.M)).intersection(words):
+            if len(re.findall(rf"(?<![\w.·]){word}\b", body)) == len(re.findall(rf"(?:^ +|[{{;] ){word} = ", body, re.M)):
+                fields.add(word)
+        return sorted({names[word] for word in words - fields} - {definition})
 
     def is_data(self, definition):
-        """A record without arguments, or a type with cases, that is no statement."""
-        file, name = definition
-        spec = self.specs.files[file]
-        is_record = name in self.fields[file] and spec.definitions[name].closed
-        return name in spec.makers.values() or is_record and definition not in self.promises
+        """A type without arguments that is no statement; and a definition of CASES, which is about several calls."""
+        head = self.bodies[definition[0]][definition[1]].partition("\n")[0]
+        is_type = re.fullmatch(r"(?:pub )?(?:record|data) \S+ : Type 0 where", head)
+        return definition in CASES or bool(is_type) and definition not in self.promises
 
     def cases(self, definition):
         """The equations of a definition of CASES: constructor, words of the right side, and what they name."""

@@ -39,6 +39,12 @@ class Row:
     quoted: tuple = ()
     cells: dict = dataclasses.field(default_factory=dict)
     line: int = 0
+    # The heading that it stands under.
+    section: str = ""
+
+    def by_hand_only(self):
+        """The row without what is worked out."""
+        return dataclasses.replace(self, cells={})
 
     def by_hand(self):
         """The names that stand there."""
@@ -57,12 +63,13 @@ def listed(names):
 
 def read_rows(text):
     """The rows of the tables, in their order."""
-    rows = []
+    rows, section = [], ""
     for number, line in enumerate(text.splitlines(), 1):
+        section = line.removeprefix("## ") if line.startswith("## ") else section
         cells = [cell.strip("| ") for cell in line.split("|")[1:-1]] if line.startswith("|") else []
         if len(cells) == len(HEADS) and NAME.fullmatch(cells[0]):
             quoted = tuple(re.findall(r"`([^`]+)`", cells[5]))
-            rows.append(Row(*cells[:5], quoted, dict(zip(HEADS[6:], cells[6:])), number))
+            rows.append(Row(*cells[:5], quoted, dict(zip(HEADS[6:], cells[6:])), number, section))
     return rows
 
 

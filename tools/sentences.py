@@ -35,6 +35,13 @@ class Sentence:
         return f"{self.section}{'.' if self.section[-1].isdigit() else ' '}{self.number}"
 
     @property
+    def heading(self):
+        """That of its section."""
+        document = {"N": "02", "A": "03"}.get(self.section[0], self.section[:2])
+        part = f"{self.section}: " if self.section[0] in "NA" else ""
+        return f"Document {document}, {part}{self.title}"
+
+    @property
     def hash(self):
         return hashlib.sha256(self.text.encode()).hexdigest()[:10]
 
