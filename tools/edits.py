@@ -13,10 +13,7 @@ def edited(repository, path, line):
 
 def citing(repository, definition, quoted):
     """A definition that is quoted beside, or else the nearest ones that cite it and are."""
-    users = {}
-    for user, cited in repository.nearness.cited.items():
-        for one in cited:
-            users.setdefault(one, []).append(user)
+    users = repository.nearness.users
     seen, now = {definition}, [definition]
     while now:
         hits = {one for one in now if one in quoted}

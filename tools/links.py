@@ -26,7 +26,7 @@ class Link:
 class Links:
     def __init__(self, repository):
         self.repository = repository
-        self.short = {}
+        self.short, self.known = {}, {}
         for file, lines in repository.lines.items():
             for name in lines.values():
                 self.short.setdefault(f"{stem(file)}.{name}", []).append((file, name))
@@ -43,6 +43,11 @@ class Links:
 
     def all(self, text):
         """What a name may stand for; a name in order stands for one thing."""
+        if text not in self.known:
+            self.known[text] = self.looked_up(text)
+        return self.known[text]
+
+    def looked_up(self, text):
         repository, found = self.repository, []
         for file, name in self.definition(text):
             line = next(line for line, one in repository.lines[file].items() if one == name)

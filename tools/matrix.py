@@ -5,7 +5,7 @@ import re
 import believed
 import edits
 from links import Links
-from quotations import Documents, quotations, traced
+from quotations import Documents, traced
 from repository import Repository
 from rows import HEADS, KINDS, Row, Worker, listed, printed, read_rows
 from sentences import sentences
@@ -56,9 +56,8 @@ class Matrix:
         known = self.customers() + ours
         script = self.files[SCRIPTS].replace(" | ", ": ")
         documents = Documents(known, [self.documents.get(DEMANDS, ""), script, *{one.title for one in known}])
-        for file, lines in self.repository.lines.items():
-            found = list(quotations(f"crates/{file}", self.files[f"crates/{file}"], lines))
-            hits, wrong = traced(documents, found)
+        for file in self.repository.lines:
+            hits, wrong = traced(documents, self.repository.quotations_of(file))
             for quotation, words in wrong:
                 self.wrong.append(f"{quotation.file}:{quotation.line}: no document has the words “{words}”")
             for quotation, sentence in hits:
@@ -164,20 +163,22 @@ class Matrix:
             yield f"{name}: no sentence in {TRACE} has this call"
         for name in sorted(set(self.repository.mistakes) - refused):
             yield f"{self.repository.mistakes[name][0]}: no sentence in {TRACE} has this mistake"
-        for number, askers in sorted(self.questions().items()):
+        for number, askers in sorted(questions(self.repository.nearness).items()):
             heads = [row for row in rows if re.search(rf"\bquestion {number}\b", row.about)]
             named = {link.key for row in heads for link in self.worker.named(row) if link.sort == "definition"}
             if not named.intersection(askers):
                 yield f"question {number}: no sentence in {TRACE} says it beside a definition that asks it"
 
-    def questions(self):
-        """The definitions that ask each question, and those that these cite."""
-        found = {}
-        for (file, name), cited in self.repository.nearness.cited.items():
-            body = re.sub(r"^\s*--.*$", "", self.repository.nearness.bodies[file][name], flags=re.M)
-            for number in [] if believed.is_example(file) else ASKED.findall(body):
-                found.setdefault(int(number), set()).update({(file, name), *cited})
-        return found
+
+@functools.lru_cache(2)
+def questions(nearness):
+    """The definitions that ask each question, and those that these cite."""
+    found = {}
+    for (file, name), cited in nearness.cited.items():
+        body = re.sub(r"^\s*--.*$", "", nearness.bodies[file][name], flags=re.M)
+        for number in [] if believed.is_example(file) else ASKED.findall(body):
+            found.setdefault(int(number), set()).update({(file, name), *cited})
+    return found
 
 
 def section_of(name):

@@ -22,6 +22,11 @@ class Nearness:
         for file, spec in specs.files.items():
             for name in spec.definitions:
                 self.cited[file, name] = self.cites((file, name))
+        # Who cites each definition.
+        self.users = {}
+        for user, cited in self.cited.items():
+            for one in cited:
+                self.users.setdefault(one, []).append(user)
 
     def bodies_of(self, file):
         """The text of each definition."""

@@ -1,9 +1,10 @@
-"""The quotations of the documents that stand in comments of spec files and of code, each with what it stands beside.
+"""The quotations of the documents in the comments of spec files, each with the definition that it stands beside.
 
-A quotation is what stands in double quotes in a comment. `…` and a bracket `[…]` divide it into parts, and each part is
-in a document to the letter, but for line breaks, the signs of code and the size of its first letter. A part that
-several sentences have belongs to the one whose section is quoted most in the same definition, or else nearest in the
-same file.
+A quotation is what stands in double quotes in a comment. `…` and a bracket `[…]` divide it into parts, and each part
+has to be in a document to the letter; line breaks, signs of code, kinds of quotes and capital letters do not count.
+Where several sentences have a part, it belongs to the one whose section is quoted beside the same definition, or else
+nearest in the same file. A whole sentence that stands in several sections, which nothing tells apart, is all of them.
+A part of a few letters, as `an`, points at no sentence.
 """
 import bisect
 import dataclasses
@@ -13,6 +14,7 @@ from sentences import plain
 
 COMMENT = re.compile(r"^(\s*)(?:--|//[/!]?)(?=[\s-]|$)\s?(.*)$")
 QUOTED = re.compile(r'"([^"]+)"')
+FEW = 5
 
 
 @dataclasses.dataclass
@@ -91,15 +93,16 @@ def traced(documents, found):
     hits, wrong = [], []
     for quotation, parts in zip(found, places):
         for part, words in zip(parts, quotation.parts()):
-            if part:
-                hits += [(quotation, sentence) for sentence in nearest(quotation, part, sure)]
-            elif not documents.elsewhere(words):
+            if part and len(words) > FEW:
+                hits += [(quotation, sentence) for sentence in nearest(quotation, words, part, sure)]
+            elif not part and not documents.elsewhere(words):
                 wrong.append((quotation, words))
     return hits, wrong
 
 
-def nearest(quotation, places, sure):
-    """Of several places the one whose section is quoted beside the same definition, or else nearest in the file."""
+def nearest(quotation, words, places, sure):
+    """The sentences of the places whose section is quoted beside the same definition, or else nearest in the file."""
+
     def rank(sentences):
         away = [
             (other.beside != quotation.beside, abs(other.line - quotation.line))
@@ -108,4 +111,7 @@ def nearest(quotation, places, sure):
         ]
         return min(away, default=(True, 10**6))
 
-    return min(places, key=rank)
+    best = min(places, key=rank)
+    alike = [place for place in places if rank(place) == rank(best) and [one.text for one in place] == [one.text for one in best]]
+    whole = len(best) == 1 and len(flat(best[0].text)) - len(words) < 2
+    return [sentence for place in (alike if whole else [best]) for sentence in place]

@@ -5,6 +5,7 @@ import re
 import believed
 import calls
 from nearness import Nearness
+from quotations import quotations
 
 ROOT = pathlib.Path(__file__).resolve().parent.parent
 # Scripts whose answers the gate compares; those of examples/ are played by a person.
@@ -30,7 +31,7 @@ def line_at(text, at):
 
 class Repository:
     def __init__(self, files, root=ROOT):
-        self.files, self.root = files, root
+        self.files, self.root, self.quoted = files, root, {}
         self.specs = believed.Specs(files)
         self.lines = {file: self.defined(file) for file in self.specs.files}
         self.crates = self.read_crates()
@@ -113,6 +114,12 @@ class Repository:
                         places.append((file, line_at(self.files[file], self.files[file].index(words))))
                 kept = f"{crate}/must-fail/{name}" if "must-fail" in parts else f"{crate}/{name}"
                 yield kept, (path, places)
+
+    def quotations_of(self, file):
+        """Those of a spec file, read once."""
+        if file not in self.quoted:
+            self.quoted[file] = list(quotations(f"crates/{file}", self.files[f"crates/{file}"], self.lines[file]))
+        return self.quoted[file]
 
     def contract_near(self, function):
         ghosts = next(read.ghosts for read in self.crates if read.name == function.module.crate)
