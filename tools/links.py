@@ -9,7 +9,7 @@ import pathlib
 import believed
 
 # Folders whose files are run: what lies there is a test or an example.
-RUN = ("compare/", "examples/", "include/", "bindings/", "bench/", "tools/", "mistakes/run", ".ci/run", "crates/replay/")
+RUN = ("compare/", "examples/", "include/", "bindings/", "bench/", "tools/", "mistakes/run", "crates/replay/")
 
 
 @dataclasses.dataclass(frozen=True)

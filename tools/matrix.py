@@ -5,6 +5,7 @@ import re
 import believed
 import edits
 from links import Links
+from nearness import CASES, WHOLE, WRITE
 from quotations import Documents, traced
 from repository import Repository
 from rows import HEADS, KINDS, Row, Worker, listed, printed, read_rows
@@ -67,7 +68,7 @@ class Matrix:
         if [one.text for one in theirs] != [one.text for one in ours]:
             self.wrong.append(f"{ADDITIONS}: it is not document 03 any more")
 
-    # What rows should be -----------------------------------------------------------------------------------------------
+    # What rows should be ----------------------------------------------------------------------------------------------
 
     def mistakes(self, rows):
         """What each mistake is about, by the definitions of these rows; one that is named by hand is nowhere else."""
@@ -109,7 +110,7 @@ class Matrix:
             parts.append(printed(row))
         return "\n".join(parts) + "\n"
 
-    # What is wrong -----------------------------------------------------------------------------------------------------
+    # What is wrong ----------------------------------------------------------------------------------------------------
 
     def check(self):
         """The rows as they should be; `wrong` has what is wrong."""
@@ -128,6 +129,8 @@ class Matrix:
             for text in self.wrong_row(row, old[row.name]):
                 self.wrong.append(f"{TRACE}:{old[row.name].line}: {row.name}: {text}")
         self.wrong += self.without_sentence(rows)
+        for file, name in [one for one in (*CASES, *WHOLE, WRITE) if one not in self.repository.nearness.cited]:
+            self.wrong.append(f"tools/nearness.py: crates/{file} does not define {name} any more")
         for name in [name for name in self.missing if name not in self.found_missing]:
             self.wrong.append(f"{TRACE}: {name} is named as missing, and is not")
         return rows

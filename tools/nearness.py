@@ -44,7 +44,8 @@ class Nearness:
         # A field may have the name of a definition: where it is declared or set, it is none.
         fields = set(re.findall(r"^  pub (\S+) :", body, re.M))
         for word in set(re.findall(r"(?:^ +|[{;] )(\w+) = ", body, re.M)).intersection(words):
-            if len(re.findall(rf"(?<![\w.·]){word}\b", body)) == len(re.findall(rf"(?:^ +|[{{;] ){word} = ", body, re.M)):
+            set_here = re.findall(rf"(?:^ +|[{{;] ){word} = ", body, re.M)
+            if len(re.findall(rf"(?<![\w.·]){word}\b", body)) == len(set_here):
                 fields.add(word)
         return sorted({names[word] for word in words - fields} - {definition})
 

@@ -1,4 +1,4 @@
-"""Writes target/trace.html: each sentence with a link for every name, and the source of what is named behind a click."""
+"""Writes target/trace.html: each sentence with a link for every name, whose source a click shows."""
 import html
 import json
 import pathlib
@@ -22,17 +22,19 @@ class Page:
         for row in self.rows:
             sentence = self.sentences[row.name]
             if sentence.section != last:
-                body.append("</section>" * bool(last) + f'<section id="{anchor(sentence.section)}"><h2>{html.escape(sentence.heading)}</h2>')
-                sections.append(f'<a href="#{anchor(sentence.section)}">{html.escape(sentence.section)}</a>')
+                place, title = anchor(sentence.section), html.escape(sentence.heading)
+                body.append("</section>" * bool(last) + f'<section id="{place}"><h2>{title}</h2>')
+                sections.append(f'<a href="#{place}">{html.escape(sentence.section)}</a>')
                 last = sentence.section
             body.append(self.article(row, sentence))
         body.append("</section>")
         kinds = [f'<button type="button" data-kind="{kind}">{kind}</button>' for kind in KINDS]
-        calls = len(self.matrix.repository.exported)
-        summary = f"{len(self.rows)} sentences, {calls} exported calls, {len(self.matrix.repository.mistakes)} refused mistakes"
+        calls, mistakes = len(self.matrix.repository.exported), len(self.matrix.repository.mistakes)
+        summary = f"{len(self.rows)} sentences, {calls} exported calls, {mistakes} refused mistakes"
         # A `<` would end the script.
         sources = json.dumps(self.sources, ensure_ascii=False).replace("<", "\\u003c")
-        parts = dict(summary=summary, kinds=" ".join(kinds), sections=" ".join(sections), body="\n".join(body), sources=sources)
+        parts = {"summary": summary, "kinds": " ".join(kinds), "sections": " ".join(sections)}
+        parts |= {"body": "\n".join(body), "sources": sources}
         return re.sub(r"@(\w+)@", lambda found: parts[found[1]], TEMPLATE.read_text())
 
     def article(self, row, sentence):
@@ -43,8 +45,8 @@ class Page:
         filled = "".join(self.cell(head, names) for head, names in zip(COLUMNS, cells))
         links = " ".join(self.link(name) for name in documents)
         why = f'<p class="why">{html.escape(row.why())} {links}</p>' if row.why() or documents else ""
-        missing = [name.rpartition("(")[2].rstrip(")") for name in self.matrix.found_missing if name.startswith(f"{row.name} (")]
-        missing = f'<p class="missing">missing: {", ".join(missing)}</p>' if missing else ""
+        lacks = [name for name in self.matrix.found_missing if name.startswith(f"{row.name} (")]
+        missing = "".join(f'<p class="missing">missing: {html.escape(name)}</p>' for name in lacks)
         return (
             f'<article id="{anchor(row.name)}" data-kind="{row.kind}"><div class="top">'
             f'<a class="name" href="#{anchor(row.name)}">{html.escape(row.name)}</a>'
@@ -85,12 +87,15 @@ class Page:
         start = place.line - 1
         while start > 0 and re.match(r"\s*(--|//|#\[)", lines[start - 1]):
             start -= 1
-        end = place.line
-        depth = len(lines[place.line - 1]) - len(lines[place.line - 1].lstrip())
-        while end < len(lines) and not (lines[end - 1].strip() == "" and len(lines[end]) - len(lines[end].lstrip()) <= depth):
+        end, depth = place.line, indent(lines[place.line - 1])
+        while end < len(lines) and (lines[end - 1].strip() or indent(lines[end]) > depth):
             end += 1
         shown = lines[start:end]
         return "\n".join(shown[:LONGEST]).rstrip() + ("\n…" if len(shown) > LONGEST else "")
+
+
+def indent(line):
+    return len(line) - len(line.lstrip())
 
 
 def anchor(name):

@@ -112,6 +112,7 @@ def nearest(quotation, words, places, sure):
         return min(away, default=(True, 10**6))
 
     best = min(places, key=rank)
-    alike = [place for place in places if rank(place) == rank(best) and [one.text for one in place] == [one.text for one in best]]
+    texts = [one.text for one in best]
+    alike = [place for place in places if rank(place) == rank(best) and [one.text for one in place] == texts]
     whole = len(best) == 1 and len(flat(best[0].text)) - len(words) < 2
     return [sentence for place in (alike if whole else [best]) for sentence in place]

@@ -1,4 +1,4 @@
-"""What the repository has that a row of docs/TRACE.md may name: definitions, functions, theorems, mistakes and tests."""
+"""What the repository has that docs/TRACE.md may name: definitions, functions, theorems, mistakes and tests."""
 import pathlib
 import re
 
@@ -126,7 +126,7 @@ class Repository:
         roots = set(believed.contract_cites(self.specs, function, ghosts.get(function.module.file, [])))
         return self.nearness.of_contract(roots, {word for clause in function.ensures for word in clause})
 
-    # Tests -------------------------------------------------------------------------------------------------------------
+    # Tests ------------------------------------------------------------------------------------------------------------
 
     def script_words(self):
         """Which call a line of a script makes, by its first word."""

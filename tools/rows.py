@@ -126,7 +126,8 @@ class Worker:
     def computed(self, table):
         """The theorem on a table of examples."""
         file = table[0]
-        citing = [one for one in self.repository.lines[file].values() if table in self.repository.nearness.cited[file, one]]
+        cited = self.repository.nearness.cited
+        citing = [one for one in self.repository.lines[file].values() if table in cited[file, one]]
         return [self.links.of_definition((file, one)) for one in citing if one.endswith("hold") or one == "holds"]
 
     def scripts(self, proof):

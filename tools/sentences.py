@@ -1,8 +1,8 @@
 """The sentences of a document, each with its name, its text and the hash of its text.
 
-A name is a section and a number in it: `01 Damage 3`, `01 Demand 3.5`, `N5.2`. A heading and the bold title of a request
-are no sentences; an item of a list and a row of a table are at least one each. A sentence ends at a full stop or a
-question mark outside of brackets, with no small letter behind it.
+A name is a section and a number in it: `01 Damage 3`, `01 Demand 3.5`, `N5.2`. A heading and the bold title of a
+request are no sentences; an item of a list and a row of a table are at least one each. A sentence ends at a full stop
+or a question mark outside of brackets, with no small letter behind it.
 """
 import dataclasses
 import hashlib
