@@ -43,8 +43,7 @@ class Page:
         documents = [link.name for link in named if link.sort == "document"]
         cells = [stated, *(row.all[head] for head in ("proof", "code", "test", "refused"))]
         filled = "".join(self.cell(head, names) for head, names in zip(COLUMNS, cells))
-        links = " ".join(self.link(name) for name in documents)
-        why = f'<p class="why">{html.escape(row.why())} {links}</p>' if row.why() or documents else ""
+        why = self.why(row, documents)
         lacks = [name for name in self.matrix.found_missing if name.startswith(f"{row.name} (")]
         missing = "".join(f'<p class="missing">missing: {html.escape(name)}</p>' for name in lacks)
         return (
@@ -55,6 +54,13 @@ class Page:
             + (f'<div class="cells">{filled}</div>' if any(cells) else "")
             + "</article>"
         )
+
+    def why(self, row, documents):
+        """What is said by hand behind the links, with the documents that are named."""
+        words = re.split(r"`([^`]+)`", re.sub(r"^(?:`[^`]+`,? ?)+", "", row.hand))
+        text = "".join(self.link(word) if at % 2 else html.escape(word) for at, word in enumerate(words))
+        links = " ".join(self.link(name) for name in documents if name not in words)
+        return f'<p class="why">{text} {links}</p>' if text or links else ""
 
     def cell(self, head, names):
         if not names:
