@@ -267,5 +267,5 @@ pub record Shaped (k n m : ℕ) (ns : List ℕ) : Type 0 where
   pub down : k ≡ Kind.mousedown → getD ns 2 0 ≤ 255
   pub up : k ≡ Kind.mouseup → getD ns 2 0 ≤ 255
   pub click : k ≡ Kind.mouseclick → (getD ns 2 0 ≤ 255) × (getD ns 3 0 ≤ 255)
-  pub told : k ≡ Kind.redraw → getD ns 0 0 ≤ 1
+  pub forced : k ≡ Kind.redraw → getD ns 0 0 ≤ 1
   pub bytes : k ≡ Kind.read-sheet → (n ≤ 4096) × ((i : ℕ) → i < n → getD ns i 0 ≤ 255)

@@ -136,7 +136,7 @@ no-shape k ns h =
       down = λ e. omega arith;
       up = λ e. omega arith;
       click = λ e. omega arith;
-      told = λ e. omega arith;
+      forced = λ e. omega arith;
       bytes = λ e. omega arith;
     }
 
@@ -172,7 +172,7 @@ module _ (k n m : ℕ) (ns : List ℕ) (few : n ≤ 4200) (long : m ≤ 64) (roo
               leb-true (getD ns 2 0) 255 (fst (leb (getD ns 2 0) 255) (leb (getD ns 3 0) 255) q),
               leb-true (getD ns 3 0) 255 (snd (leb (getD ns 2 0) 255) (leb (getD ns 3 0) 255) q),
             );
-        told = λ e. leb-true (getD ns 0 0) 1 (subst (λ (x : ℕ). ranged x n ns ≡ true) e r);
+        forced = λ e. leb-true (getD ns 0 0) 1 (subst (λ (x : ℕ). ranged x n ns ≡ true) e r);
         bytes = λ e. (not-above k n h Kind.read-sheet e, λ i l. bytes-at ns n i (omega arith) (subst (λ (x : ℕ). ranged x n ns ≡ true) e r) l);
       }
 
