@@ -70,12 +70,12 @@ REFUSED = [
     ),
     (
         "missing, and is not",
-        [(TRACE, MISSING, MISSING + "N8.2 (test), ")],
+        [(TRACE, MISSING + "nothing", MISSING + "N8.2 (test)")],
         "N8.2 (test) is named as missing, and is not",
     ),
     (
         "missing, and not named",
-        [(TRACE, r"Missing: .*", "Missing: nothing.")],
+        [(TRACE, r"(\| 03 Lines 3 \|[^\n]*), `compare/layers\.calls`", r"\1")],
         "03 Lines 3: it is a rule, and has no test",
     ),
 ]
