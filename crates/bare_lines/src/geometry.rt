@@ -4,7 +4,7 @@ use crate::numbers;
 use geom::Intersection;
 use geom::Rect;
 use geom::Tested;
-use geom::answers::OK;
+use geom::inner::answers::OK;
 use script::kind;
 
 pub fn rect_line(k: u8, ns: &[u32; 4200], out: &mut [u8; 65536], at: usize) -> usize

@@ -4,7 +4,7 @@ ghost use lib.ListN.{length};
 ghost use Rattle.script.specs.Kind as Kind;
 ghost use Rattle.bare_lines.specs.Numbers.{num, Sound};
 use crate::numbers;
-use geom::answers::OK;
+use geom::inner::answers::OK;
 use script::Line;
 use script::kind;
 use winbuf::Altered;

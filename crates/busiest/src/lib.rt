@@ -1,9 +1,9 @@
 // The busiest second of a run of event times. Document 02, N13.
 ghost use mathlib.Core.Path.{_≡_};
 ghost use Rattle.busiest.specs.Busiest.{busiest, refused};
-use geom::answers::OK;
-use geom::answers::RUN_LENGTH;
-use geom::answers::TIMES_DESCEND;
+use geom::inner::answers::OK;
+use geom::inner::answers::RUN_LENGTH;
+use geom::inner::answers::TIMES_DESCEND;
 
 // The greatest count of a second and the place of its first event, with the answer 0; or 26 or 27, and both are 0.
 #[repr(C)]

@@ -6,7 +6,7 @@ ghost use Rattle.windows.specs.View.{eventIn};
 ghost use Rattle.first_program.specs.inner.Press.{isPress};
 use geom::Dims;
 use geom::Rect;
-use geom::answers::OK;
+use geom::inner::answers::OK;
 use window::Event;
 use window::ids::WinId;
 use windows::NextEvent;

@@ -7,6 +7,7 @@ ghost use Rattle.geom.specs.Nearest.{nearestX, nearestY, apart, distance
 ghost use Rattle.geom.specs.inner.Fits.{Fits};
 ghost use Rattle.geom.specs.Bare.{edgesFit, bothFit};
 
+pub mod answers;
 pub mod bools;
 pub mod lent;
 pub mod numbers;

@@ -5,10 +5,9 @@
 ghost use mathlib.Core.Path.{_≡_};
 ghost use Rattle.geom.specs.Geom.{rect};
 ghost use Rattle.geom.specs.Bare.{met, bareContains, bareContainsRect, bareWithin, bareIntersect, bareUnion, BareNotIntersect};
-use crate::answers::EDGE_TOO_LARGE;
-use crate::answers::OK;
+use crate::inner::answers::EDGE_TOO_LARGE;
+use crate::inner::answers::OK;
 
-pub mod answers;
 pub mod inner;
 
 #[repr(C)]

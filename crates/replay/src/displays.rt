@@ -8,7 +8,7 @@ use crate::player::Player;
 use bare_lines::geometry;
 use bare_lines::numbers;
 use display::Located;
-use geom::answers::OK;
+use geom::inner::answers::OK;
 use windows::ForPos;
 use windows::Session;
 

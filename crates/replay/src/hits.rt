@@ -8,7 +8,7 @@ ghost use Rattle.replay.specs.Ready.{Ready, Next, unlisted};
 ghost use Rattle.replay.specs.Played.{HitsPart};
 use crate::lend;
 use crate::player::Player;
-use geom::answers::OK;
+use geom::inner::answers::OK;
 use script::Line;
 use windows::Session;
 

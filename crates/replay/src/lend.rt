@@ -12,7 +12,7 @@ ghost use Rattle.replay.specs.Played.{pixels, screenLen, listLen, MeetsP
 use crate::player::Player;
 use bare_lines::numbers;
 use geom::Listing;
-use geom::answers::OK;
+use geom::inner::answers::OK;
 use script::Line;
 use script::kind;
 use windows::Done;

@@ -14,7 +14,7 @@ use crate::sheets;
 use crate::show;
 use bare_lines::geometry;
 use bare_lines::pixels;
-use geom::answers::OK;
+use geom::inner::answers::OK;
 use script::Line;
 use script::kind;
 use windows::Done;

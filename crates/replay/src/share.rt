@@ -6,7 +6,7 @@ ghost use Rattle.bare_lines.specs.Numbers.{idOf};
 ghost use Rattle.replay.specs.Ready.{Ready, Next};
 use crate::player::Player;
 use bare_lines::numbers;
-use geom::answers::OK;
+use geom::inner::answers::OK;
 use windows::InView;
 use windows::Session;
 

@@ -11,7 +11,7 @@ use crate::lend;
 use crate::player::Player;
 use bare_lines::numbers;
 use geom::Listing;
-use geom::answers::OK;
+use geom::inner::answers::OK;
 use script::Line;
 use windows::Session;
 

@@ -5,7 +5,7 @@ ghost use Rattle.windows.specs.View.{Given};
 ghost use Rattle.bare_lines.specs.Numbers.{Sound};
 use answer_text::picture;
 use bare_lines::numbers;
-use geom::answers::OK;
+use geom::inner::answers::OK;
 use script::Line;
 use script::kind;
 use windows::Session;

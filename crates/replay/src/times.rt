@@ -7,7 +7,7 @@ ghost use Rattle.bare_lines.specs.Numbers.{Sound};
 ghost use Rattle.replay.specs.Ready.{Ready, Next};
 use crate::player::Player;
 use busiest::Second;
-use geom::answers::OK;
+use geom::inner::answers::OK;
 use script::Line;
 
 // The numbers of the line are the times.

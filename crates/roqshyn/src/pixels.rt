@@ -3,7 +3,7 @@
 ghost use Rattle.winbuf.specs.Pixels.{lineStart, scanline, fillScanline, setScanline, region};
 ghost use Rattle.winbuf.specs.Bare.{Gives, regionStart};
 ghost use Rattle.roqshyn.specs.Parts.{Lies};
-use geom::answers::OK;
+use geom::inner::answers::OK;
 use stride::region_of;
 use winbuf::Altered;
 use winbuf::scanline_range;

@@ -9,7 +9,7 @@ use geom::Pos;
 use geom::Rect;
 use geom::Tested;
 use geom::United;
-use geom::answers::OK;
+use geom::inner::answers::OK;
 
 // An intersection as numbers: `meets` is false and `rect` (0,0,0,0) where there is none.
 #[repr(C)]

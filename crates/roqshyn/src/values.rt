@@ -14,7 +14,7 @@ use crate::events::RoqEvent;
 use display::Located;
 use geom::Pos;
 use geom::Rect;
-use geom::answers::NO_WINDOW;
+use geom::inner::answers::NO_WINDOW;
 use window::CursorPos;
 use window::Window;
 use window::ids::WinId;

@@ -2,9 +2,9 @@
 // behind the session's call `sheet`.
 ghost use Rattle.sheet.specs.Reader.{Reads};
 use geom::Listing;
-use geom::answers::NO_SHEET;
-use geom::answers::OK;
-use geom::answers::SHEET_LENGTH;
+use geom::inner::answers::NO_SHEET;
+use geom::inner::answers::OK;
+use geom::inner::answers::SHEET_LENGTH;
 use inner::read::write_rects;
 use inner::valid::check;
 

@@ -4,9 +4,9 @@
 ghost use mathlib.Core.Path.{_≡_};
 ghost use Rattle.winbuf.specs.Pixels.{lineStart, noPart, scanlineRange, scanline, fillScanline, setScanline, region};
 ghost use Rattle.winbuf.specs.Bare.{Gives, Hands, none, regionStart};
-use geom::answers::OK;
-use geom::answers::OUTSIDE_PIXELS;
-use geom::answers::TOO_LARGE;
+use geom::inner::answers::OK;
+use geom::inner::answers::OUTSIDE_PIXELS;
+use geom::inner::answers::TOO_LARGE;
 use geom::inner::small::small_area;
 use inner::least;
 use inner::place::Place;

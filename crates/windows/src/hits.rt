@@ -2,9 +2,9 @@
 ghost use Rattle.windows.specs.View.{group, Given, Hits};
 use crate::Session;
 use crate::inner::frames::frames;
-use geom::answers::OK;
-use geom::answers::POINTS;
-use geom::answers::TOO_LARGE;
+use geom::inner::answers::OK;
+use geom::inner::answers::POINTS;
+use geom::inner::answers::TOO_LARGE;
 use topmost::points;
 
 impl Session {

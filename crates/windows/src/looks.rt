@@ -2,8 +2,8 @@
 ghost use Rattle.windows.specs.View.{group, Given, Looks};
 use crate::Session;
 use crate::inner::frames::frames;
-use geom::answers::STORE_LENGTH;
-use geom::answers::UNKNOWN_ID;
+use geom::inner::answers::STORE_LENGTH;
+use geom::inner::answers::UNKNOWN_ID;
 use look::Look;
 use look::look_window;
 use window::ids::WinId;

@@ -7,7 +7,7 @@ ghost use Rattle.order.specs.inner.Order.{renderIdx};
 use crate::Session;
 use crate::inner::frames::frames;
 use geom::Listing;
-use geom::answers::UNKNOWN_ID;
+use geom::inner::answers::UNKNOWN_ID;
 use order::RenderIdx;
 use order::get_render_idx;
 use order::rects;

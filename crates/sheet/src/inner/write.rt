@@ -8,8 +8,8 @@ ghost use Rattle.sheet.specs.inner.Numbers.{spansIn, countIn, bandIn, ba
 ghost use Rattle.sheet.specs.inner.Writer.{Put, Writes};
 use crate::inner::bits::low;
 use geom::Listing;
-use geom::answers::OK;
-use geom::answers::SHEET_LENGTH;
+use geom::inner::answers::OK;
+use geom::inner::answers::SHEET_LENGTH;
 
 // Three bytes as one number: the first r bits of a byte, the last n bits of v, and zeros.
 fn front(byte: usize, r: usize, n: usize, v: usize) -> usize

@@ -5,7 +5,7 @@ ghost use Rattle.rules.specs.Dim.{same};
 ghost use Rattle.windows.specs.inner.One.{MeetsShared};
 use crate::Shared;
 use crate::SharedDone;
-use geom::answers::OK;
+use geom::inner::answers::OK;
 
 fn same(a: bool, b: bool) -> bool
     ensures { λ t. ⌜ t ≡ same a b ⌝ }
