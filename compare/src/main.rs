@@ -47,16 +47,27 @@ use std::io::{self, Read, Write};
 use std::process::ExitCode;
 use text::Text;
 
-const USAGE: &str = "compare random REPLAY CALLS SEED
-compare portions REPLAY LISTS SEED
-compare busiest REPLAY RUNS SEED
-compare panels REPLAY PAIRS SEED
-compare drags REPLAY LISTS SEED
-compare look REPLAY LOOKS SEED
-compare sheets REPLAY SHEETS SEED
-compare sides REPLAY all|unasked FILE
+type Run = fn(&Replay, u64, u64) -> io::Result<bool>;
+
+/// What plays random lists: its word, what is counted, and the function that takes how many of these there are and a seed.
+const RANDOM: [(&str, &str, Run); 7] = [
+    ("random", "CALLS", compare::run),
+    ("portions", "LISTS", portions::run),
+    ("busiest", "RUNS", runs::run),
+    ("panels", "PAIRS", panels::run),
+    ("drags", "LISTS", drags::run),
+    ("look", "LOOKS", looks::run),
+    ("sheets", "SHEETS", sheets::run),
+];
+
+const OTHERS: &str = "compare sides REPLAY all|unasked FILE
 compare record FIRST LAST… STDIN STDOUT
 compare play all|unasked";
+
+fn usage() -> io::Error {
+    let lines = RANDOM.map(|(word, counted, _)| format!("compare {word} REPLAY {counted} SEED\n"));
+    io::Error::other(lines.concat() + OTHERS)
+}
 
 fn main() -> ExitCode {
     panics::keep();
@@ -74,20 +85,17 @@ fn main() -> ExitCode {
 
 fn command(words: &[&str]) -> io::Result<bool> {
     match *words {
-        ["random", replay, calls, seed] => compare::run(&Replay(replay.into()), number(calls)?, number(seed)?),
-        ["portions", replay, lists, seed] => portions::run(&Replay(replay.into()), number(lists)?, number(seed)?),
-        ["busiest", replay, runs, seed] => runs::run(&Replay(replay.into()), number(runs)?, number(seed)?),
-        ["panels", replay, pairs, seed] => panels::run(&Replay(replay.into()), number(pairs)?, number(seed)?),
-        ["drags", replay, lists, seed] => drags::run(&Replay(replay.into()), number(lists)?, number(seed)?),
-        ["look", replay, looks, seed] => looks::run(&Replay(replay.into()), number(looks)?, number(seed)?),
-        ["sheets", replay, sheets, seed] => sheets::run(&Replay(replay.into()), number(sheets)?, number(seed)?),
         ["sides", replay, word, file] => {
             let script = fs::read(file).map_err(|e| io::Error::other(format!("{file}: {e}")))?;
             sides::print(&Replay(replay.into()), &script, mode(word)?).map(|()| true)
         }
         ["record", first, ref last @ .., stdin, stdout] => record::write(first, last, stdin, stdout).map(|()| true),
         ["play", word] => play(mode(word)?).map(|()| true),
-        _ => Err(io::Error::other(USAGE)),
+        [word, replay, many, seed] => {
+            let (.., run) = RANDOM.into_iter().find(|row| row.0 == word).ok_or_else(usage)?;
+            run(&Replay(replay.into()), number(many)?, number(seed)?)
+        }
+        _ => Err(usage()),
     }
 }
 
@@ -95,7 +103,7 @@ fn mode(word: &str) -> io::Result<Mode> {
     match word {
         "all" => Ok(Mode::All),
         "unasked" => Ok(Mode::Unasked),
-        _ => Err(io::Error::other(USAGE)),
+        _ => Err(usage()),
     }
 }
 
