@@ -11,9 +11,7 @@ compare="$PWD/target/compare/release/compare"
 need_compare() {
   needs cargo rustc cc
   needs_original
-  # Its regions are a judge of sheets; without it, or without pkg-config, they are passed over.
-  ROQSHYN_PIXMAN=$(pkg-config --libs pixman-1 2>/dev/null) || ROQSHYN_PIXMAN=
-  export ROQSHYN_PIXMAN
+  finds_pixman
   cargo build --release --offline --quiet --manifest-path compare/Cargo.toml --target-dir target/compare
 }
 

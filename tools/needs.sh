@@ -44,6 +44,13 @@ needs_original() {
   [ -d "$ROQSHYN_ORIGINAL/Kernel" ] || stop "no files of the original under $ROQSHYN_ORIGINAL: set ROQSHYN_ORIGINAL to where they are"
 }
 
+# finds_pixman: sets ROQSHYN_PIXMAN, the linker's words for pixman, of which there are none where pixman or pkg-config is
+# not installed. What would be held against it is left out then.
+finds_pixman() {
+  ROQSHYN_PIXMAN=$(pkg-config --libs pixman-1 2>/dev/null) || ROQSHYN_PIXMAN=
+  export ROQSHYN_PIXMAN
+}
+
 # takes 'WORDS' MOST "$@": at most so many words were given; WORDS names them.
 takes() {
   local words=$1 most=$2

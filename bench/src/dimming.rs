@@ -2,6 +2,7 @@
 //! own library with dimming off. What a picture is like decides how often pixels beside each other are alike, and whether a processor foresees it.
 use crate::call::{Area, Call, Reply, Side, State};
 use crate::class::{Beside, Class};
+use crate::instead::Instead;
 use crate::ours::Ours;
 use crate::plain::Piece;
 use crate::scene::{alone, cascade, Scene, HEIGHT, WIDTH};
@@ -95,35 +96,16 @@ pub fn draw(to: &mut [u32], width: usize, from: &[u32], piece: &Piece, table: &[
 }
 
 /// Our library, which is told nothing of dimming: a loop draws in its place what was visible when dimming was switched on.
-pub struct Through {
-    ours: Ours,
-    table: [u8; 256],
-    pieces: Option<Vec<Piece>>,
-}
-
-impl Through {
-    pub fn new(ours: Ours) -> Through {
-        Through { ours, table: table(), pieces: None }
-    }
-}
-
-impl Side for Through {
-    fn call(&mut self, call: &Call) -> Reply {
-        match (call, &self.pieces) {
-            (Call::Dim(on), _) => self.pieces = on.then(|| self.ours.all_pieces()),
-            (Call::Redraw(_), Some(pieces)) => self.ours.draw_through(&self.table, pieces),
-            _ => return self.ours.call(call),
+pub fn through(ours: Ours) -> impl Side {
+    let (table, mut pieces) = (table(), None);
+    Instead::new(ours, move |ours, call| {
+        match (call, &pieces) {
+            (Call::Dim(on), _) => pieces = on.then(|| ours.all_pieces()),
+            (Call::Redraw(_), Some(pieces)) => ours.draw_through(&table, pieces),
+            _ => return None,
         }
-        Reply::Answer(0)
-    }
-
-    fn is_screen(&self, like: &dyn Fn(&[u32]) -> bool) -> bool {
-        self.ours.is_screen(like)
-    }
-
-    fn state(&mut self) -> State {
-        self.ours.state()
-    }
+        Some(Reply::Answer(0))
+    })
 }
 
 /// Our library, which is told nothing of dimming. Its screen is looked at through the table, so that it shows the same.

@@ -1,8 +1,9 @@
 //! Windows that are dragged: single drags, and a second of them on one display and on eight, of a panel of 200 by 150.
 //! Beside the original, which has no drag and moves; beside our own library with moves; and beside pixman, which has
 //! regions of damage and no events.
-use crate::call::{Call, Reply, Side, State};
+use crate::call::{Call, Side};
 use crate::class::{Beside, Class};
+use crate::instead::Instead;
 use crate::mix::Drag;
 use crate::ours::Ours;
 use crate::pixman;
@@ -48,21 +49,9 @@ fn seconds(name: &str, scene: Scene, drag: Drag) -> Vec<Class> {
 }
 
 /// Our library without drags.
-pub struct Moved(pub Ours);
-
-impl Side for Moved {
-    fn call(&mut self, call: &Call) -> Reply {
-        match *call {
-            Call::Drag(id, x, y) => self.0.call(&Call::Move(id, x, y)),
-            _ => self.0.call(call),
-        }
-    }
-
-    fn is_screen(&self, like: &dyn Fn(&[u32]) -> bool) -> bool {
-        self.0.is_screen(like)
-    }
-
-    fn state(&mut self) -> State {
-        self.0.state()
-    }
+pub fn moved(ours: Ours) -> impl Side {
+    Instead::new(ours, |ours, call| match *call {
+        Call::Drag(id, x, y) => Some(ours.call(&Call::Move(id, x, y))),
+        _ => None,
+    })
 }

@@ -1,7 +1,8 @@
 //! A closer look at a window of 1,280 by 800, beside a loop in Rust with the same rule in f64, as document 02 says it; with the factor 1 also beside
 //! `memcpy` of as many rows. The target is the screen, and as large as the window fills it.
-use crate::call::{Area, Call, Reply, Side, State};
+use crate::call::{Area, Call, Reply, Side};
 use crate::class::{Beside, Class, Limit};
+use crate::instead::Instead;
 use crate::ours::Ours;
 use crate::plain::Copied;
 use crate::scene::{alone, Scene, HEIGHT, WIDTH};
@@ -64,23 +65,13 @@ pub fn look(window: &[u32], w: usize, h: usize, x: f64, y: f64, factor: f64, tar
 }
 
 /// Our library, with the loop in place of a look.
-pub struct Floats(pub Ours);
-
-impl Side for Floats {
-    fn call(&mut self, call: &Call) -> Reply {
-        let Call::Look(x, y, factor) = *call else { return self.0.call(call) };
-        self.0.look_by(|window, w, h, target, tw| match factor {
+pub fn floats(ours: Ours) -> impl Side {
+    Instead::new(ours, |ours, call| {
+        let Call::Look(x, y, factor) = *call else { return None };
+        ours.look_by(|window, w, h, target, tw| match factor {
             Some(factor) => look(window, w, h, x, y, factor, target, tw),
             None => look(window, w, h, 0.0, 0.0, fit(w, h, tw, target.len() / tw), target, tw),
         });
-        Reply::Answer(0)
-    }
-
-    fn is_screen(&self, like: &dyn Fn(&[u32]) -> bool) -> bool {
-        self.0.is_screen(like)
-    }
-
-    fn state(&mut self) -> State {
-        self.0.state()
-    }
+        Some(Reply::Answer(0))
+    })
 }

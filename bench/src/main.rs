@@ -12,13 +12,13 @@ mod dimming;
 mod displays;
 mod drags;
 mod earlier;
+mod instead;
 mod locked;
 mod looks;
 mod loops;
 mod measure;
 mod mix;
 mod ours;
-#[cfg_attr(not(pixman), path = "no_pixman.rs")]
 mod pixman;
 mod plain;
 mod plot;

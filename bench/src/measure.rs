@@ -2,18 +2,18 @@
 use crate::call::{Call, Side};
 use crate::check;
 use crate::class::{Beside, Class, Limit};
-use crate::dimming::{Bright, Through};
-use crate::drags::Moved;
+use crate::dimming::{through, Bright};
+use crate::drags::moved;
 use crate::earlier;
 use crate::locked;
-use crate::looks::Floats;
+use crate::looks::floats;
 use crate::loops::Loops;
 use crate::ours::Ours;
 use crate::pixman::Pixman;
 use crate::plain::Plain;
 use crate::seconds::InRust;
-use crate::shares::Listed;
-use crate::undivided::Undivided;
+use crate::shares::listed;
+use crate::undivided::undivided;
 use crate::unlocked;
 use std::hint::black_box;
 use std::time::Instant;
@@ -68,17 +68,18 @@ pub fn measure(class: &Class) -> Measured {
     if class.is_cold {
         return cold(class);
     }
+    let ours = || Ours::new(scene.c, scene.width, scene.height);
     match class.beside {
         Beside::Original => beside(class, scene.common.then(|| locked::Theirs::new(scene.width, scene.height))),
         Beside::Pixman => beside(class, Some(Pixman::new(scene.width, scene.height, false))),
         Beside::PixmanAtOnce => beside(class, Some(Pixman::new(scene.width, scene.height, true))),
         Beside::Loops => beside(class, Some(Loops::new(scene.width, scene.height))),
-        Beside::Undivided => beside(class, Some(Undivided::new(Ours::new(scene.c, scene.width, scene.height)))),
-        Beside::Moved => beside(class, Some(Moved(Ours::new(scene.c, scene.width, scene.height)))),
-        Beside::Table => beside(class, Some(Through::new(Ours::new(scene.c, scene.width, scene.height)))),
-        Beside::Bright => beside(class, Some(Bright::new(Ours::new(scene.c, scene.width, scene.height)))),
-        Beside::Listed => beside(class, Some(Listed(Ours::new(scene.c, scene.width, scene.height)))),
-        Beside::Floats => beside(class, Some(Floats(Ours::new(scene.c, scene.width, scene.height)))),
+        Beside::Undivided => beside(class, Some(undivided(ours()))),
+        Beside::Moved => beside(class, Some(moved(ours()))),
+        Beside::Table => beside(class, Some(through(ours()))),
+        Beside::Bright => beside(class, Some(Bright::new(ours()))),
+        Beside::Listed => beside(class, Some(listed(ours()))),
+        Beside::Floats => beside(class, Some(floats(ours()))),
         Beside::OnePass => beside(class, Some(InRust::one_pass())),
         Beside::Square => beside(class, Some(InRust::square())),
     }

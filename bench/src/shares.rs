@@ -1,7 +1,8 @@
 //! The share of a window that is in view, beside two other ways to it: our visible list, and a region of pixman. There the areas of the
 //! rectangles are added up in Rust.
-use crate::call::{Call, Reply, Side, State};
+use crate::call::{Call, Reply, Side};
 use crate::class::{Beside, Class};
+use crate::instead::Instead;
 use crate::ours::Ours;
 use crate::pixman;
 use crate::scene::free_crossing;
@@ -34,21 +35,9 @@ pub fn share(unobscured: u32, size: u32) -> Result<Share, Error> {
 }
 
 /// Our library without shares.
-pub struct Listed(pub Ours);
-
-impl Side for Listed {
-    fn call(&mut self, call: &Call) -> Reply {
-        match *call {
-            Call::Share(id) => Reply::Share(self.0.listed_share(id)),
-            _ => self.0.call(call),
-        }
-    }
-
-    fn is_screen(&self, like: &dyn Fn(&[u32]) -> bool) -> bool {
-        self.0.is_screen(like)
-    }
-
-    fn state(&mut self) -> State {
-        self.0.state()
-    }
+pub fn listed(ours: Ours) -> impl Side {
+    Instead::new(ours, |ours, call| match *call {
+        Call::Share(id) => Some(Reply::Share(ours.listed_share(id))),
+        _ => None,
+    })
 }

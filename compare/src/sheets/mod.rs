@@ -6,7 +6,6 @@ mod case;
 mod closer;
 mod damage;
 mod judges;
-#[cfg_attr(not(pixman), path = "no_pixman.rs")]
 mod pixman;
 mod random;
 mod reading;

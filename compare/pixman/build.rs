@@ -1,4 +1,5 @@
-//! Links pixman, where build.sh found it: then ROQSHYN_PIXMAN has the linker's words for it. Cargo builds anew where they have changed, and not each time.
+//! Links pixman, if it is installed: then ROQSHYN_PIXMAN has the linker's words for it (`tools/needs.sh`). Cargo builds
+//! anew where they have changed, and not each time.
 use std::env;
 
 fn main() {
