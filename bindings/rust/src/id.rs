@@ -1,4 +1,4 @@
-//! Ids. How wide they are is said here and in raw.rs alone.
+//! Ids. How wide they are is said here and in roqshyn.h alone.
 
 /// The id of a window. It may be made of any number: a call that gets one that no window has gives question 3's error.
 ///
