@@ -5,46 +5,63 @@ use roqshyn::{Error, Pos, Second, Share};
 #[derive(Clone, Copy, Debug, PartialEq)]
 pub struct Area(pub u32, pub u32, pub u32, pub u32);
 
-#[derive(Clone, Debug)]
-pub enum Call {
-    Create,
-    Show(u32),
-    Raise(u32),
-    Hide(u32),
-    Drop(u32),
-    Mark(u32),
+/// Each call, and the exported function that does it.
+macro_rules! calls {
+    ($($(#[$doc:meta])* $call:ident $(($($argument:ty),*))? => $function:literal,)*) => {
+        #[derive(Clone, Debug)]
+        pub enum Call {
+            $($(#[$doc])* $call $(($($argument),*))?,)*
+        }
+
+        impl Call {
+            pub fn function(&self) -> &'static str {
+                match self {
+                    $(Call::$call { .. } => $function,)*
+                }
+            }
+        }
+    };
+}
+
+calls! {
+    Create => "roq_create",
+    Show(u32) => "roq_show",
+    Raise(u32) => "roq_raise",
+    Hide(u32) => "roq_hide",
+    Drop(u32) => "roq_drop",
+    Mark(u32) => "roq_mark",
     /// So many marks, of windows 0 to 15 in turn, in a loop of their own: a mark is shorter than what hands a call
     /// over.
-    Marks(u32),
-    Move(u32, u32, u32),
-    Drag(u32, u32, u32),
-    Layer(u32, u32),
-    Resize(u32, u32, u32),
-    Display(Area),
-    DisplayAt(u32, u32),
-    Maximise(u32),
-    UpdateDims,
-    Fill(u32, Area, u32),
+    Marks(u32) => "roq_mark",
+    Move(u32, u32, u32) => "roq_move",
+    Drag(u32, u32, u32) => "roq_drag",
+    Layer(u32, u32) => "roq_set_layer",
+    Resize(u32, u32, u32) => "roq_resize",
+    Display(Area) => "roq_add_display",
+    DisplayAt(u32, u32) => "roq_display_at",
+    Maximise(u32) => "roq_maximise",
+    UpdateDims => "roq_update_dims",
+    Fill(u32, Area, u32) => "roq_fill",
     /// The data have the area's width as their stride.
-    Blit(u32, Area, Vec<u32>),
-    Press(u32, u32),
-    Release(u32, u32),
+    Blit(u32, Area, Vec<u32>) => "roq_blit",
+    Press(u32, u32) => "roq_route",
+    Release(u32, u32) => "roq_route",
     /// A MouseMove.
-    Point(u32, u32),
-    Pop(u32),
-    Redraw(bool),
-    Begin(bool),
-    Portion,
-    Dim(bool),
-    Visible(u32),
-    Share(u32),
-    Hits(Vec<Pos>),
+    Point(u32, u32) => "roq_route",
+    Pop(u32) => "roq_pop",
+    Redraw(bool) => "roq_redraw",
+    Begin(bool) => "roq_begin",
+    Portion => "roq_portion",
+    Dim(bool) => "roq_dim",
+    Visible(u32) => "roq_visible",
+    Share(u32) => "roq_share",
+    Hits(Vec<Pos>) => "roq_hits",
     /// At window 0, from a corner on: a factor, or none to fit. The screen is the target.
-    Look(f64, f64, Option<f64>),
-    Sheet(u32),
+    Look(f64, f64, Option<f64>) => "roq_look",
+    Sheet(u32) => "roq_sheet",
     /// The last sheet that was written.
-    ReadSheet,
-    Busiest(Vec<u32>),
+    ReadSheet => "roq_read_sheet",
+    Busiest(Vec<u32>) => "roq_busiest",
 }
 
 impl Call {
@@ -53,40 +70,6 @@ impl Call {
         match *self {
             Call::Marks(times) => times as usize,
             _ => 1,
-        }
-    }
-    /// The exported function that does it.
-    pub fn function(&self) -> &'static str {
-        match self {
-            Call::Create => "roq_create",
-            Call::Show(_) => "roq_show",
-            Call::Raise(_) => "roq_raise",
-            Call::Hide(_) => "roq_hide",
-            Call::Drop(_) => "roq_drop",
-            Call::Mark(_) | Call::Marks(_) => "roq_mark",
-            Call::Move(..) => "roq_move",
-            Call::Drag(..) => "roq_drag",
-            Call::Layer(..) => "roq_set_layer",
-            Call::Resize(..) => "roq_resize",
-            Call::Display(_) => "roq_add_display",
-            Call::DisplayAt(..) => "roq_display_at",
-            Call::Maximise(_) => "roq_maximise",
-            Call::UpdateDims => "roq_update_dims",
-            Call::Fill(..) => "roq_fill",
-            Call::Blit(..) => "roq_blit",
-            Call::Press(..) | Call::Release(..) | Call::Point(..) => "roq_route",
-            Call::Pop(_) => "roq_pop",
-            Call::Redraw(_) => "roq_redraw",
-            Call::Begin(_) => "roq_begin",
-            Call::Portion => "roq_portion",
-            Call::Dim(_) => "roq_dim",
-            Call::Visible(_) => "roq_visible",
-            Call::Share(_) => "roq_share",
-            Call::Hits(_) => "roq_hits",
-            Call::Look(..) => "roq_look",
-            Call::Sheet(_) => "roq_sheet",
-            Call::ReadSheet => "roq_read_sheet",
-            Call::Busiest(_) => "roq_busiest",
         }
     }
 }
