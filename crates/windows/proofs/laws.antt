@@ -1,4 +1,5 @@
 -- The view, the two ends of a call, and what each call does to the session.
+pub mod Asked
 pub mod Session
 pub mod Shared
 pub mod Dimmed

@@ -43,6 +43,7 @@ use window::Window;
 use window::damage::Damage;
 use window::ids::Place;
 use window::ids::WinId;
+use window::ids::in_use;
 
 // Where the window of an id lies: at its number. For a number that no window has it is 0, and the call is refused, whatever lies there.
 pub fn slot(id: WinId) -> usize
@@ -85,33 +86,46 @@ pub fn create(mut win: Window, mut shared: Shared, id: WinId) -> CreatedOne
     requires { ⌜ id .0 < 16 ⌝ }
     ensures { λ r. ⌜ CreatesAt (id .0) win shared r ⌝ }
 {
-    let mut answer: u32 = NO_FREE_ID;
-    let mut new = NewId::Absent;
-    if !win.used {
-        let origin = Rect16 {
-            x: 0,
-            y: 0,
-            w: 0,
-            h: 0,
+    if win.used {
+        return CreatedOne {
+            window: win,
+            shared,
+            answer: NO_FREE_ID,
+            id: NewId::Absent,
         };
-        let cursor = CursorPos::new();
-        win.queue.len = 0;
-        win.damage.len = 0;
-        win.at = origin;
-        win.cursor = cursor;
-        win.used = true;
-        win.marked = false;
-        let at = id.0 as usize;
-        shared.layers[at] = 0;
-        shared.maximised[at] = false;
-        answer = OK;
-        new = NewId::Id(id);
     }
+    let origin = Rect16 {
+        x: 0,
+        y: 0,
+        w: 0,
+        h: 0,
+    };
+    let cursor = CursorPos::new();
+    win.queue.len = 0;
+    win.damage.len = 0;
+    win.at = origin;
+    win.cursor = cursor;
+    win.used = true;
+    win.marked = false;
+    let at = id.0 as usize;
+    shared.layers[at] = 0;
+    shared.maximised[at] = false;
     CreatedOne {
         window: win,
         shared,
+        answer: OK,
+        id: NewId::Id(id),
+    }
+}
+
+// A refused call.
+fn refused(win: Window, shared: Shared, answer: u32) -> Changed
+    ensures { λ r. ⌜ r ≡ record { window = win; shared = shared; answer = answer } ⌝ }
+{
+    Changed {
+        window: win,
+        shared,
         answer,
-        id: new,
     }
 }
 
@@ -119,15 +133,14 @@ pub fn mark(mut win: Window, shared: Shared, id: WinId) -> Changed
     requires { ⌜ Held (id .0) win shared ⌝ }
     ensures { λ r. ⌜ MeetsMarkAt (id .0) win shared r ⌝ }
 {
-    let mut answer: u32 = UNKNOWN_ID;
-    if is_used(win, id) {
-        win.marked = true;
-        answer = OK;
+    if !in_use(id, win.used) {
+        return refused(win, shared, UNKNOWN_ID);
     }
+    win.marked = true;
     Changed {
         window: win,
         shared,
-        answer,
+        answer: OK,
     }
 }
 
@@ -135,23 +148,22 @@ pub fn move_window(mut win: Window, mut shared: Shared, id: WinId, x: u32, y: u3
     requires { ⌜ Held (id .0) win shared ⌝ }
     ensures { λ r. ⌜ MeetsAt (Call.Move (id .0) x y) (id .0) win shared r ⌝ }
 {
-    let mut answer: u32 = UNKNOWN_ID;
-    if is_used(win, id) {
-        answer = TOO_LARGE;
-        if small_point(x, y) {
-            let mut area = win.at;
-            area.x = x as u16;
-            area.y = y as u16;
-            win.at = area;
-            shared = shared.set_maximised(id, false);
-            shared = shared.owing(); // where it was is uncovered
-            answer = OK;
-        }
+    if !in_use(id, win.used) {
+        return refused(win, shared, UNKNOWN_ID);
     }
+    if !small_point(x, y) {
+        return refused(win, shared, TOO_LARGE);
+    }
+    let mut area = win.at;
+    area.x = x as u16;
+    area.y = y as u16;
+    win.at = area;
+    shared = shared.set_maximised(id, false);
+    shared = shared.owing(); // where it was is uncovered
     Changed {
         window: win,
         shared,
-        answer,
+        answer: OK,
     }
 }
 
@@ -160,25 +172,29 @@ pub fn show(win: Window, mut shared: Shared, id: WinId) -> Changed
     requires { ⌜ Held (id .0) win shared ⌝ }
     ensures { λ r. ⌜ MeetsAt (Call.Show (id .0)) (id .0) win shared r ⌝ }
 {
-    let mut answer: u32 = UNKNOWN_ID;
-    if is_used(win, id) {
-        answer = OK;
-        let n = shared.shown;
-        let order = shared.order;
-        let layers = shared.layers;
-        let idx = get_render_idx(order, n, id);
-        if let RenderIdx::Hidden = idx {
-            let longer = insert(layers, order, n, id);
-            shared.order = longer;
-            shared.shown = n + 1;
-            shared.focus = id;
-            shared = shared.owing();
-        }
+    if !in_use(id, win.used) {
+        return refused(win, shared, UNKNOWN_ID);
     }
+    let n = shared.shown;
+    let order = shared.order;
+    let layers = shared.layers;
+    let idx = get_render_idx(order, n, id);
+    if let RenderIdx::At(_) = idx {
+        return Changed {
+            window: win,
+            shared,
+            answer: OK,
+        };
+    }
+    let longer = insert(layers, order, n, id);
+    shared.order = longer;
+    shared.shown = n + 1;
+    shared.focus = id;
+    shared = shared.owing();
     Changed {
         window: win,
         shared,
-        answer,
+        answer: OK,
     }
 }
 
@@ -256,31 +272,29 @@ fn layered(mut shared: Shared, id: WinId, layer: u8) -> Shared
     let n = shared.shown;
     let order = shared.order;
     let idx = get_render_idx(order, n, id);
-    if let RenderIdx::At(p) = idx {
-        let moved = to_top(layers, order, n, p, id);
-        shared.order = moved;
-        shared = shared.owing(); // it covers others now, or they cover it
-    }
-    shared
+    let RenderIdx::At(p) = idx else {
+        return shared;
+    };
+    let raised = to_top(layers, order, n, p, id);
+    shared.order = raised;
+    shared.owing() // it covers others now, or they cover it
 }
 
 // Puts the window on a layer; the focus stays where it is.
-pub fn set_layer(win: Window, mut shared: Shared, id: WinId, layer: u32) -> Changed
+pub fn set_layer(win: Window, shared: Shared, id: WinId, layer: u32) -> Changed
     requires { ⌜ Held (id .0) win shared ⌝ }
     ensures { λ r. ⌜ MeetsAt (Call.SetLayer (id .0) layer) (id .0) win shared r ⌝ }
 {
-    let mut answer: u32 = UNKNOWN_ID;
-    if is_used(win, id) {
-        answer = LAYER;
-        if layer <= 1 {
-            answer = OK;
-            shared = layered(shared, id, layer as u8);
-        }
+    if !in_use(id, win.used) {
+        return refused(win, shared, UNKNOWN_ID);
+    }
+    if 1 < layer {
+        return refused(win, shared, LAYER);
     }
     Changed {
         window: win,
-        shared,
-        answer,
+        shared: layered(shared, id, layer as u8),
+        answer: OK,
     }
 }
 
@@ -301,45 +315,46 @@ fn hide_shown(mut shared: Shared, id: WinId, p: Place) -> Shared
     shared.owing()
 }
 
+// The same of a window that is shown or not: what is shared stays as it is if the window has no place.
+fn hidden(shared: Shared, id: WinId) -> Shared
+    requires { ⌜ SharedBy shared ⌝ }
+    ensures { λ r. ⌜ Hides (id .0) shared r ⌝ }
+{
+    let order = shared.order;
+    let idx = get_render_idx(order, shared.shown, id);
+    if let RenderIdx::At(p) = idx {
+        return hide_shown(shared, id, p);
+    }
+    shared
+}
+
 // Removed from the render order; nothing if hidden.
-pub fn hide(win: Window, mut shared: Shared, id: WinId) -> Changed
+pub fn hide(win: Window, shared: Shared, id: WinId) -> Changed
     requires { ⌜ Held (id .0) win shared ⌝ }
     ensures { λ r. ⌜ MeetsAt (Call.Hide (id .0)) (id .0) win shared r ⌝ }
 {
-    let mut answer: u32 = UNKNOWN_ID;
-    if is_used(win, id) {
-        answer = OK;
-        let order = shared.order;
-        let idx = get_render_idx(order, shared.shown, id);
-        if let RenderIdx::At(p) = idx {
-            shared = hide_shown(shared, id, p);
-        }
+    if !in_use(id, win.used) {
+        return refused(win, shared, UNKNOWN_ID);
     }
     Changed {
         window: win,
-        shared,
-        answer,
+        shared: hidden(shared, id),
+        answer: OK,
     }
 }
 
 // Hides the window and frees its id; its pixels stay in the store.
-pub fn drop(mut win: Window, mut shared: Shared, id: WinId) -> Changed
+pub fn drop(mut win: Window, shared: Shared, id: WinId) -> Changed
     requires { ⌜ Held (id .0) win shared ⌝ }
     ensures { λ r. ⌜ MeetsAt (Call.Drop (id .0)) (id .0) win shared r ⌝ }
 {
-    let mut answer: u32 = UNKNOWN_ID;
-    if is_used(win, id) {
-        answer = OK;
-        let order = shared.order;
-        let idx = get_render_idx(order, shared.shown, id);
-        if let RenderIdx::At(p) = idx {
-            shared = hide_shown(shared, id, p);
-        }
-        win.used = false;
+    if !in_use(id, win.used) {
+        return refused(win, shared, UNKNOWN_ID);
     }
+    win.used = false;
     Changed {
         window: win,
-        shared,
-        answer,
+        shared: hidden(shared, id),
+        answer: OK,
     }
 }

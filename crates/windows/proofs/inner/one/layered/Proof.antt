@@ -72,6 +72,20 @@ get-render-idx-requires c κs = few (c .before .before .before .before .before)
 enum-known-idx : tie.Need-enum-known-idx
 enum-known-idx c = search needs
 
+enum-told : tie.Need-enum-told
+enum-told c = search needs
+
+returns-2 : tie.Need-returns-2
+returns-2 c s h same =
+    let g = c .before .before in
+    let w = g .before .before in
+    let a = w .before .before .before .before .args in
+    let id = a .id .0 in
+    let l = a .layer in
+    rw (w .with-layer .ensures)
+    (subst (λ (k : Shared). Becomes id l s (given id l k)) same
+    (hidden-layer s h id l (isnt-layer id l same (w .before .if1 .left)) (same-place _ _ same (sym (ap idxOf (c .enum-told .given .1)) ∙ g .get-render-idx .ensures))))
+
 to-top-requires : tie.Need-to-top-requires
 to-top-requires c κs =
     let s = entry (c .before) in
@@ -81,11 +95,8 @@ to-top-requires c κs =
 owing-requires : tie.Need-owing-requires
 owing-requires c κs = search needs
 
-enum-told : tie.Need-enum-told
-enum-told c = search needs
-
-returns-2 : tie.Need-returns-2
-returns-2 c s h same =
+returns-3 : tie.Need-returns-3
+returns-3 c s h same =
     let order = c .before .to-top in
     let i = c .before .before .before in
     let w = i .before .before .before .before in
@@ -98,18 +109,18 @@ returns-2 c s h same =
     (subst (λ (k : Shared). Raised (given id l k .layers) (k .order) (k .shown) id (order .result)) (sym same)
     (subst (λ (ls : List ℕ). Raised ls (a .shared .order) (a .shared .shown) id (order .result)) (w .with-layer .ensures) (order .ensures)))))
 
-returns-3 : tie.Need-returns-3
-returns-3 c s h same =
-    let g = c .before .before in
-    let w = g .before .before in
-    let a = w .before .before .before .before .args in
-    let id = a .id .0 in
-    let l = a .layer in
-    rw (w .with-layer .ensures)
-    (subst (λ (k : Shared). Becomes id l s (given id l k)) same
-    (hidden-layer s h id l (isnt-layer id l same (w .before .if1 .left)) (same-place _ _ same (sym (ap idxOf (c .enum-told .given .1)) ∙ g .get-render-idx .ensures))))
-
 pub layered-spec : {M : Type 1} → statement M
 layered-spec =
     tie.close
-    (tie.spec cast-at array-read-if1 returns with-layer-requires get-render-idx-requires enum-known-idx to-top-requires owing-requires enum-told returns-2 returns-3)
+    (tie.spec
+    cast-at
+    array-read-if1
+    returns
+    with-layer-requires
+    get-render-idx-requires
+    enum-known-idx
+    enum-told
+    returns-2
+    to-top-requires
+    owing-requires
+    returns-3)

@@ -14,6 +14,7 @@ use Rattle.rules.specs.Calls.{Mark, does}
 use Rattle.windows.specs.declared.Session.{Session}
 use Rattle.windows.specs.View.{group, windowAt, grabbing, Given, MeetsMark, done}
 use Rattle.windows.specs.inner.One.{withWindow}
+use Rattle.windows.proofs.laws.Asked.{passed, failed}
 use Rattle.windows.proofs.laws.Session.{used-at, win-at, putWindow, refuses, puts}
 use Rattle.windows.proofs.laws.One.{accepts, not-used}
 use borrow.Author.Needs.{needs}
@@ -44,20 +45,24 @@ mark-no : (s : Session) (id : ℕ) → Given s → used (group s) id ≡ false �
 unfolding does Rule.mark
 mark-no s id h u = record { meets = refuses (Mark id) s 2 h (rw u); whole = λ z. absurd (omega (arith, z)) }
 
-is-used-requires : tie.Need-is-used-requires
-is-used-requires c κs = search needs
+in-use-requires : tie.Need-in-use-requires
+in-use-requires c κs = search needs
+
+refused-requires : tie.Need-refused-requires
+refused-requires c κs = search needs
 
 returns : tie.Need-returns
 returns c =
-    let a = c .before .before .args in
-    let id = a .id .0 in
-    accepts (λ s at w k. MeetsMark id s (done (withWindow at (marked w) k s) 0)) (sym (c .before .is-used .ensures) ∙ c .if1 .taken)
-    (λ s q. let r = q .rep in mark-yes s id (q .given) (q .used) (record { at = r .at; damage = r .damage; queue = r .queue; cursor = r .cursor }))
+    let u = c .before .before in
+    let id = u .before .args .id .0 in
+    rw (c .refused .ensures)
+    (not-used (λ s t. MeetsMark id s (done t 3)) (failed (u .in-use .ensures) (c .before .if1 .taken)) (λ s h u. mark-no s id h u))
 
 returns-2 : tie.Need-returns-2
 returns-2 c =
     let id = c .before .before .args .id .0 in
-    not-used (λ s t. MeetsMark id s (done t 3)) (sym (c .before .is-used .ensures) ∙ c .if1 .left) (λ s h u. mark-no s id h u)
+    accepts (λ s at w k. MeetsMark id s (done (withWindow at (marked w) k s) 0)) (passed (c .before .in-use .ensures) (c .if1 .left))
+    (λ s q. let r = q .rep in mark-yes s id (q .given) (q .used) (record { at = r .at; damage = r .damage; queue = r .queue; cursor = r .cursor }))
 
 pub mark-spec : {M : Type 1} → statement M
-mark-spec = tie.close (tie.spec is-used-requires returns returns-2)
+mark-spec = tie.close (tie.spec in-use-requires refused-requires returns returns-2)
