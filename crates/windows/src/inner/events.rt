@@ -13,7 +13,6 @@ ghost use Rattle.windows.specs.inner.Aimed.{toNobody, toWindow, Hears, A
 use crate::NextEvent;
 use crate::Session;
 use crate::inner::frames::frames;
-use crate::inner::maximise::in_use;
 use geom::inner::answers::KEY_FIRE;
 use geom::inner::answers::NO_EVENT;
 use geom::inner::answers::NO_WINDOW;
@@ -31,6 +30,7 @@ use topmost::release::taker;
 use window::CursorPos;
 use window::Event;
 use window::ids::WinId;
+use window::ids::in_use;
 use window::queue::back;
 use window::slots::Slot;
 use window::slots::event_of;
@@ -150,36 +150,42 @@ pub fn tell(old: Slot, cursor: CursorPos, len: u8, grab: WinId, m: Message) -> T
     requires { ⌜ RepCursor cursor × (len ≤ 16) × (m .told ≡ true → Tellable (m .event)) ⌝ }
     ensures { λ r. ⌜ Hears old cursor len grab m r ⌝ }
 {
-    let mut slot = old;
-    let mut pos = cursor;
-    let mut n = len;
-    let mut remembered = grab;
-    let mut answer = m.answer;
-    if m.told {
-        let e = m.event;
-        answer = OK;
-        match e {
-            Event::MouseMove { x, y, dx: _, dy: _ } => {
-                pos = cursor.update(x, y);
-                remembered = m.grab;
-            }
-            _ => {
-                if len < 16 {
-                    slot = slot_of(e);
-                    n = len + 1;
-                    remembered = m.grab;
-                } else {
-                    answer = QUEUE_FULL;
-                }
-            }
-        }
+    if !m.told {
+        return Told {
+            slot: old,
+            cursor,
+            len,
+            grab,
+            answer: m.answer,
+        };
     }
+    let e = m.event;
+    let remembered = m.grab;
+    if let Event::MouseMove { x, y, dx: _, dy: _ } = e {
+        return Told {
+            slot: old,
+            cursor: cursor.update(x, y),
+            len,
+            grab: remembered,
+            answer: OK,
+        };
+    }
+    if 16 <= len {
+        return Told {
+            slot: old,
+            cursor,
+            len,
+            grab,
+            answer: QUEUE_FULL,
+        };
+    }
+    let longer = len + 1;
     Told {
-        slot,
-        cursor: pos,
-        len: n,
+        slot: slot_of(e),
+        cursor,
+        len: longer,
         grab: remembered,
-        answer,
+        answer: OK,
     }
 }
 
@@ -229,10 +235,10 @@ fn aim_key(s: Session, e: Event) -> Aim
     let focus = s.shared.focus;
     let order = s.shared.order;
     let idx = get_render_idx(order, s.shared.shown, focus);
-    match idx {
-        RenderIdx::At(_) => to_window(focus.0 as usize, e, s.shared.grab),
-        RenderIdx::Hidden => nobody(NO_WINDOW),
+    if let RenderIdx::Hidden = idx {
+        return nobody(NO_WINDOW);
     }
+    to_window(focus.0 as usize, e, s.shared.grab)
 }
 
 // At the window that takes it, at the pixel nearest to the point: in the topmost window that contains the point, the point itself.
@@ -240,24 +246,34 @@ fn aim_pointer(s: Session, e: Event, grab: WinId, x: u32, y: u32) -> Aim
     requires { ⌜ Given s × (targetOf e (s .shared .grab) ≡ Target.Point grab x y) ⌝ }
     ensures { λ r. ⌜ Aims (Meets (Call.Route e) s) s r ⌝ }
 {
-    if small_point(x, y) {
-        let frames = frames(s);
-        let areas = frames.areas;
-        let order = s.shared.order;
-        let hit = taker(areas, order, s.shared.shown, grab, x, y);
-        match hit {
-            Hit::Window(id) => {
-                let at = id.0 as usize;
-                let area = areas[at];
-                let column = nearest(area.x as u32, area.w as u32, x);
-                let row = nearest(area.y as u32, area.h as u32, y);
-                let inside = at_point(e, column, row);
-                to_window(at, inside, grab_after(e, id, s.shared.grab))
-            }
-            Hit::Nobody => nobody(NO_WINDOW),
-        }
-    } else {
-        nobody(TOO_LARGE)
+    if !small_point(x, y) {
+        return nobody(TOO_LARGE);
+    }
+    let frames = frames(s);
+    let areas = frames.areas;
+    let order = s.shared.order;
+    let hit = taker(areas, order, s.shared.shown, grab, x, y);
+    let Hit::Window(id) = hit else {
+        return nobody(NO_WINDOW);
+    };
+    let at = id.0 as usize;
+    let area = areas[at];
+    let column = nearest(area.x as u32, area.w as u32, x);
+    let row = nearest(area.y as u32, area.h as u32, y);
+    let inside = at_point(e, column, row);
+    to_window(at, inside, grab_after(e, id, s.shared.grab))
+}
+
+// A refused pop.
+fn refused(cursor: CursorPos, head: u8, len: u8, answer: u32) -> Front
+    ensures { λ r. ⌜ r ≡ record { cursor = cursor; head = head; len = len; answer = answer; event = NextEvent.Absent } ⌝ }
+{
+    Front {
+        cursor,
+        head,
+        len,
+        answer,
+        event: NextEvent::Absent,
     }
 }
 
@@ -266,32 +282,31 @@ pub fn pop(used: bool, cursor: CursorPos, head: u8, len: u8, first: Slot, id: Wi
     requires { ⌜ RepCursor cursor × (head < 16) × (len ≤ 16) ⌝ }
     ensures { λ r. ⌜ PopsFront (id .0) used cursor head len first r ⌝ }
 {
-    let mut pos = cursor;
-    let mut front = head;
-    let mut n = len;
-    let mut answer: u32 = UNKNOWN_ID;
-    let mut event = NextEvent::Absent;
-    if in_use(id, used) {
-        answer = NO_EVENT;
-        if 0 < len {
-            front = back(head, 1) as u8;
-            n = len - 1;
-            let e = event_of(first);
-            event = NextEvent::Event(e);
-            answer = OK;
-        } else if cursor.is_dirty {
-            let moved = cursor.take();
-            pos = moved.cursor;
-            let e = moved.event;
-            event = NextEvent::Event(e);
-            answer = OK;
-        }
+    if !in_use(id, used) {
+        return refused(cursor, head, len, UNKNOWN_ID);
     }
+    if 0 < len {
+        let next = back(head, 1) as u8;
+        let rest = len - 1;
+        return Front {
+            cursor,
+            head: next,
+            len: rest,
+            answer: OK,
+            event: NextEvent::Event(event_of(first)),
+        };
+    }
+    if !cursor.is_dirty {
+        return refused(cursor, head, len, NO_EVENT);
+    }
+    let moved = cursor.take();
+    let pos = moved.cursor;
+    let e = moved.event;
     Front {
         cursor: pos,
-        head: front,
-        len: n,
-        answer,
-        event,
+        head,
+        len,
+        answer: OK,
+        event: NextEvent::Event(e),
     }
 }

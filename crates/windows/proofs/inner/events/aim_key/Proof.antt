@@ -9,11 +9,32 @@ use borrow.Author.Needs.{needs}
 use Rattle.windows.proofs.inner.events.aim_key.Statement.{statement}
 use Rattle.windows.proofs.inner.events.aim_key.Tie as tie
 
+-- the start, from where the focus was looked for in the order
+abbrev entry : tie.After-get-render-idx → tie.Start
+entry sought = sought .before .before .before
+
 get-render-idx-requires : tie.Need-get-render-idx-requires
 get-render-idx-requires c κs = search needs
 
 enum-told : tie.Need-enum-told
 enum-told c = search needs
+
+nobody-requires : tie.Need-nobody-requires
+nobody-requires c κs = search needs
+
+returns : tie.Need-returns
+returns c =
+    let m = c .before .before .before in
+    let a = entry m in
+    let s = a .args .s in
+    let e = a .args .e in
+    rw (c .nobody .ensures)
+    (aims-nobody _ s 11
+    (no-focus s e (a .pre .0) (a .pre .1)
+    (isnt-shown s (a .pre .0) (s .shared .focus .0) (sym (ap idxOf (c .before .enum-told .given .1)) ∙ m .get-render-idx .ensures))))
+
+enum-told-2 : tie.Need-enum-told-2
+enum-told-2 c = search needs
 
 cast-to-window : tie.Need-cast-to-window
 cast-to-window c = search needs
@@ -21,33 +42,17 @@ cast-to-window c = search needs
 to-window-requires : tie.Need-to-window-requires
 to-window-requires c κs = search needs
 
-enum-told-2 : tie.Need-enum-told-2
-enum-told-2 c = search needs
-
-nobody-requires : tie.Need-nobody-requires
-nobody-requires c κs = search needs
-
-returns : tie.Need-returns
-returns c =
-    let m = c .before .before .before .before in
-    let a = m .before .before .before in
+returns-2 : tie.Need-returns-2
+returns-2 c =
+    let k = c .before .before in
+    let m = k .before .before in
+    let a = entry m in
     let s = a .args .s in
     let e = a .args .e in
-    let known = is-shown s (a .pre .0) (s .shared .focus .0) _ (sym (ap idxOf (c .before .before .enum-told .given .1)) ∙ m .get-render-idx .ensures) in
+    let known = is-shown s (a .pre .0) (s .shared .focus .0) _ (sym (ap idxOf (k .enum-told2 .given .1)) ∙ m .get-render-idx .ensures) in
     let u = shown-used s (s .shared .focus .0) (a .pre .0) known in
     rw (c .to-window .ensures)
     (aims-window _ s (s .shared .focus .0) e (s .shared .grab) (u .0) (key-tellable e (s .shared .grab) (a .pre .1)) (λ t to. focus-told s e (a .pre .0) (a .pre .1) known (u .1) t to))
-
-returns-2 : tie.Need-returns-2
-returns-2 c =
-    let m = c .before .before .before in
-    let a = m .before .before .before in
-    let s = a .args .s in
-    let e = a .args .e in
-    rw (c .nobody .ensures)
-    (aims-nobody _ s 11
-    (no-focus s e (a .pre .0) (a .pre .1)
-    (isnt-shown s (a .pre .0) (s .shared .focus .0) (sym (ap idxOf (c .before .enum-told2 .given .1)) ∙ m .get-render-idx .ensures))))
 
 pub aim-key-spec : {M : Type 1} → statement M
 aim-key-spec =
@@ -55,9 +60,9 @@ aim-key-spec =
     (tie.spec
     get-render-idx-requires
     enum-told
-    cast-to-window
-    to-window-requires
-    enum-told-2
     nobody-requires
     returns
+    enum-told-2
+    cast-to-window
+    to-window-requires
     returns-2)

@@ -8,13 +8,14 @@ use Rattle.windows.specs.inner.Events.{atPoint}
 use Rattle.windows.proofs.laws.Frames.{Found, order-lies, none-found, found}
 use Rattle.windows.proofs.laws.Routing.{too-far, nowhere}
 use Rattle.windows.proofs.laws.Aimed.{grab-known, aims-point, aims-nobody}
+use Rattle.windows.proofs.laws.Asked.{passed, failed}
 use borrow.Author.Needs.{needs}
 use Rattle.windows.proofs.inner.events.aim_pointer.Statement.{statement}
 use Rattle.windows.proofs.inner.events.aim_pointer.Tie as tie
 
 -- the point is small
-is-small : (c : tie.Then1) → let a = c .before .before .args in small (a .x) && small (a .y) ≡ true
-is-small c = sym (c .before .small-point .ensures) ∙ c .if1 .taken
+is-small : (c : tie.Else1) → let a = c .before .before .args in small (a .x) && small (a .y) ≡ true
+is-small c = passed (c .before .small-point .ensures) (c .if1 .left)
 
 -- behind the calls of `taker` and of `frames`, from where the found window's id is known
 abbrev after-taker : tie.After-struct-known → tie.After-taker
@@ -39,6 +40,17 @@ at c =
 small-point-requires : tie.Need-small-point-requires
 small-point-requires c κs = search needs
 
+nobody-requires : tie.Need-nobody-requires
+nobody-requires c κs = search needs
+
+returns : tie.Need-returns
+returns c =
+    let s = c .before .before .before in
+    let a = s .args in
+    rw (c .nobody .ensures)
+    (aims-nobody _ (a .s) 5
+    (too-far (a .s) (a .e) (s .pre .0) (a .grab) (a .x) (a .y) (s .pre .1) (failed (c .before .before .small-point .ensures) (c .before .if1 .taken))))
+
 frames-requires : tie.Need-frames-requires
 frames-requires c κs = search needs
 
@@ -50,6 +62,24 @@ taker-requires c κs =
 
 enum-known-hit : tie.Need-enum-known-hit
 enum-known-hit c = search needs
+
+enum-told : tie.Need-enum-told
+enum-told c = search needs
+
+nobody-requires-2 : tie.Need-nobody-requires-2
+nobody-requires-2 c κs = search needs
+
+returns-2 : tie.Need-returns-2
+returns-2 c =
+    let t = c .before .before .before in
+    let f = t .before .before .before in
+    let s = f .before .before .before in
+    let a = s .args in
+    let no =
+    none-found (a .s) (s .pre .0) (f .frames .result) (f .frames .ensures) (a .x) (a .y) (grabOf (a .grab))
+    (grab-known (a .e) (a .s) (a .grab) (a .x) (a .y) (s .pre .0) (s .pre .1)) (sym (ap hitOf (c .before .enum-told .given .1)) ∙ t .taker .ensures) in
+    rw (c .nobody2 .ensures)
+    (aims-nobody _ (a .s) 11 (nowhere (a .s) (a .e) (s .pre .0) (a .grab) (a .x) (a .y) (s .pre .1) (is-small (f .before)) (no .0) (no .1)))
 
 cast-at : tie.Need-cast-at
 cast-at c = search needs
@@ -89,17 +119,8 @@ grab-after-requires c κs =
 to-window-requires : tie.Need-to-window-requires
 to-window-requires c κs = search needs
 
-enum-told : tie.Need-enum-told
-enum-told c = search needs
-
-nobody-requires : tie.Need-nobody-requires
-nobody-requires c κs = search needs
-
-nobody-requires-2 : tie.Need-nobody-requires-2
-nobody-requires-2 c κs = search needs
-
-returns : tie.Need-returns
-returns c =
+returns-3 : tie.Need-returns-3
+returns-3 c =
     let m = c .before .grab-after in
     let p = c .before .before in
     let v = p .before in
@@ -113,34 +134,19 @@ returns c =
     (is-small (f .before)) (p .at-point .result)
     (p .at-point .ensures ∙ (λ i. atPoint (a .e) (u .nearest .ensures i) (v .nearest2 .ensures i))) (m .result) (m .ensures))
 
-returns-2 : tie.Need-returns-2
-returns-2 c =
-    let t = c .before .before .before in
-    let f = t .before .before .before in
-    let s = f .before .before .before in
-    let a = s .args in
-    let no =
-    none-found (a .s) (s .pre .0) (f .frames .result) (f .frames .ensures) (a .x) (a .y) (grabOf (a .grab))
-    (grab-known (a .e) (a .s) (a .grab) (a .x) (a .y) (s .pre .0) (s .pre .1)) (sym (ap hitOf (c .before .enum-told .given .1)) ∙ t .taker .ensures) in
-    rw (c .nobody .ensures)
-    (aims-nobody _ (a .s) 11 (nowhere (a .s) (a .e) (s .pre .0) (a .grab) (a .x) (a .y) (s .pre .1) (is-small (f .before)) (no .0) (no .1)))
-
-returns-3 : tie.Need-returns-3
-returns-3 c =
-    let s = c .before .before .before in
-    let a = s .args in
-    rw (c .nobody2 .ensures)
-    (aims-nobody _ (a .s) 5
-    (too-far (a .s) (a .e) (s .pre .0) (a .grab) (a .x) (a .y) (s .pre .1) (sym (c .before .before .small-point .ensures) ∙ c .before .if1 .left)))
-
 pub aim-pointer-spec : {M : Type 1} → statement M
 aim-pointer-spec =
     tie.close
     (tie.spec
     small-point-requires
+    nobody-requires
+    returns
     frames-requires
     taker-requires
     enum-known-hit
+    enum-told
+    nobody-requires-2
+    returns-2
     cast-at
     mul-area
     array-copy-out-area
@@ -153,9 +159,4 @@ aim-pointer-spec =
     at-point-requires
     grab-after-requires
     to-window-requires
-    enum-told
-    nobody-requires
-    nobody-requires-2
-    returns
-    returns-2
     returns-3)
