@@ -6,6 +6,7 @@ pub mod Dimmed
 pub mod One
 pub mod Places
 pub mod Frames
+pub mod Framed
 pub mod Above
 pub mod Created
 pub mod Shown

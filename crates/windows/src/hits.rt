@@ -14,17 +14,17 @@ impl Session {
         requires { ⌜ Given self ⌝ }
         ensures { λ r. ⌜ Hits (group self) (now (points .entry)) (now (answers .entry)) r (now (answers .exit)) ⌝ }
     {
-        if points::all_small(points) {
-            if points::fit(points.len(), answers.len()) {
-                let frames = frames(self);
-                let areas = frames.areas;
-                let order = self.shared.order;
-                let n = points.len() / 2;
-                topmost::hits::hits(areas, order, self.shared.shown, points, answers, n);
-                return OK;
-            }
+        if !points::all_small(points) {
+            return TOO_LARGE;
+        }
+        if !points::fit(points.len(), answers.len()) {
             return POINTS;
         }
-        TOO_LARGE
+        let frames = frames(self);
+        let areas = frames.areas;
+        let order = self.shared.order;
+        let n = points.len() / 2;
+        topmost::hits::hits(areas, order, self.shared.shown, points, answers, n);
+        OK
     }
 }

@@ -2,11 +2,14 @@
 ghost use Rattle.windows.specs.View.{group, Given, Looks};
 use crate::Session;
 use crate::inner::frames::frames;
+use crate::inner::one::slot;
 use geom::inner::answers::STORE_LENGTH;
 use geom::inner::answers::UNKNOWN_ID;
+use geom::inner::lent::store_fits;
 use look::Look;
 use look::look_window;
 use window::ids::WinId;
+use window::ids::in_use;
 
 impl Session {
     // What a target of tw by th pixels shows of a window, shown or hidden: its pixel (i,j) is the window's at (x + i / factor, y + j / factor), or 0.
@@ -22,22 +25,18 @@ impl Session {
         requires { ⌜ Given self ⌝ }
         ensures { λ r. ⌜ Looks (group self) (id .0) look (now (store .entry)) (now (target .entry)) tw th r (now (target .exit)) ⌝ }
     {
-        let mut answer: u32 = STORE_LENGTH;
-        let c = self.shared.c as usize;
-        if store.len() == 16 * c {
-            answer = UNKNOWN_ID;
-            let k = id.0;
-            if k < 16 {
-                let at = k as usize;
-                let frames = frames(self);
-                let used = frames.used;
-                if used[at] {
-                    let areas = frames.areas;
-                    let area = areas[at];
-                    return look_window(look, area.w, area.h, store, at * c, target, tw, th);
-                }
-            }
+        if !store_fits(store.len(), self.shared.c) {
+            return STORE_LENGTH;
         }
-        answer
+        let frames = frames(self);
+        let used = frames.used;
+        let at = slot(id);
+        if !in_use(id, used[at]) {
+            return UNKNOWN_ID;
+        }
+        let areas = frames.areas;
+        let area = areas[at];
+        let base = at * self.shared.c as usize;
+        look_window(look, area.w, area.h, store, base, target, tw, th)
     }
 }

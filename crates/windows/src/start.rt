@@ -12,6 +12,7 @@ use crate::Shared;
 use crate::inner::frames::frames;
 use crate::inner::one;
 use crate::inner::one::free_slot;
+use crate::inner::one::slot;
 use display::Displays;
 use display::Located;
 use due::Due;
@@ -26,6 +27,7 @@ use geom::inner::small::small_point;
 use topmost::release::NOBODY;
 use window::Window;
 use window::ids::WinId;
+use window::ids::in_use;
 
 impl Session {
     // A session with no window, for any C.
@@ -60,13 +62,7 @@ impl Session {
     pub fn start(c: u32) -> Done
         ensures { λ r. ⌜ Starts c r ⌝ }
     {
-        if c < 1 {
-            return Done {
-                session: Session::fresh(1),
-                answer: CAPACITY,
-            };
-        }
-        if 1048576 < c {
+        if c < 1 || 1048576 < c {
             return Done {
                 session: Session::fresh(1),
                 answer: CAPACITY,
@@ -110,38 +106,38 @@ impl Session {
         requires { ⌜ Given self ⌝ }
         ensures { λ r. ⌜ r ≡ placed (group self) (id .0) ⌝ }
     {
-        let mut answer: u32 = UNKNOWN_ID;
-        let mut rect = Rect::new(0, 0, 0, 0);
         let frames = frames(self);
         let used = frames.used;
-        let areas = frames.areas;
-        let k = id.0;
-        if k < 16 {
-            let at = k as usize;
-            if used[at] {
-                let area = areas[at];
-                rect = area.rect();
-                answer = OK;
-            }
+        let at = slot(id);
+        if !in_use(id, used[at]) {
+            return Placed {
+                answer: UNKNOWN_ID,
+                rect: Rect::new(0, 0, 0, 0),
+            };
         }
-        Placed { answer, rect }
+        let areas = frames.areas;
+        let area = areas[at];
+        Placed {
+            answer: OK,
+            rect: area.rect(),
+        }
     }
 
     pub fn get_display_for_pos(self, pos: Pos) -> ForPos
         requires { ⌜ Given self ⌝ }
         ensures { λ r. ⌜ Locates (group self) (pos .x) (pos .y) r ⌝ }
     {
-        if small_point(pos.x, pos.y) {
-            let displays = self.displays;
-            let located = displays.get_display_for_pos(pos);
+        if !small_point(pos.x, pos.y) {
             return ForPos {
-                answer: OK,
-                located,
+                answer: TOO_LARGE,
+                located: Located::Closest(Rect::new(0, 0, 0, 0)),
             };
         }
+        let displays = self.displays;
+        let located = displays.get_display_for_pos(pos);
         ForPos {
-            answer: TOO_LARGE,
-            located: Located::Closest(Rect::new(0, 0, 0, 0)),
+            answer: OK,
+            located,
         }
     }
 }

@@ -36,25 +36,26 @@ module _ (s : Session) (id : ℕ) (l : Look) (store target : List ℕ) (tw th : 
       win-is : win (group s) id .at ≡ rectOf a
       win-is = ap (λ (v : Win). v .at) (win-at s id u) ∙ ap rectOf (sym frame)
 
-      -- its pixels lie in the store
-      pub lies : Given s → id < 16 → (a .w ≤ 32767) × (a .h ≤ 32767) × (id * s .shared .c + a .w * a .h ≤ length store)
+      -- as many pixels as it has lie in the store, at every place
+      pub lies : Given s → (at : ℕ) → at < 16 → (a .w ≤ 32767) × (a .h ≤ 32767) × (at * s .shared .c + a .w * a .h ≤ length store)
       unfolding group
-      lies h low =
+      lies h at low =
           let ok = given-ok s h .fits id in
           let w : a .w ≤ 32767 = subst (λ (r : Rect). width r ≤ 32767) win-is (ok .width≤) in
           let t : a .h ≤ 32767 = subst (λ (r : Rect). height r ≤ 32767) win-is (ok .height≤) in
           let c : a .w * a .h ≤ s .shared .c = subst (λ (r : Rect). width r * height r ≤ s .shared .c) win-is (ok .area≤) in
-          let m : suc id * s .shared .c ≤ 16 * s .shared .c = mul-le-mul-right (s .shared .c) low in
+          let m : suc at * s .shared .c ≤ 16 * s .shared .c = mul-le-mul-right (s .shared .c) low in
           (w, t, omega arith)
 
       sizes : sizesOf (group s) id tw th ≡ record { w = a .w; h = a .h; tw = tw; th = th }
       sizes = ap (λ (r : Rect). record { w = width r; h = height r; tw = tw; th = th }) win-is
 
-      pub looked : (n : ℕ) (after : List ℕ)
-          → Steps.Looks l (record { w = a .w; h = a .h; tw = tw; th = th }) (id * s .shared .c) store target n after
-          → Looks (group s) id l store target tw th n after
+      abbrev Looked : ℕ → ℕ → List ℕ → Type 0
+      Looked at n after = Steps.Looks l (record { w = a .w; h = a .h; tw = tw; th = th }) (at * s .shared .c) store target n after
+
+      looked-there : (n : ℕ) (after : List ℕ) → Looked id n after → Looks (group s) id l store target tw th n after
       unfolding look group
-      looked n after r =
+      looked-there n after r =
           let answer : n ≡ look (group s) id l store target tw th .answer = r .answer ∙ sym (rw (is-whole s store e, used-at s id ∙ u) refl) in
           record {
             answer = answer;
@@ -62,3 +63,6 @@ module _ (s : Session) (id : ℕ) (l : Look) (store target : List ℕ) (tw th : 
                 ∙ ap (λ (k : ℕ). cond (eqb k 0) (view l (record { w = a .w; h = a .h; tw = tw; th = th }) (id * s .shared .c) store) target) answer
                 ∙ ap (λ (z : Sizes). cond (eqb (look (group s) id l store target tw th .answer) 0) (view l z (id * s .shared .c) store) target) (sym sizes);
           }
+
+      pub looked : (at : ℕ) → at ≡ id → (n : ℕ) (after : List ℕ) → Looked at n after → Looks (group s) id l store target tw th n after
+      looked at same n after r = looked-there n after (subst (λ (j : ℕ). Looked j n after) same r)

@@ -1,6 +1,6 @@
 -- Question 5; then the displays are asked.
 use Prim.Native.Nat.{ℕ}
-use mathlib.Core.Path.{_≡_, refl, sym, ap, _∙_}
+use mathlib.Core.Path.{_≡_, refl, ap, _∙_}
 use mathlib.Core.Bool.{true, false, _&&_}
 use borrow.Author.Tests.{leb-true}
 use Rattle.geom.specs.declared.Rect.{Rect}
@@ -14,6 +14,7 @@ use Rattle.display.specs.declared.Located.the-variants.{Closest}
 use Rattle.display.specs.Represents.{regions, locatedOf}
 use Rattle.windows.specs.declared.Session.{Session}
 use Rattle.windows.specs.View.{group, Locates}
+use Rattle.windows.proofs.laws.Asked.{passed, failed}
 use borrow.Author.Needs.{needs}
 use Rattle.windows.proofs.Session.get_display_for_pos.Statement.{statement}
 use Rattle.windows.proofs.Session.get_display_for_pos.Tie as tie
@@ -31,29 +32,29 @@ module _ (s : Session) (x y : ℕ) where
 small-point-requires : tie.Need-small-point-requires
 small-point-requires c κs = search needs
 
-get-display-for-pos-requires : tie.Need-get-display-for-pos-requires
-get-display-for-pos-requires c κs =
-    let s = c .before .before .before in
-    let e = sym (c .before .before .small-point .ensures) ∙ c .before .if1 .taken in
-    let p = s .args .pos in
-    (s .pre .rep .displays, leb-true (p .x) 32767 (fst (small (p .x)) (small (p .y)) e), leb-true (p .y) 32767 (snd (small (p .x)) (small (p .y)) e))
-
-returns : tie.Need-returns
-returns c =
-    let t = c .before .before in
-    let a = t .before .before .args in
-    near (a .self) (a .pos .x) (a .pos .y) (sym (t .before .small-point .ensures) ∙ t .if1 .taken) _ (c .get-display-for-pos .ensures)
-
 new-requires : tie.Need-new-requires
 new-requires c κs = search needs
 
-returns-2 : tie.Need-returns-2
-returns-2 c =
+returns : tie.Need-returns
+returns c =
     let t = c .before in
     let a = t .before .before .args in
-    far (a .self) (a .pos .x) (a .pos .y) (sym (t .before .small-point .ensures) ∙ t .if1 .left) _ (c .new .ensures)
+    far (a .self) (a .pos .x) (a .pos .y) (failed (t .before .small-point .ensures) (t .if1 .taken)) _ (c .new .ensures)
+
+get-display-for-pos-requires : tie.Need-get-display-for-pos-requires
+get-display-for-pos-requires c κs =
+    let s = c .before .before .before in
+    let e = passed (c .before .before .small-point .ensures) (c .before .if1 .left) in
+    let p = s .args .pos in
+    (s .pre .rep .displays, leb-true (p .x) 32767 (fst (small (p .x)) (small (p .y)) e), leb-true (p .y) 32767 (snd (small (p .x)) (small (p .y)) e))
+
+returns-2 : tie.Need-returns-2
+returns-2 c =
+    let t = c .before .before in
+    let a = t .before .before .args in
+    near (a .self) (a .pos .x) (a .pos .y) (passed (t .before .small-point .ensures) (t .if1 .left)) _ (c .get-display-for-pos .ensures)
 
 pub get-display-for-pos-spec : {M : Type 1} → statement M
 get-display-for-pos-spec =
     tie.close
-    (tie.spec small-point-requires get-display-for-pos-requires returns new-requires returns-2)
+    (tie.spec small-point-requires new-requires returns get-display-for-pos-requires returns-2)

@@ -3,7 +3,8 @@ use Prim.Native.Nat.{ℕ}
 use mathlib.Core.Path.{_≡_, _∙_}
 use mathlib.Core.Bool.{and-false}
 use mathlib.Core.List.{[]}
-use borrow.Author.Tests.{lt-leb, le-leb}
+use mathlib.Core.Logic.{⊎-elim}
+use borrow.Author.Tests.{ltb-true, ltb-false, lt-leb, le-leb}
 use Rattle.rules.specs.Group as Rule
 use Rattle.rules.specs.Calls.{run, after}
 use Rattle.windows.specs.declared.Session.{Session}
@@ -22,26 +23,21 @@ fresh-requires : tie.Need-fresh-requires
 fresh-requires c κs = search needs
 
 returns : tie.Need-returns
-returns c = starts _ 1 2 _ (c .fresh .ensures) (rw (lt-leb 1 _ (c .before .if1 .taken))) (rw (lt-leb 1 _ (c .before .if1 .taken)))
+returns c =
+    let n = c .before .before .args .c in
+    ⊎-elim (λ q. let e = lt-leb 1 _ (q .taken) in starts _ 1 2 _ (c .fresh .ensures) (rw e) (rw e))
+    (λ q. let e = lt-leb n 1048576 (ltb-true 1048576 n (q .1 .taken)) in starts _ 1 2 _ (c .fresh .ensures) (rw (e, and-false)) (rw (e, and-false)))
+    (c .before .if1 .came)
 
 fresh-requires-2 : tie.Need-fresh-requires-2
 fresh-requires-2 c κs = search needs
 
 returns-2 : tie.Need-returns-2
 returns-2 c =
-    let e = lt-leb _ 1048576 (c .before .if2 .taken) in
-    starts _ 1 2 _ (c .fresh2 .ensures) (rw (e, and-false)) (rw (e, and-false))
-
-fresh-requires-3 : tie.Need-fresh-requires-3
-fresh-requires-3 c κs = search needs
-
-returns-3 : tie.Need-returns-3
-returns-3 c =
     let d = le-leb 1 _ (c .before .before .if1 .left) in
-    let e = le-leb _ 1048576 (c .before .if2 .left) in
-    starts _ _ 0 _ (c .fresh3 .ensures) (rw (d, e)) (rw (d, e))
+    let n = c .before .before .before .args .c in
+    let e = le-leb n 1048576 (ltb-false 1048576 n (c .before .if2 .left)) in
+    starts _ _ 0 _ (c .fresh2 .ensures) (rw (d, e)) (rw (d, e))
 
 pub start-spec : {M : Type 1} → statement M
-start-spec =
-    tie.close
-    (tie.spec fresh-requires returns fresh-requires-2 returns-2 fresh-requires-3 returns-3)
+start-spec = tie.close (tie.spec fresh-requires returns fresh-requires-2 returns-2)
