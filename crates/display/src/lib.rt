@@ -64,6 +64,13 @@ fn on_screen(r: Rect) -> bool
     bottom(r) <= MOST
 }
 
+// A refused call.
+fn refused(displays: Displays, answer: u32) -> Added
+    ensures { λ r. ⌜ r ≡ record { displays = displays; answer = answer } ⌝ }
+{
+    Added { displays, answer }
+}
+
 impl Displays {
     pub fn none() -> Displays
         ensures { λ d. ⌜ (regions d ≡ []) × RepDisplays d ⌝ }
@@ -83,29 +90,23 @@ impl Displays {
         requires { ⌜ RepDisplays self ⌝ }
         ensures { λ r. ⌜ Adds self region r ⌝ }
     {
-        let mut answer: u32 = TOO_LARGE;
-        if is_small(region) {
-            answer = DISPLAY_SIZE;
-            if on_screen(region) {
-                answer = TOO_MANY_DISPLAYS;
-                let n = self.len;
-                if n < 8 {
-                    answer = OK;
-                    let last = Rect16::new(
-                        region.pos.x,
-                        region.pos.y,
-                        region.dims.w,
-                        region.dims.h,
-                    );
-                    let at = n as usize;
-                    self.areas[at] = last;
-                    self.len = n + 1;
-                }
-            }
+        if !is_small(region) {
+            return refused(self, TOO_LARGE);
         }
+        if !on_screen(region) {
+            return refused(self, DISPLAY_SIZE);
+        }
+        let n = self.len;
+        if 8 <= n {
+            return refused(self, TOO_MANY_DISPLAYS);
+        }
+        let last = Rect16::new(region.pos.x, region.pos.y, region.dims.w, region.dims.h);
+        let at = n as usize;
+        self.areas[at] = last;
+        self.len = n + 1;
         Added {
             displays: self,
-            answer,
+            answer: OK,
         }
     }
 
