@@ -1,6 +1,7 @@
 // The displays: rectangles of the one lent screen, in order of adding. Document 02, N2. Translated from video/mod.rs.
 //
-// The functions here are called by our own crates. Each `requires` is part of what a session keeps of its displays (specs/Represents.antt).
+// The functions here are called by our own crates. Each `requires` is part of what a session keeps of its displays
+// (specs/Represents.antt).
 ghost use mathlib.Core.Path.{_≡_};
 ghost use mathlib.Core.List.{[]};
 ghost use Prim.Native.Nat.{_≤_};

@@ -8,8 +8,8 @@ use geom::inner::answers::TOO_LARGE;
 use topmost::points;
 
 impl Session {
-    // For each point, x and y in turn, three numbers: the window that a press there would go to and the point in it, or 16, 0, 0. Nothing is
-    // delivered; the rest of the list is untouched.
+    // For each point, x and y in turn, three numbers: the window that a press there would go to and the point in it, or
+    // 16, 0, 0. Nothing is delivered; the rest of the list is untouched.
     pub fn hits(self, points: &[u32], answers: &mut [u32]) -> u32
         requires { ⌜ Given self ⌝ }
         ensures { λ r. ⌜ Hits (group self) (now (points .entry)) (now (answers .entry)) r (now (answers .exit)) ⌝ }

@@ -12,7 +12,8 @@ use window::ids::WinId;
 use window::ids::in_use;
 
 impl Session {
-    // What a target of tw by th pixels shows of a window, shown or hidden: its pixel (i,j) is the window's at (x + i / factor, y + j / factor), or 0.
+    // What a target of tw by th pixels shows of a window, shown or hidden: its pixel (i,j) is the window's at
+    // (x + i / factor, y + j / factor), or 0.
     pub fn look(
         self,
         id: WinId,

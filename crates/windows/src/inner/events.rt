@@ -1,5 +1,5 @@
-// The calls route and pop: document 01, "Events", and document 02, N1. Translated from WindowGroup::handle_input, get_win_at_pos and, of
-// window.rs, WindowInput.
+// The calls route and pop: document 01, "Events", and document 02, N1. Translated from WindowGroup::handle_input,
+// get_win_at_pos and, of window.rs, WindowInput.
 ghost use mathlib.Core.Path.{_≡_};
 ghost use mathlib.Core.Bool.{true};
 ghost use mathlib.Core.Option.{some};
@@ -36,8 +36,8 @@ use window::slots::Slot;
 use window::slots::event_of;
 use window::slots::slot_of;
 
-// Where an event goes: to no window, with this answer, to the focus, or to a point of the screen: there to window `grab`, if it is one and has
-// pixels, else to the topmost window.
+// Where an event goes: to no window, with this answer, to the focus, or to a point of the screen: there to window
+// `grab`, if it is one and has pixels, else to the topmost window.
 pub enum Target {
     Nobody { answer: u32 },
     Focus,
@@ -241,7 +241,8 @@ fn aim_key(s: Session, e: Event) -> Aim
     to_window(focus.0 as usize, e, s.shared.grab)
 }
 
-// At the window that takes it, at the pixel nearest to the point: in the topmost window that contains the point, the point itself.
+// At the window that takes it, at the pixel nearest to the point: in the topmost window that contains the point, the
+// point itself.
 fn aim_pointer(s: Session, e: Event, grab: WinId, x: u32, y: u32) -> Aim
     requires { ⌜ Given s × (targetOf e (s .shared .grab) ≡ Target.Point grab x y) ⌝ }
     ensures { λ r. ⌜ Aims (Meets (Call.Route e) s) s r ⌝ }

@@ -1,5 +1,5 @@
-// The calls that touch one window, as functions of that window and of what the windows share. A session by value and a session behind a
-// pointer both stand on them. A refused call hands back the window and what is shared as it got them.
+// The calls that touch one window, as functions of that window and of what the windows share. A session by value and a
+// session behind a pointer both stand on them. A refused call hands back the window and what is shared as it got them.
 ghost use mathlib.Core.Path.{_≡_};
 ghost use mathlib.Core.Bool.{_&&_};
 ghost use mathlib.Core.Option.{some};
@@ -45,7 +45,8 @@ use window::ids::Place;
 use window::ids::WinId;
 use window::ids::in_use;
 
-// Where the window of an id lies: at its number. For a number that no window has it is 0, and the call is refused, whatever lies there.
+// Where the window of an id lies: at its number. For a number that no window has it is 0, and the call is refused,
+// whatever lies there.
 pub fn slot(id: WinId) -> usize
     ensures { λ at. ⌜ At (id .0) at ⌝ }
 {
@@ -315,17 +316,17 @@ fn hide_shown(mut shared: Shared, id: WinId, p: Place) -> Shared
     shared.owing()
 }
 
-// The same of a window that is shown or not: what is shared stays as it is if the window has no place.
+// What is shared, without the window; as it is if the window has no place in the render order.
 fn hidden(shared: Shared, id: WinId) -> Shared
     requires { ⌜ SharedBy shared ⌝ }
     ensures { λ r. ⌜ Hides (id .0) shared r ⌝ }
 {
     let order = shared.order;
     let idx = get_render_idx(order, shared.shown, id);
-    if let RenderIdx::At(p) = idx {
-        return hide_shown(shared, id, p);
-    }
-    shared
+    let RenderIdx::At(p) = idx else {
+        return shared;
+    };
+    hide_shown(shared, id, p)
 }
 
 // Removed from the render order; nothing if hidden.

@@ -20,26 +20,26 @@ get-render-idx-requires c κs =
 enum-known-idx : tie.Need-enum-known-idx
 enum-known-idx c = search needs
 
-hide-shown-requires : tie.Need-hide-shown-requires
-hide-shown-requires c κs =
-    let i = c .before in
-    let g = i .before .before in
-    (g .before .before .pre, sym (ap idxOf (i .idx .given .1)) ∙ g .get-render-idx .ensures)
-
-returns : tie.Need-returns
-returns c = search needs
-
 enum-told : tie.Need-enum-told
 enum-told c = search needs
 
-returns-2 : tie.Need-returns-2
-returns-2 c s h same =
+returns : tie.Need-returns
+returns c s h same =
     let g = c .before .before in
     let id = g .before .before .args .id .0 in
     let nowhere = sym (ap idxOf (c .enum-told .given .1)) ∙ g .get-render-idx .ensures in
     subst (λ (k : Shared). (group (sharing k s) ≡ Rule.hidden id (group s)) × Rep (sharing k s)) same
     (hidden-already s h id (same-place _ _ same nowhere))
 
+hide-shown-requires : tie.Need-hide-shown-requires
+hide-shown-requires c κs =
+    let i = c .before in
+    let g = i .before .before in
+    (g .before .before .pre, sym (ap idxOf (i .idx .given .1)) ∙ g .get-render-idx .ensures)
+
+returns-2 : tie.Need-returns-2
+returns-2 c = search needs
+
 pub hidden-spec : {M : Type 1} → statement M
 hidden-spec =
-    tie.close (tie.spec get-render-idx-requires enum-known-idx hide-shown-requires returns enum-told returns-2)
+    tie.close (tie.spec get-render-idx-requires enum-known-idx enum-told returns hide-shown-requires returns-2)
