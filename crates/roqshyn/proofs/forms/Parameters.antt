@@ -37,8 +37,6 @@ use Rattle.windows.proofs.Changed as Changed
 use Rattle.windows.proofs.Changed.Laws as Changed′
 use Rattle.windows.proofs.FreeSlot as FreeSlot
 use Rattle.windows.proofs.FreeSlot.Laws as FreeSlot′
-use Rattle.geom.proofs.Listing as Listing
-use Rattle.geom.proofs.Listing.Laws as Listing′
 use Rattle.windows.proofs.InView as InView
 use Rattle.windows.proofs.InView.Laws as InView′
 use Rattle.windows.proofs.Placed as Placed
@@ -112,9 +110,6 @@ altered = ofStruct Altered.the-type Altered′.the-laws Altered′.the-plain Alt
 
 abbrev pub listing : Plain
 listing = ofStruct Listing.the-type Listing′.the-laws Listing′.the-plain Listing′.mir refl
-
-abbrev pub count : Plain
-count = ofStruct Listing.the-type Listing′.the-laws Listing′.the-plain Listing′.mir refl
 
 abbrev pub inView : Plain
 inView = ofStruct InView.the-type InView′.the-laws InView′.the-plain InView′.mir refl
@@ -250,9 +245,9 @@ turn = record {
   owed = λ d v is. let parts = Laws.owed Turn.the-type Turn′.the-laws d (v ∷ []) is in (parts .0, parts .1 .0);
 }
 
--- the place of a window that is maximised, and what it takes
-abbrev pub taking : Pair index takes
-taking = record {
+-- the place of a window that is maximised, and how it changes
+abbrev pub maximiseAt : Pair index maximisePlan
+maximiseAt = record {
   type = MaximiseAt.the-row;
   name = MaximiseAt.struct .name;
   fst = λ d. d .at;

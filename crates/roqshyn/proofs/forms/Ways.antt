@@ -136,7 +136,7 @@ sharedStruct = record {
   vals = λ k. let L = Shared′.the-laws in let a = Shared.the-type .to k in
       vcons (L .0 .val (a .0)) (vcons (L .1 .0 .val (a .1 .0)) (vcons (number .val (k .c)) (vcons (L .1 .1 .1 .0 .val
       (a .1 .1 .1 .0))
-      (vcons (L .1 .1 .1 .1 .0 .val (a .1 .1 .1 .1 .0)) (vcons (winId .val (k .held)) (vcons
+      (vcons (L .1 .1 .1 .1 .0 .val (a .1 .1 .1 .1 .0)) (vcons (winId .val (k .grab)) (vcons
       (L .1 .1 .1 .1 .1 .1 .0 .val (a .1 .1 .1 .1 .1 .1 .0))
       (vcons (L .1 .1 .1 .1 .1 .1 .1 .0 .val (a .1 .1 .1 .1 .1 .1 .1 .0)) (vcons (L .1 .1 .1 .1 .1 .1 .1 .1 .0 .val
       (a .1 .1 .1 .1 .1 .1 .1 .1 .0)) vnil))))))));
@@ -151,20 +151,20 @@ with-c x k = record {
   c = x;
   focus = k .focus;
   dimmed = k .dimmed;
-  held = k .held;
+  grab = k .grab;
   due = k .due;
   layers = k .layers;
   maximised = k .maximised;
 }
 
-abbrev with-held : Of winId → Of shared → Of shared
-with-held x k = record {
+abbrev with-grab : Of winId → Of shared → Of shared
+with-grab x k = record {
   order = k .order;
   shown = k .shown;
   c = k .c;
   focus = k .focus;
   dimmed = k .dimmed;
-  held = x;
+  grab = x;
   due = k .due;
   layers = k .layers;
   maximised = k .maximised;
@@ -187,8 +187,8 @@ module _ (k : Of shared) (is : Ok shared k) where
     ),
   )
 
-  pub is-with-held : (x : Of winId) → Ok winId x → Ok shared (with-held x k)
-  is-with-held x x-is = Laws.owes Shared.the-type Shared′.the-laws (with-held x k) (
+  pub is-with-grab : (x : Of winId) → Ok winId x → Ok shared (with-grab x k)
+  is-with-grab x x-is = Laws.owes Shared.the-type Shared′.the-laws (with-grab x k) (
     shares .0,
     (
       shares .1 .0,
@@ -206,10 +206,10 @@ abbrev pub its-c : Way shared number
 its-c = fieldWay shared number sharedStruct 2 72 refl (λ k. k .c) with-c (λ k. refl) (λ k x. refl)
     (λ k is. shares k is .1 .1 .0) (λ k x is x-is. is-with-c k is x x-is)
 
-abbrev pub its-held : Way shared winId
-its-held = fieldWay shared winId sharedStruct 5 84 refl (λ k. k .held) with-held (λ k. refl) (λ k x. refl)
+abbrev pub its-grab : Way shared winId
+its-grab = fieldWay shared winId sharedStruct 5 84 refl (λ k. k .grab) with-grab (λ k. refl) (λ k x. refl)
     (λ k is. shares k is .1 .1 .1 .1 .1 .0)
-    (λ k x is x-is. is-with-held k is x x-is)
+    (λ k x is x-is. is-with-grab k is x x-is)
 
 -- What the functions of fields hand back -----------------------------------------------------------------------------
 
