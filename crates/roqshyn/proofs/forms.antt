@@ -1,4 +1,4 @@
--- A call that takes the session behind a pointer: one walk of MIR for each shape, over any plain types. A call's own
+-- A call with the session behind a pointer: one run through MIR for each shape, over any plain types. A call's own
 -- proof names the shape, the types and the promise. `Place`, `Seek` and `Turn` change one window and what the windows
 -- share in place; `Fields`, `Front` and `Back` touch single fields of them; `Field` changes one other field alone.
 -- `Turns` goes through windows in a loop and puts each back whole; `Each` does so and touches two places of each

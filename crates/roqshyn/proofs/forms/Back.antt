@@ -66,7 +66,7 @@ module _ (E K O G B F N X P R : Plain) (L : Slots E K O) (c : Way E G) (h l : Wa
   abbrev first : List Local
   first = call.result S R 0 all-args ∷ call.pointer S R 0 all-args ∷ local (P .ty) valueLocal ∷ []
 
-  -- the address of an element takes three of them, or two where the index is in one that is used again
+  -- the address of an element needs three of them, or two where the index is in one that is used again
   abbrev address : List Local → List Local
   address ls = local (tyInt w64) valueLocal ∷ local tyPtr valueLocal ∷ local tyPtr valueLocal ∷ ls
 
@@ -176,8 +176,8 @@ module _ (E K O G B F N X P R : Plain) (L : Slots E K O) (c : Way E G) (h l : Wa
       module _ (C : Calls 𝓤 H) (Λ : Loops 𝓤 H) (fm : FmC 𝓤 H (W .laws) C) (f back g : Name) (place-known : Triple 𝓤
           (C f) (Find 𝓤 H A))
           (back-known : Triple 𝓤 (C back) (Back 𝓤 H A)) (known : Triple 𝓤 (C g) (Value 𝓤 H A)) where
-        walk : call.Walk S R 0 all-args Ok Q 𝓤 H A κs qs a (WpFn 𝓤 H C Λ (code f back g))
-        walk are ok =
+        run : call.Runs S R 0 all-args Ok Q 𝓤 H A κs qs a (WpFn 𝓤 H C Λ (code f back g))
+        run are ok =
             -- [obs; the borrow; the token; what the argument owns; the other tokens]
             qed W (call.borrow S R 0 all-args Ok Q 𝓤 H A κs qs a s others) ∵
             enter ! C Λ (code f back g) (vptr b o ∷ P .val p ∷ []) _ $
@@ -337,7 +337,7 @@ module _ (E K O G B F N X P R : Plain) (L : Slots E K O) (c : Way E G) (h l : Wa
     meets 𝓤 H 𝓜 𝓖 𝓡 env f r is met back r′ is′ met′ g r″ is″ met″ =
         let W = givenOf 𝓤 H 𝓜 𝓖 in
         let 𝓣 = tablesOf 𝓤 H 𝓜 (tables 𝓤 H 𝓜 𝓡 env) in
-        call.meets S R 0 all-args Ok Q 𝓤 H (𝓖 .A) W (WpFn 𝓤 H (𝓣 .C) (𝓣 .Λ) (code f back g)) (λ κs qs a. walk 𝓤 H
+        call.meets S R 0 all-args Ok Q 𝓤 H (𝓖 .A) W (WpFn 𝓤 H (𝓣 .C) (𝓣 .Λ) (code f back g)) (λ κs qs a. run 𝓤 H
         (𝓖 .A) W κs qs a (𝓣 .C) (𝓣 .Λ)
         (fmOf 𝓤 H (W .laws) 𝓣) f back g (cited 𝓤 H (Find 𝓤 H (𝓖 .A)) 𝓜 𝓡 env f r is met)
         (cited 𝓤 H (Back 𝓤 H (𝓖 .A)) 𝓜 𝓡 env back r′ is′ met′) (cited 𝓤 H (Value 𝓤 H (𝓖 .A)) 𝓜 𝓡 env g r″ is″ met″))

@@ -614,8 +614,8 @@ module _ (E K O J X R A B D U P₁ P₂ P₃ : Plain) (L : Slots E K O) (Y : Qua
       module _ (𝓣 : Tables 𝓤 H) (fm : FmC 𝓤 H (W .laws) (𝓣 .C)) (f g h k : Name) (plan-known : Triple 𝓤 (𝓣 .C f) (Planning 𝓤 H At))
           (place-known : Triple 𝓤 (𝓣 .C g) (Placing 𝓤 H At)) (turn-known : Triple 𝓤 (𝓣 .C h) (Turning 𝓤 H At))
           (paid-known : Triple 𝓤 (𝓣 .C k) (Paying 𝓤 H At)) where
-        walk : call.Walk S R 2 ps Ok Q 𝓤 H At κs qs a (WpFn 𝓤 H (𝓣 .C) (𝓣 .Λ) (code f g h k))
-        walk are ok =
+        run : call.Runs S R 2 ps Ok Q 𝓤 H At κs qs a (WpFn 𝓤 H (𝓣 .C) (𝓣 .Λ) (code f g h k))
+        run are ok =
             -- [obs; the borrow; the token; what the arguments own; the other tokens]
             let store-room = are .1 .1 .1 .1 .0 .0 .1 in
             let screen-room = are .1 .1 .1 .1 .1 .0 .0 .1 in
@@ -666,6 +666,6 @@ module _ (E K O J X R A B D U P₁ P₂ P₃ : Plain) (L : Slots E K O) (Y : Qua
     meets 𝓤 H 𝓜 𝓖 𝓡 env f r is met g r′ is′ met′ h r″ is″ met″ k r‴ is‴ met‴ =
         let W = givenOf 𝓤 H 𝓜 𝓖 in
         let 𝓣 = tablesOf 𝓤 H 𝓜 (tables 𝓤 H 𝓜 𝓡 env) in
-        call.meets S R 2 ps Ok Q 𝓤 H (𝓖 .A) W (WpFn 𝓤 H (𝓣 .C) (𝓣 .Λ) (code f g h k)) (λ κs qs a. walk 𝓤 H (𝓖 .A) W κs qs a 𝓣
+        call.meets S R 2 ps Ok Q 𝓤 H (𝓖 .A) W (WpFn 𝓤 H (𝓣 .C) (𝓣 .Λ) (code f g h k)) (λ κs qs a. run 𝓤 H (𝓖 .A) W κs qs a 𝓣
         (fmOf 𝓤 H (W .laws) 𝓣) f g h k (cited 𝓤 H (Planning 𝓤 H (𝓖 .A)) 𝓜 𝓡 env f r is met) (cited 𝓤 H (Placing 𝓤 H (𝓖 .A)) 𝓜 𝓡 env g r′ is′ met′)
         (cited 𝓤 H (Turning 𝓤 H (𝓖 .A)) 𝓜 𝓡 env h r″ is″ met″) (cited 𝓤 H (Paying 𝓤 H (𝓖 .A)) 𝓜 𝓡 env k r‴ is‴ met‴))

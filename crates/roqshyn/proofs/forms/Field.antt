@@ -137,8 +137,8 @@ module _ (E K O F R : Plain) (n : ℕ) (ps : List (Arg n)) (L : Slots E K O) (G 
           has ! F (G .get h) f-is $ fjoin ! $ move ! (1 ∷ 0 ∷ []) $ done !
 
       module _ (C : Calls 𝓤 H) (Λ : Loops 𝓤 H) (fm : FmC 𝓤 H (W .laws) C) (g : Name) (known : Triple 𝓤 (C g) (Value 𝓤 H A)) where
-        walk : call.Walk S R n ps Ok Q 𝓤 H A κs qs a (WpFn 𝓤 H C Λ (code g))
-        walk are ok =
+        run : call.Runs S R n ps Ok Q 𝓤 H A κs qs a (WpFn 𝓤 H C Λ (code g))
+        run are ok =
             -- [obs; the borrow; the token; what the arguments own; the other tokens]
             qed W (call.borrow S R n ps Ok Q 𝓤 H A κs qs a h others) ∵
             enter ! C Λ (code g) (vptr b o ∷ args.vals ps κs (a .1)) _ $
@@ -184,5 +184,5 @@ module _ (E K O F R : Plain) (n : ℕ) (ps : List (Arg n)) (L : Slots E K O) (G 
     meets 𝓤 H 𝓜 𝓖 𝓡 env g r is met =
         let W = givenOf 𝓤 H 𝓜 𝓖 in
         let 𝓣 = tablesOf 𝓤 H 𝓜 (tables 𝓤 H 𝓜 𝓡 env) in
-        call.meets S R n ps Ok Q 𝓤 H (𝓖 .A) W (WpFn 𝓤 H (𝓣 .C) (𝓣 .Λ) (code g)) (λ κs qs a. walk 𝓤 H (𝓖 .A) W κs qs a (𝓣 .C) (𝓣 .Λ)
+        call.meets S R n ps Ok Q 𝓤 H (𝓖 .A) W (WpFn 𝓤 H (𝓣 .C) (𝓣 .Λ) (code g)) (λ κs qs a. run 𝓤 H (𝓖 .A) W κs qs a (𝓣 .C) (𝓣 .Λ)
         (fmOf 𝓤 H (W .laws) 𝓣) g (cited 𝓤 H (Value 𝓤 H (𝓖 .A)) 𝓜 𝓡 env g r is met))

@@ -1,4 +1,4 @@
--- A call that takes the oldest of what an element keeps in a ring, in place: `fn(s: &mut S, p: P) -> R { let at = f(p);
+-- A call that removes the oldest of what an element keeps in a ring, in place: `fn(s: &mut S, p: P) -> R { let at = f(p);
 -- let k = front((*s).items[at].h); let d = g((*s).items[at].u, (*s).items[at].c, (*s).items[at].h, (*s).items[at].l,
 -- (*s).items[at].slots[k], p); let c = d.0; (*s).items[at].c = c; (*s).items[at].h = d.1; (*s).items[at].l = d.2; d.3
 -- }`.
@@ -64,7 +64,7 @@ module _ (E K O U G B F P R : Plain) (L : Slots E K O) (u : Way E U) (c : Way E 
   abbrev first : List Local
   first = call.result S R 0 all-args ∷ call.pointer S R 0 all-args ∷ local (P .ty) valueLocal ∷ []
 
-  -- the address of an element takes three of them, or two where the index is in one that is used again
+  -- the address of an element needs three of them, or two where the index is in one that is used again
   abbrev address : List Local → List Local
   address ls = local (tyInt w64) valueLocal ∷ local tyPtr valueLocal ∷ local tyPtr valueLocal ∷ ls
 
@@ -155,8 +155,8 @@ module _ (E K O U G B F P R : Plain) (L : Slots E K O) (u : Way E U) (c : Way E 
       module _ (C : Calls 𝓤 H) (Λ : Loops 𝓤 H) (fm : FmC 𝓤 H (W .laws) C) (f front g : Name) (place-known : Triple 𝓤
           (C f) (Find P Found 𝓤 H A))
           (front-known : Triple 𝓤 (C front) (Front 𝓤 H A)) (known : Triple 𝓤 (C g) (Value 𝓤 H A)) where
-        walk : call.Walk S R 0 all-args Ok Q 𝓤 H A κs qs a (WpFn 𝓤 H C Λ (code f front g))
-        walk are ok =
+        run : call.Runs S R 0 all-args Ok Q 𝓤 H A κs qs a (WpFn 𝓤 H C Λ (code f front g))
+        run are ok =
             -- [obs; the borrow; the token; what the argument owns; the other tokens]
             qed W (call.borrow S R 0 all-args Ok Q 𝓤 H A κs qs a s others) ∵
             enter ! C Λ (code f front g) (vptr b o ∷ P .val p ∷ []) _ $
@@ -285,7 +285,7 @@ module _ (E K O U G B F P R : Plain) (L : Slots E K O) (u : Way E U) (c : Way E 
     meets 𝓤 H 𝓜 𝓖 𝓡 env f r is met front r′ is′ met′ g r″ is″ met″ =
         let W = givenOf 𝓤 H 𝓜 𝓖 in
         let 𝓣 = tablesOf 𝓤 H 𝓜 (tables 𝓤 H 𝓜 𝓡 env) in
-        call.meets S R 0 all-args Ok Q 𝓤 H (𝓖 .A) W (WpFn 𝓤 H (𝓣 .C) (𝓣 .Λ) (code f front g)) (λ κs qs a. walk 𝓤 H
+        call.meets S R 0 all-args Ok Q 𝓤 H (𝓖 .A) W (WpFn 𝓤 H (𝓣 .C) (𝓣 .Λ) (code f front g)) (λ κs qs a. run 𝓤 H
         (𝓖 .A) W κs qs a (𝓣 .C) (𝓣 .Λ)
         (fmOf 𝓤 H (W .laws) 𝓣) f front g (cited 𝓤 H (Find P Found 𝓤 H (𝓖 .A)) 𝓜 𝓡 env f r is met)
         (cited 𝓤 H (Front 𝓤 H (𝓖 .A)) 𝓜 𝓡 env front r′ is′ met′) (cited 𝓤 H (Value 𝓤 H (𝓖 .A)) 𝓜 𝓡 env g r″ is″ met″))

@@ -1,4 +1,4 @@
--- Steps of a walk that changes one element and the next field in place, or one field alone: they are read, and they are
+-- Steps of a run that changes one element and the next field in place, or one field alone: they are read, and they are
 -- put back.
 use mathlib.Core.Path.{_≡_, refl, sym, ap, subst}
 use Prim.Native.Nat.{ℕ, zero, suc, _*_, _<_, _+_}
@@ -106,7 +106,7 @@ module _ {E K O : Plain} (L : Slots E K O) where
           (F .typed 𝓤 H A W (G .get s) (G .is-get s was)))) $
           rewrite t 2 (cell (F .ty) lₕ) same refl $ next)
 
-      -- the result r of a function of that field is taken apart, and the field is put back
+      -- the result r of a function of that field is split, and the field is put back
       module _ {R : Plain} (D : Pair F R) (r : D .type .Denot) (v : Val) (is : Is (D .type) r (v ∷ [])) where
         pub restore-field : Kg → {d g l₀ lᵈ lg : ℕ} → getD N 0 (noLocal 𝓤 H) ≡ (R .ty, l₀)
             → getD N 1 (noLocal 𝓤 H) ≡ (τ, l₁) → getD N d (noLocal 𝓤 H) ≡ (pairTy D, lᵈ)
@@ -156,7 +156,7 @@ module _ {E K O : Plain} (L : Slots E K O) where
         move t (0 ∷ 1 ∷ 7 ∷ []) $ fetch-field (slots.second L) s was t at₁ atₕ $
         move t (0 ∷ 1 ∷ 3 ∷ 4 ∷ 5 ∷ 6 ∷ 7 ∷ []) $ r)
 
-    -- the result r of the element's function is taken apart, and both are put back
+    -- the result r of the element's function is split, and both are put back
     module _ {R : Plain} (D : Trio E K R) (r : D .type .Denot) (v : Val) (is : Is (D .type) r (v ∷ [])) where
       pub restore : Kg → {d w g l₀ lᵈ lw lg : ℕ} {u : Val} → getD N 0 (noLocal 𝓤 H) ≡ (R .ty, l₀) → getD N 1 (noLocal 𝓤 H) ≡ (τ, l₁)
           → getD N a (noLocal 𝓤 H) ≡ (tyInt w64, lₐ)

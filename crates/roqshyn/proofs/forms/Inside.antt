@@ -15,7 +15,7 @@ use prog.Memory.{size, align, up, fieldAt}
 use prog.Wp.{Heap, Env, Spot}
 use ghost.Atoms.{Atoms}
 use types.Kit.{Given, Item, nth, put as puts}
-use types.Run.{Reads, Writes, Walks, fld}
+use types.Run.{Reads, Writes, Walks as Follows, fld}
 use types.Part.{Part, whole, sub, look-in, store-in}
 use denote.Laws.{Is}
 use Rattle.roqshyn.proofs.forms.Types.{Plain, Of}
@@ -62,9 +62,9 @@ pub record Way (S P : Plain) : Type 2 where
   pub put : Of P → Of S → Of S
   pub is-get : (s : Of S) → Ok S s → Ok P (get s)
   pub is-put : (s : Of S) (x : Of P) → Ok S s → Ok P x → Ok S (put x s)
-  pub walks : {M : Type 1} {𝓤 : URA M} {H : Heap 𝓤} {A : Atoms 𝓤} {K : Type 0} {W : Given 𝓤 H A} → K → {Γ : List
+  pub follows : {M : Type 1} {𝓤 : URA M} {H : Heap 𝓤} {A : Atoms 𝓤} {K : Type 0} {W : Given 𝓤 H A} → K → {Γ : List
       (Item 𝓤)} {N : Env 𝓤 H} {b o : ℕ}
-      {st : List PStep} {sp : Spot 𝓤 H} → Walks K W Γ N (P .ty, b, off o) st sp → Walks K W Γ N (S .ty, b, o)
+      {st : List PStep} {sp : Spot 𝓤 H} → Follows K W Γ N (P .ty, b, off o) st sp → Follows K W Γ N (S .ty, b, o)
       (path st) sp
   pub inside : {M : Type 1} {𝓤 : URA M} {H : Heap 𝓤} {A : Atoms 𝓤} {K : Type 0} {W : Given 𝓤 H A} → K
       → {i : Item 𝓤} {b o : ℕ} {now : Of S → Item 𝓤}
@@ -81,9 +81,9 @@ pub record Row (S E : Plain) : Type 2 where
   pub put : ℕ → Of E → Of S → Of S
   pub is-get : (k : ℕ) → k < n → (s : Of S) → Ok S s → Ok E (get k s)
   pub is-put : (k : ℕ) → k < n → (s : Of S) (x : Of E) → Ok S s → Ok E x → Ok S (put k x s)
-  pub walks : {M : Type 1} {𝓤 : URA M} {H : Heap 𝓤} {A : Atoms 𝓤} {K : Type 0} {W : Given 𝓤 H A} → K → {Γ : List
+  pub follows : {M : Type 1} {𝓤 : URA M} {H : Heap 𝓤} {A : Atoms 𝓤} {K : Type 0} {W : Given 𝓤 H A} → K → {Γ : List
       (Item 𝓤)} {N : Env 𝓤 H} {b o : ℕ}
-      {st : List PStep} {sp : Spot 𝓤 H} → Walks K W Γ N (tyArray (E .ty) n, b, off o) st sp → Walks K W Γ N (
+      {st : List PStep} {sp : Spot 𝓤 H} → Follows K W Γ N (tyArray (E .ty) n, b, off o) st sp → Follows K W Γ N (
         S .ty,
         b,
         o,
@@ -102,7 +102,7 @@ here P = record {
   put = λ y x. y;
   is-get = λ x is. is;
   is-put = λ x y is y-is. y-is;
-  walks = λ t w. w;
+  follows = λ t w. w;
   inside = λ t x is h. h;
 }
 
@@ -115,7 +115,7 @@ then f g = record {
   put = λ x s. f .put (g .put x (f .get s)) s;
   is-get = λ s is. g .is-get (f .get s) (f .is-get s is);
   is-put = λ s x is x-is. f .is-put s (g .put x (f .get s)) is (g .is-put (f .get s) x (f .is-get s is) x-is);
-  walks = λ t w. f .walks t (g .walks t w);
+  follows = λ t w. f .follows t (g .follows t w);
   inside = λ t s is h. g .inside t (f .get s) (f .is-get s is) (f .inside t s is h);
 }
 
@@ -130,7 +130,7 @@ rowOf f g = record {
   put = λ k x s. f .put (g .put k x (f .get s)) s;
   is-get = λ k l s is. g .is-get k l (f .get s) (f .is-get s is);
   is-put = λ k l s x is x-is. f .is-put s (g .put k x (f .get s)) is (g .is-put k l (f .get s) x (f .is-get s is) x-is);
-  walks = λ t w. f .walks t (g .walks t w);
+  follows = λ t w. f .follows t (g .follows t w);
   inside = λ t k l s is h. g .inside t k l (f .get s) (f .is-get s is) (f .inside t s is h);
 }
 
@@ -150,10 +150,10 @@ module _ (S P : Plain) (Z : Struct S) (k d : ℕ) (there : fieldAt zero (Z .tys)
     (is-get : (s : Of S) → Ok S s → Ok P (get s)) (is-put : (s : Of S) (x : Of P) → Ok S s → Ok P x → Ok S
     (put x s)) where
   module _ {M : Type 1} {𝓤 : URA M} {H : Heap 𝓤} {A : Atoms 𝓤} {K : Type 0} {W : Given 𝓤 H A} where
-    pub field-walks : K → {Γ : List (Item 𝓤)} {N : Env 𝓤 H} {b o : ℕ} {st : List PStep} {sp : Spot 𝓤 H} → Walks K W Γ N
+    pub field-follows : K → {Γ : List (Item 𝓤)} {N : Env 𝓤 H} {b o : ℕ} {st : List PStep} {sp : Spot 𝓤 H} → Follows K W Γ N
         (P .ty, b, o + d) st sp
-        → Walks K W Γ N (S .ty, b, o) (field k ∷ st) sp
-    field-walks t {Γ} {N} {b} {o} {st} {sp} w = subst (λ (τ : Ty). Walks K W Γ N (τ, b, o) (field k ∷ st) sp) (sym
+        → Follows K W Γ N (S .ty, b, o) (field k ∷ st) sp
+    field-follows t {Γ} {N} {b} {o} {st} {sp} w = subst (λ (τ : Ty). Follows K W Γ N (τ, b, o) (field k ∷ st) sp) (sym
         (Z .is)) (fld t there w)
 
     pub field-inside : K → {i : Item 𝓤} {b o : ℕ} {now : Of S → Item 𝓤} (s : Of S) → Ok S s → Inside K W i S b o s now
@@ -178,7 +178,7 @@ module _ (S P : Plain) (Z : Struct S) (k d : ℕ) (there : fieldAt zero (Z .tys)
     put = put;
     is-get = is-get;
     is-put = is-put;
-    walks = λ t w. field-walks t w;
+    follows = λ t w. field-follows t w;
     inside = λ t s is h. field-inside t s is h;
   }
 
@@ -200,10 +200,10 @@ module _ (S F : Plain) (Z : Struct S) (j d n : ℕ) (there : fieldAt zero (Z .ty
       (opened s is .1) x-is)
 
   module _ {M : Type 1} {𝓤 : URA M} {H : Heap 𝓤} {A : Atoms 𝓤} {K : Type 0} {W : Given 𝓤 H A} where
-    pub row-walks : K → {Γ : List (Item 𝓤)} {N : Env 𝓤 H} {b o : ℕ} {st : List PStep} {sp : Spot 𝓤 H} → Walks K W Γ N
+    pub row-follows : K → {Γ : List (Item 𝓤)} {N : Env 𝓤 H} {b o : ℕ} {st : List PStep} {sp : Spot 𝓤 H} → Follows K W Γ N
         (tyArray (F .ty) n, b, o + d) st sp
-        → Walks K W Γ N (S .ty, b, o) (field j ∷ st) sp
-    row-walks t {Γ} {N} {b} {o} {st} {sp} w = subst (λ (τ : Ty). Walks K W Γ N (τ, b, o) (field j ∷ st) sp) (sym
+        → Follows K W Γ N (S .ty, b, o) (field j ∷ st) sp
+    row-follows t {Γ} {N} {b} {o} {st} {sp} w = subst (λ (τ : Ty). Follows K W Γ N (τ, b, o) (field j ∷ st) sp) (sym
         (Z .is)) (fld t there w)
 
     pub row-inside : K → {i : Item 𝓤} {b o : ℕ} {now : Of S → Item 𝓤} (k : ℕ) → k < n → (s : Of S) → Ok S s
@@ -241,7 +241,7 @@ module _ (S F : Plain) (Z : Struct S) (j d n : ℕ) (there : fieldAt zero (Z .ty
     put = λ k x s. put (set (items s) k x) s;
     is-get = item-is;
     is-put = item-put;
-    walks = λ t w. row-walks t w;
+    follows = λ t w. row-follows t w;
     inside = λ t k l s is h. row-inside t k l s is h;
   }
 
@@ -313,7 +313,7 @@ module _ {E K O : Plain} (L : Slots E K O) where
     put = λ k x s. slots.put L k x (L .shared s) s;
     is-get = λ k l s is. slots.is-at L s is k l;
     is-put = λ k l s x is x-is. slots.is-put L s is k l x (L .shared s) x-is (slots.shared-is L s is);
-    walks = λ t w. fld t refl w;
+    follows = λ t w. fld t refl w;
     inside = λ t k l s is h. element t k l s is h;
   }
 
@@ -325,6 +325,6 @@ module _ {E K O : Plain} (L : Slots E K O) where
     put = slots.second L .put;
     is-get = slots.shared-is L;
     is-put = λ s x is x-is. slots.second L .is-put s is x x-is;
-    walks = λ t w. fld t refl w;
+    follows = λ t w. fld t refl w;
     inside = λ t s is h. next t s is h;
   }

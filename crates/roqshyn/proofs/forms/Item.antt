@@ -28,16 +28,16 @@ module _ {M : Type 1} (𝓤 : URA M) (H : Heap 𝓤) (A : Atoms 𝓤) (W : Given
   abbrev Back : List Val → ℕ → ℕ → ℕ → Val → SProp 𝓤
   Back us k o p u = wand 𝓤 (H .at q τ b p u) (elems 𝓤 H q τ b o (set us k u))
 
-  takes : (us : List Val) (k : ℕ) (d : Val) (o : ℕ) → k < length us
+  split-at : (us : List Val) (k : ℕ) (d : Val) (o : ℕ) → k < length us
       → ent 𝓤 (elems 𝓤 H q τ b o us) (sep 𝓤 (H .at q τ b (place (size τ) o k) (getD us k d)) (all 𝓤 (Back us k o (place (size τ) o k))))
-  takes [] k d o l = absurd (not-suc-le-zero l)
-  takes (u ∷ us) zero d o l =
+  split-at [] k d o l = absurd (not-suc-le-zero l)
+  split-at (u ∷ us) zero d o l =
       qed W (‵ (fat q τ b o u) ∷ raw (elems 𝓤 H q τ b (o + size τ) us) ∷ []) ∵ frame ! $ each ! (Back (u
       ∷ us) zero o o) (λ v. assume ! (‵ (fat q τ b o v)) $ done !)
-  takes (u ∷ us) (suc k) d o l =
+  split-at (u ∷ us) (suc k) d o l =
       let p = place (size τ) (o + size τ) k in
       qed W (‵ (fat q τ b o u) ∷ raw (elems 𝓤 H q τ b (o + size τ) us) ∷ []) ∵ move ! (1 ∷ []) $
-      use1 W (‵ (fat q τ b p (getD us k d)) ⊛ raw (all 𝓤 (Back us k (o + size τ) p))) (takes us k d (o + size τ) (le-of-suc-le-suc l)) $ split ! $
+      use1 W (‵ (fat q τ b p (getD us k d)) ⊛ raw (all 𝓤 (Back us k (o + size τ) p))) (split-at us k d (o + size τ) (le-of-suc-le-suc l)) $ split ! $
       frame ! $
       each ! (Back (u ∷ us) (suc k) o p) (λ v. assume ! (‵ (fat q τ b p v)) $ move ! (1 ∷ []) $
       use1 W (raw (Back us k (o + size τ) p v)) (allE 𝓤 (Back us k (o + size τ) p) v) $
@@ -73,7 +73,7 @@ module _ {M : Type 1} {𝓤 : URA M} {H : Heap 𝓤} {A : Atoms 𝓤} {K : Type 
 
       found : ent 𝓤 (elems 𝓤 H q τ b o us) (sep 𝓤 (H .at q τ b at (getD us k d)) (all 𝓤 (Back 𝓤 H A W q τ b us k o at)))
       found = subst (λ (p : ℕ). ent 𝓤 (elems 𝓤 H q τ b o us) (sep 𝓤 (H .at q τ b p (getD us k d)) (all 𝓤 (Back 𝓤 H A W q τ b us k o p)))) (place-is
-          (size τ) o k) (takes 𝓤 H A W q τ b us k d o l)
+          (size τ) o k) (split-at 𝓤 H A W q τ b us k d o l)
 
       whole-again : (u : Val) → ent 𝓤 (elems 𝓤 H q τ b o (set us k u)) (H .at q (tyArray τ n) b o (new u))
       whole-again u = subst (λ (m : ℕ). ent 𝓤 (elems 𝓤 H q τ b o (set us k u)) (H .at q (tyArray τ m) b o (new u))) (length-set us k u ∙ len)

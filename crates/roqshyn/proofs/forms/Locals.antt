@@ -12,7 +12,7 @@ use base.Fml.{fat, froom, fdies}
 use prog.Wp.{Heap, Env, Spot, noLocal, tyOf}
 use ghost.Atoms.{Atoms}
 use types.Kit.{Given, Item, ‵, raw, cut, ⋆, push, pop, ++⊢, ⊢++, Goal, prop, allocs, frees, Seq, Step, _$_}
-use types.Run.{Walks, Finds, from, forget, alloc1, free1, free0}
+use types.Run.{Walks as Follows, Finds, from, forget, alloc1, free1, free0}
 
 -- a value in memory, and the cell of a local and the room for one
 module _ {M : Type 1} {𝓤 : URA M} where
@@ -70,8 +70,8 @@ module _ {M : Type 1} (𝓤 : URA M) (H : Heap 𝓤) (A : Atoms 𝓤) where
 module _ {M : Type 1} {𝓤 : URA M} {H : Heap 𝓤} {A : Atoms 𝓤} {K : Type 0} {W : Given 𝓤 H A} where
   -- a place in the local i, of the type τ and in the block b
   pub sits : K → {Γ : List (Item 𝓤)} {E : Env 𝓤 H} {i : ℕ} {st : List PStep} {sp : Spot 𝓤 H} {τ : Ty} {b : ℕ} → getD E i (noLocal 𝓤 H) ≡ (τ, b)
-      → Walks K W Γ E (τ, b, zero) st sp → Finds K W Γ E (place i st) sp
-  sits t {Γ} {E} {i} {st} {sp} e w = from t (subst (λ (x : Ty × ℕ). Walks K W Γ E (x .0, x .1, zero) st sp) (sym e) w)
+      → Follows K W Γ E (τ, b, zero) st sp → Finds K W Γ E (place i st) sp
+  sits t {Γ} {E} {i} {st} {sp} e w = from t (subst (λ (x : Ty × ℕ). Follows K W Γ E (x .0, x .1, zero) st sp) (sym e) w)
 
 -- the number of the local that is i after these
 abbrev pub past : List Local → ℕ → ℕ
@@ -103,7 +103,7 @@ module _ {M : Type 1} (𝓤 : URA M) (H : Heap 𝓤) where
   sits-after (l ∷ ls) bs N i E s = sits-next (tyOf 𝓤 H l, bs .0) (envOf 𝓤 H ls (bs .1) ++ N) (past ls i) E (sits-after ls (bs .1) N i E s)
 
 module _ {M : Type 1} {𝓤 : URA M} {H : Heap 𝓤} {A : Atoms 𝓤} {K : Type 0} (W : Given 𝓤 H A) {Γ : List (Item 𝓤)} where
-  -- entries made one, and taken apart
+  -- entries made one, and split
   pub apart : {G : Goal 𝓤 H} (i : Item 𝓤) (Δ : List (Item 𝓤)) → Step K W (i ∷ raw (⋆ 𝓤 H A Δ) ∷ Γ) G (raw (⋆ 𝓤 H A (i ∷ Δ)) ∷ Γ) G
   apart i Δ = cut (raw (⋆ 𝓤 H A (i ∷ Δ)) ∷ []) (i ∷ raw (⋆ 𝓤 H A Δ) ∷ []) Γ (pop 𝓤 H A i Δ)
 

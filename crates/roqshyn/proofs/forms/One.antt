@@ -35,7 +35,7 @@ use denote.Triple.Clauses.{Ended, Clauses, closing, ensured, lasts}
 use denote.Triple.Walked.{says, Stays, stay-ref, stay-none, walkOf, AllGo, goes-none, goes-ref, Walks, ends-at, walked, walk-meets}
 use denote.Exit.{yes}
 use Rattle.roqshyn.proofs.forms.Types.{Plain, row, Of, has, Pair, pairTy}
-use Rattle.roqshyn.proofs.forms.Steps.{takes}
+use Rattle.roqshyn.proofs.forms.Steps.{splits}
 
 -- S is the session's type, P the argument's, R the answer's, and D the struct of both that the call by value hands back
 module _ (S P R : Plain) (D : Pair S R) where
@@ -132,8 +132,8 @@ module _ (S P R : Plain) (D : Pair S R) where
           move ! (1 ∷ 0 ∷ []) $ join ! $ frame ! $ done !
 
       module _ (C : Calls 𝓤 H) (Λ : Loops 𝓤 H) (fm : FmC 𝓤 H (W .laws) C) (g : Name) (known : Triple 𝓤 (C g) (Value 𝓤 H A)) where
-        walk : ent 𝓤 (sep 𝓤 (onEntry 𝓤 H A sig (κ, tt) (q, tt) x at) (Asks M 𝓤 h)) (WpFn 𝓤 H C Λ (code g) (vptr b o ∷ P .val p ∷ []) Post)
-        walk =
+        run : ent 𝓤 (sep 𝓤 (onEntry 𝓤 H A sig (κ, tt) (q, tt) x at) (Asks M 𝓤 h)) (WpFn 𝓤 H C Λ (code g) (vptr b o ∷ P .val p ∷ []) Post)
+        run =
             qed W (((‵ (flft κ q) ⊛ ‵ ftrue) ⊛ ‵ (owns (MutRef (named 0) κ (row S) ∷ row P ∷ []) x at)) ∷ raw (Asks M 𝓤 h) ∷ []) ∵ split ! $ split ! $
             move ! (2 ∷ []) $ fsplit ! $ move ! (1 ∷ []) $
             fsplit ! $ drop ! $ move ! (1 ∷ []) $ fsplit3 ! $ drop ! $ move ! (0 ∷ 1 ∷ 3 ∷ []) $
@@ -157,7 +157,7 @@ module _ (S P R : Plain) (D : Pair S R) where
             move ! (1 ∷ []) $ peeks ! (D .type) (Is (D .type)) (shows 𝓤 H A (D .type)) r (v ∷ []) (λ is. drop ! $
             let parts = D .owed r v is in
             -- [true; the session's cell at 1; the open borrow; obs; auth; _5 at 5; _4 at 7; _3 at 9; _2 at 11; _1 at 13; _0 at 15; …]
-            move ! (9 ∷ 7 ∷ []) $ takes D r v is ! refl refl $ move ! (2 ∷ 3 ∷ 4 ∷ 5 ∷ 6 ∷ 7 ∷ 8 ∷ 1 ∷ 9 ∷ 0 ∷ []) $
+            move ! (9 ∷ 7 ∷ []) $ splits D r v is ! refl refl $ move ! (2 ∷ 3 ∷ 4 ∷ 5 ∷ 6 ∷ 7 ∷ 8 ∷ 1 ∷ 9 ∷ 0 ∷ []) $
             assigns ! (of-opd ! (load ! (from ! (stop !)) (look ! 7 refl))) (from ! (hop ! (look ! 13 refl) (stop !)))
             (store-raw ! 1 refl (S .typed 𝓤 H A W (D .fst r) (parts .0))) $
             assigns ! (of-opd ! (load ! (from ! (fld ! refl (stop !))) (look-in ! 9 (sub ! 1 refl (whole !))))) (from ! (stop !))
@@ -169,12 +169,12 @@ module _ (S P R : Plain) (D : Pair S R) where
             keep ! (0 ∷ 1 ∷ 2 ∷ 3 ∷ []) $ by ! (exits r e (parts .1))))))))))))))
 
     module _ {M : Type 1} (𝓤 : URA M) (H : Heap 𝓤) (A : Atoms 𝓤) (W : Given 𝓤 H A) where
-      walks : (C : Calls 𝓤 H) (Λ : Loops 𝓤 H) → FmC 𝓤 H (W .laws) C → (g : Name) → Triple 𝓤 (C g) (Value 𝓤 H A)
+      runs-through : (C : Calls 𝓤 H) (Λ : Loops 𝓤 H) → FmC 𝓤 H (W .laws) C → (g : Name) → Triple 𝓤 (C g) (Value 𝓤 H A)
           → Walks 𝓤 H A ended stayed (WpFn 𝓤 H C Λ (code g)) (clauses 𝓤 H A)
-      walks C Λ fm g known = walked 𝓤 H A ended stayed (clauses 𝓤 H A) (WpFn 𝓤 H C Λ (code g))
+      runs-through C Λ fm g known = walked 𝓤 H A ended stayed (clauses 𝓤 H A) (WpFn 𝓤 H C Λ (code g))
           (λ κs. (ptr-vals, ((λ p. P .val p ∷ []), tt)))
           (λ κs. (mut-tells (named 0) (κs .0) (row S), (P .tells, tt)))
-          (λ κs qs bounds a _ are. walk 𝓤 H A W (κs .0) (qs .0) (a .0 .ptr .0) (a .0 .ptr .1) (a .0 .name) (a .0 .now) (a .1 .0)
+          (λ κs qs bounds a _ are. run 𝓤 H A W (κs .0) (qs .0) (a .0 .ptr .0) (a .0 .ptr .1) (a .0 .name) (a .0 .now) (a .1 .0)
           (are .1 .0) C Λ fm g known)
 
       goes : AllGo 𝓤 H A W 1 (sig .params) (ended .kept) stayed
@@ -190,4 +190,4 @@ module _ (S P R : Plain) (D : Pair S R) where
         let 𝓣 = tablesOf 𝓤 H 𝓜 (tables 𝓤 H 𝓜 𝓡 env) in
         walk-meets 𝓤 H (𝓖 .A) ended stayed W (goes 𝓤 H (𝓖 .A) W) (clauses 𝓤 H (𝓖 .A)) (WpFn 𝓤 H (𝓣 .C) (𝓣 .Λ) (code g))
         (WpFn-mono 𝓤 H (W .laws) 𝓣 (code g))
-        (walks 𝓤 H (𝓖 .A) W (𝓣 .C) (𝓣 .Λ) (fmOf 𝓤 H (W .laws) 𝓣) g (cited 𝓤 H (Value 𝓤 H (𝓖 .A)) 𝓜 𝓡 env g r is met))
+        (runs-through 𝓤 H (𝓖 .A) W (𝓣 .C) (𝓣 .Λ) (fmOf 𝓤 H (W .laws) 𝓣) g (cited 𝓤 H (Value 𝓤 H (𝓖 .A)) 𝓜 𝓡 env g r is met))

@@ -1,4 +1,4 @@
--- The types of the exported calls, as the walks take them.
+-- The types of the exported calls, as the forms use them.
 use mathlib.Core.Path.{_≡_, refl, sym, ap, subst, _∙_}
 use mathlib.Core.List.{List, [], _∷_, map}
 use lib.ListN.{length-map}

@@ -155,8 +155,8 @@ module _ (E K O P R : Plain) (n : ℕ) (ps : List (Arg n)) (L : Slots E K O) (D 
 
       module _ (C : Calls 𝓤 H) (Λ : Loops 𝓤 H) (fm : FmC 𝓤 H (W .laws) C) (f g : Name) (place-known : Triple 𝓤 (C f) (Find P Found 𝓤 H A))
           (known : Triple 𝓤 (C g) (Value 𝓤 H A)) where
-        walk : call.Walk S R n all-args Ok Q 𝓤 H A κs qs a (WpFn 𝓤 H C Λ (code f g))
-        walk are ok =
+        run : call.Runs S R n all-args Ok Q 𝓤 H A κs qs a (WpFn 𝓤 H C Λ (code f g))
+        run are ok =
             -- [obs; the borrow; the token; what the other arguments own; the other tokens]
             qed W (call.borrow S R n all-args Ok Q 𝓤 H A κs qs a h others) ∵
             enter ! C Λ (code f g) (vptr b o ∷ P .val p ∷ args.vals ps κs (a .1 .1)) _ $
@@ -213,6 +213,6 @@ module _ (E K O P R : Plain) (n : ℕ) (ps : List (Arg n)) (L : Slots E K O) (D 
     meets 𝓤 H 𝓜 𝓖 𝓡 env f r is met g r′ is′ met′ =
         let W = givenOf 𝓤 H 𝓜 𝓖 in
         let 𝓣 = tablesOf 𝓤 H 𝓜 (tables 𝓤 H 𝓜 𝓡 env) in
-        call.meets S R n all-args Ok Q 𝓤 H (𝓖 .A) W (WpFn 𝓤 H (𝓣 .C) (𝓣 .Λ) (code f g)) (λ κs qs a. walk 𝓤 H (𝓖 .A) W κs qs a (𝓣 .C) (𝓣 .Λ)
+        call.meets S R n all-args Ok Q 𝓤 H (𝓖 .A) W (WpFn 𝓤 H (𝓣 .C) (𝓣 .Λ) (code f g)) (λ κs qs a. run 𝓤 H (𝓖 .A) W κs qs a (𝓣 .C) (𝓣 .Λ)
         (fmOf 𝓤 H (W .laws) 𝓣) f g
         (cited 𝓤 H (Find P Found 𝓤 H (𝓖 .A)) 𝓜 𝓡 env f r is met) (cited 𝓤 H (Value 𝓤 H (𝓖 .A)) 𝓜 𝓡 env g r′ is′ met′))

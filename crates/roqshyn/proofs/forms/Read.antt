@@ -168,9 +168,9 @@ module _ (S R : Plain) (n : ℕ) (ps : List (Arg n)) where
           has ! S h was $ fjoin ! $ move ! (1 ∷ 0 ∷ []) $ done !
 
       module _ (C : Calls 𝓤 H) (Λ : Loops 𝓤 H) (fm : FmC 𝓤 H (W .laws) C) (g : Name) (known : Triple 𝓤 (C g) (Value 𝓤 H A)) where
-        walk : Are (typesAt (sig .params) κs) (Ises (typesAt (sig .params) κs)) a vss → Ok h
+        run : Are (typesAt (sig .params) κs) (Ises (typesAt (sig .params) κs)) a vss → Ok h
             → ent 𝓤 (⋆ 𝓤 H A (shared ∷ token ∷ others ∷ tokens ∷ [])) (WpFn 𝓤 H C Λ (code g) (flat (typesAt (sig .params) κs) vss) Post)
-        walk are ok =
+        run are ok =
             qed W (shared ∷ token ∷ others ∷ tokens ∷ []) ∵
             enter ! C Λ (code g) (vptr b o ∷ args.vals ps κs (a .1)) _ $
             frame.allocs-all first ps own [] ! (λ bs₀ bs bs₁ xs bs₂.
@@ -221,4 +221,4 @@ module _ (S R : Plain) (n : ℕ) (ps : List (Arg n)) where
         (λ us. WpFn 𝓤 H (𝓣 .C) (𝓣 .Λ) (code g) (flat (typesAt (sig .params) κs) us) (Post 𝓤 H A W κs qs a)) (y .0 .4)
         (λ are. via 𝓤 (⋆ 𝓤 H A (shared 𝓤 H A W κs qs a ∷ token 𝓤 H A W κs qs a ∷ others 𝓤 H A W κs qs a ∷ tokens 𝓤 H A W κs qs a ∷ []))
         (enters 𝓤 H A W κs qs a)
-        (walk 𝓤 H A W κs qs a (𝓣 .C) (𝓣 .Λ) (fmOf 𝓤 H (W .laws) 𝓣) g (cited 𝓤 H (Value 𝓤 H A) 𝓜 𝓡 env g r is met) are ok)))
+        (run 𝓤 H A W κs qs a (𝓣 .C) (𝓣 .Λ) (fmOf 𝓤 H (W .laws) 𝓣) g (cited 𝓤 H (Value 𝓤 H A) 𝓜 𝓡 env g r is met) are ok)))

@@ -1,4 +1,4 @@
--- A struct of an array and two more fields, as a walk takes it: one element and the next field, or one of the two
+-- A struct of an array and two more fields, as a form uses it: one element and the next field, or one of the two
 -- fields alone, are read and put back in place.
 use mathlib.Core.Path.{_≡_, refl, sym, _∙_, ap, subst}
 use Prim.Native.Nat.{ℕ, zero, suc, _*_, _<_, _^_}

@@ -1,4 +1,4 @@
--- A place in a struct of plain data, down a way of fields, as a walk takes it: it is read and overwritten where the
+-- A place in a struct of plain data, down a way of fields, as a form uses it: it is read and overwritten where the
 -- struct lies.
 use mathlib.Core.Path.{_≡_, refl, _∙_, ap, subst}
 use Prim.Native.Nat.{ℕ, zero, _<_, _+_, _*_}
@@ -14,7 +14,7 @@ use prog.Memory.{size, align, up}
 use prog.Wp.{Heap, Env}
 use ghost.Atoms.{Atoms}
 use types.Kit.{Given, Item}
-use types.Run.{Walks}
+use types.Run.{Walks as Follows}
 use types.Part.{Part, whole, sub}
 use denote.Laws.{Is}
 use Rattle.roqshyn.proofs.forms.Types.{Plain, Of}
@@ -45,7 +45,7 @@ pub record Spot (E P : Plain) : Type 2 where
   -- the struct's machine value with a value at the place
   pub sets : Of E → Val → Val
   pub finds : {M : Type 1} {𝓤 : URA M} {H : Heap 𝓤} {A : Atoms 𝓤} {Kg : Type 0} {W : Given 𝓤 H A} {Γ : List (Item 𝓤)} {N : Env 𝓤 H} → Kg
-      → {b o : ℕ} → Walks Kg W Γ N (E .ty, b, o) way (P .ty, b, off o)
+      → {b o : ℕ} → Follows Kg W Γ N (E .ty, b, o) way (P .ty, b, off o)
   pub part : {M : Type 1} {𝓤 : URA M} {H : Heap 𝓤} {A : Atoms 𝓤} {Kg : Type 0} {W : Given 𝓤 H A} → Kg
       → {i : Item 𝓤} {q : Share} {b o : ℕ} {back : Val → Item 𝓤} (x : Of E)
       → Part Kg W i q (E .ty) b o (E .val x) back → Part Kg W i q (P .ty) b (off o) (P .val (get x)) (λ u. back (sets x u))

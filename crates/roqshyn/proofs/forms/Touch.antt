@@ -1,4 +1,4 @@
--- Steps of a walk that touches what lies behind a pointer: the address of an element, a field that is read into a
+-- Steps of a run that touches what lies behind a pointer: the address of an element, a field that is read into a
 -- local, and one that is overwritten. The locals are the first entry of the context, and what lies behind the pointer
 -- is the second one.
 use mathlib.Core.Path.{refl}
@@ -39,7 +39,7 @@ loads {X} w q e rest = seq (assign (place e []) (rvOpd (copy (place q (deref (X 
 abbrev pub stores : {X P : Plain} → Way X P → (q : ℕ) → Operand → Body → Body
 stores {X} w q x rest = seq (assign (place q (deref (X .ty) ∷ w .path [])) (rvOpd x)) rest
 
--- what the locals hold once the address of element k is taken: its place in the array, the array's address, and its own
+-- what the locals hold once they have the address of element k: its place in the array, the array's address, and its own
 module _ {X F : Plain} (r : Row X F) (b o k : ℕ) where
   abbrev index : Val
   index = vint w64 (k * size (F .ty))
@@ -77,7 +77,7 @@ module _ {M : Type 1} {𝓤 : URA M} {H : Heap 𝓤} {A : Atoms 𝓤} {K : Type 
       assigns t (bin t (reads-local T t σ a (tyInt w64) (h .1) (h .5)) (lit t (r .fits)) (record { fits = near }))
       (at T t i (h .2) (stop t))
       (into T t σ i (h .2) (tt, record { fits = near })) $
-      assigns t (addr t (at T t s (h .0) (hop t (look-in t 0 (var T t σ₁ s (h .0) (h .6))) (r .walks t (stop t)))))
+      assigns t (addr t (at T t s (h .0) (hop t (look-in t 0 (var T t σ₁ s (h .0) (h .6))) (r .follows t (stop t)))))
       (at T t p (h .3) (stop t))
       (into T t σ₁ p (h .3) (tt, tt)) $
       assigns t (bin t (reads-local T t σ₂ p tyPtr (h .3) (h .7)) (reads-local T t σ₂ i (tyInt w64) (h .2) (h .8)) tt)
@@ -90,7 +90,7 @@ module _ {M : Type 1} {𝓤 : URA M} {H : Heap 𝓤} {A : Atoms 𝓤} {K : Type 
         → Step K W (vars 𝓤 H A (T .locals) (set σ e (P .val (w .get x))) ∷ m ∷ Γ) (runs C Λ (T .env) rest z)
         (vars 𝓤 H A (T .locals) σ ∷ m ∷ Γ) (runs C Λ (T .env) (loads w (no T q) (no T e) rest) z)
     fetch t σ q e h =
-        assigns t (of-opd t (load t (at T t q (h .0) (hop t (look-in t 0 (var T t σ q (h .0) (h .2))) (w .walks t
+        assigns t (of-opd t (load t (at T t q (h .0) (hop t (look-in t 0 (var T t σ q (h .0) (h .2))) (w .follows t
         (stop t))))
         (reads t 1 (w .inside t x is inside)))) (at T t e (h .1) (stop t)) (into T t σ e (h .1) (P .typed 𝓤 H A W
         (w .get x) (w .is-get x is)))
@@ -101,7 +101,7 @@ module _ {M : Type 1} {𝓤 : URA M} {H : Heap 𝓤} {A : Atoms 𝓤} {K : Type 
         → Step K W (vars 𝓤 H A (T .locals) σ ∷ now (w .put y x) ∷ Γ) (runs C Λ (T .env) rest z)
         (vars 𝓤 H A (T .locals) σ ∷ m ∷ Γ) (runs C Λ (T .env) (stores w (no T q) v rest) z)
     restore t σ q h y y-is from =
-        assigns t (of-opd t from) (at T t q (h .0) (hop t (look-in t 0 (var T t σ q (h .0) (h .1))) (w .walks t
+        assigns t (of-opd t from) (at T t q (h .0) (hop t (look-in t 0 (var T t σ q (h .0) (h .1))) (w .follows t
         (stop t))))
         (writes t 1 (w .inside t x is inside) y y-is)
 

@@ -41,7 +41,7 @@ use Rattle.roqshyn.proofs.forms.Call as call
 use Rattle.roqshyn.proofs.forms.Frame as frame
 use Rattle.roqshyn.proofs.forms.Passing.{given, lent, passedv, fills, prepares, hands}
 use Rattle.roqshyn.proofs.forms.Locals.{past, sits}
-use Rattle.roqshyn.proofs.forms.Steps.{opens-at, closes-at, answers, takes}
+use Rattle.roqshyn.proofs.forms.Steps.{opens-at, closes-at, answers, splits}
 use Rattle.roqshyn.proofs.forms.InPlace.{reads, writes, fetch, restore}
 
 -- E is the element's type, K the other field's, O that of the field which stays, X that of what the element's function is handed before the arguments, R the answer's, and ps the
@@ -177,8 +177,8 @@ module _ (E K O X R : Plain) (n : ℕ) (ps : List (Arg n)) (L : Slots E K O) (T 
 
       module _ (C : Calls 𝓤 H) (Λ : Loops 𝓤 H) (fm : FmC 𝓤 H (W .laws) C) (f g : Name) (place-known : Triple 𝓤 (C f) (Find 𝓤 H A))
           (known : Triple 𝓤 (C g) (Value 𝓤 H A)) where
-        walk : call.Walk S R n ps Ok Q 𝓤 H A κs qs a (WpFn 𝓤 H C Λ (code f g))
-        walk are ok =
+        run : call.Runs S R n ps Ok Q 𝓤 H A κs qs a (WpFn 𝓤 H C Λ (code f g))
+        run are ok =
             -- [obs; the borrow; the token; what the arguments own; the other tokens]
             qed W (call.borrow S R n ps Ok Q 𝓤 H A κs qs a h others) ∵
             enter ! C Λ (code f g) (vptr b o ∷ args.vals ps κs (a .1)) _ $
@@ -199,7 +199,7 @@ module _ (E K O X R : Plain) (n : ℕ) (ps : List (Arg n)) (L : Slots E K O) (T 
             nothing ! $ use1 W (raw (Find 𝓤 H A .pre to-find)) (goes-find was ok) $
             calls-at ! fm (Find 𝓤 H A) place-known to-find (and-then ! (load ! (sits ! (after .0) (stop !)) (look ! 17 refl)) (no-more !)) (λ v.
             answers W ! tt findEnded tt (h, tt) v (‵ ftrue) (λ t _. Found h t) (λ t _ t-is found. drop ! $ drop ! $
-            move ! (11 ∷ 12 ∷ []) $ takes T t v t-is ! (mine .0) (mine .1 .0) $
+            move ! (11 ∷ 12 ∷ []) $ splits T t v t-is ! (mine .0) (mine .1 .0) $
             -- both are read: [what was found; the place; the session; …; its own but these two from 13 on; …; _0 and _1 at 34; …]
             let k = T .fst t in
             let y = T .snd t in
@@ -246,5 +246,5 @@ module _ (E K O X R : Plain) (n : ℕ) (ps : List (Arg n)) (L : Slots E K O) (T 
     meets 𝓤 H 𝓜 𝓖 𝓡 env f r is met g r′ is′ met′ =
         let W = givenOf 𝓤 H 𝓜 𝓖 in
         let 𝓣 = tablesOf 𝓤 H 𝓜 (tables 𝓤 H 𝓜 𝓡 env) in
-        call.meets S R n ps Ok Q 𝓤 H (𝓖 .A) W (WpFn 𝓤 H (𝓣 .C) (𝓣 .Λ) (code f g)) (λ κs qs a. walk 𝓤 H (𝓖 .A) W κs qs a (𝓣 .C) (𝓣 .Λ)
+        call.meets S R n ps Ok Q 𝓤 H (𝓖 .A) W (WpFn 𝓤 H (𝓣 .C) (𝓣 .Λ) (code f g)) (λ κs qs a. run 𝓤 H (𝓖 .A) W κs qs a (𝓣 .C) (𝓣 .Λ)
         (fmOf 𝓤 H (W .laws) 𝓣) f g (cited 𝓤 H (Find 𝓤 H (𝓖 .A)) 𝓜 𝓡 env f r is met) (cited 𝓤 H (Value 𝓤 H (𝓖 .A)) 𝓜 𝓡 env g r′ is′ met′))

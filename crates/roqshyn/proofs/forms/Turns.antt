@@ -377,8 +377,8 @@ module _ (E K O X R : Plain) (n : ℕ) (ps : List (Arg n)) (L : Slots E K O) (Y 
       module _ (𝓣 : Tables 𝓤 H) (fm : FmC 𝓤 H (W .laws) (𝓣 .C)) (f g h e : Name) (plan-known : Triple 𝓤 (𝓣 .C f) (Planning 𝓤 H A))
           (place-known : Triple 𝓤 (𝓣 .C g) (Placing 𝓤 H A)) (turn-known : Triple 𝓤 (𝓣 .C h) (Turning 𝓤 H A))
           (settle-known : Triple 𝓤 (𝓣 .C e) (Settling 𝓤 H A)) where
-        walk : call.Walk S R n ps Ok Q 𝓤 H A κs qs a (WpFn 𝓤 H (𝓣 .C) (𝓣 .Λ) (code f g h e))
-        walk are ok =
+        run : call.Runs S R n ps Ok Q 𝓤 H A κs qs a (WpFn 𝓤 H (𝓣 .C) (𝓣 .Λ) (code f g h e))
+        run are ok =
             -- [obs; the borrow; the token; what the arguments own; the other tokens]
             qed W (call.borrow S R n ps Ok Q 𝓤 H A κs qs a h₀ others) ∵
             enter ! (𝓣 .C) (𝓣 .Λ) (code f g h e) (vptr b o ∷ args.vals ps κs (a .1)) _ $
@@ -428,6 +428,6 @@ module _ (E K O X R : Plain) (n : ℕ) (ps : List (Arg n)) (L : Slots E K O) (Y 
     meets 𝓤 H 𝓜 𝓖 𝓡 env f r is met g r′ is′ met′ h r″ is″ met″ e r‴ is‴ met‴ =
         let W = givenOf 𝓤 H 𝓜 𝓖 in
         let 𝓣 = tablesOf 𝓤 H 𝓜 (tables 𝓤 H 𝓜 𝓡 env) in
-        call.meets S R n ps Ok Q 𝓤 H (𝓖 .A) W (WpFn 𝓤 H (𝓣 .C) (𝓣 .Λ) (code f g h e)) (λ κs qs a. walk 𝓤 H (𝓖 .A) W κs qs a 𝓣
+        call.meets S R n ps Ok Q 𝓤 H (𝓖 .A) W (WpFn 𝓤 H (𝓣 .C) (𝓣 .Λ) (code f g h e)) (λ κs qs a. run 𝓤 H (𝓖 .A) W κs qs a 𝓣
         (fmOf 𝓤 H (W .laws) 𝓣) f g h e (cited 𝓤 H (Planning 𝓤 H (𝓖 .A)) 𝓜 𝓡 env f r is met) (cited 𝓤 H (Placing 𝓤 H (𝓖 .A)) 𝓜 𝓡 env g r′ is′ met′)
         (cited 𝓤 H (Turning 𝓤 H (𝓖 .A)) 𝓜 𝓡 env h r″ is″ met″) (cited 𝓤 H (Settling 𝓤 H (𝓖 .A)) 𝓜 𝓡 env e r‴ is‴ met‴))

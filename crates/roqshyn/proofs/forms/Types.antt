@@ -1,4 +1,4 @@
--- What a walk needs of a type of plain data, and of a struct of two such types.
+-- What a form needs of a type of plain data, and of a struct of two such types.
 use mathlib.Core.Path.{_≡_, refl, sym, ap, subst}
 use mathlib.Core.List.{List, [], _∷_}
 use lib.Dec.{T}
@@ -30,7 +30,7 @@ pub record Plain : Type 2 where
       → T (hasTy ty (val x)) × WT (val x)
   pub pure : (x : type .Denot) (vs : List Val) → Pure (type .own x vs)
 
--- the type with its parts that a walk computes with written out
+-- the type with its parts that a form computes with written out
 abbrev pub row : Plain → RattleType
 row P = record {
   Denot = P .type .Denot;

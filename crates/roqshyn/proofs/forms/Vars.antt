@@ -15,7 +15,7 @@ use prog.Wp.{Heap, Env, Spot, noLocal}
 use ghost.Atoms.{Atoms}
 use types.Kit.{Given, Item, ‵, raw, _⊛_, mean, ⋆, push, pop, _$_, _∵_, !, qed, move, use1, use2, split, assume, frame}
 use types.Kit.{each, done}
-use types.Run.{Writes, Walks, Finds}
+use types.Run.{Writes, Walks as Follows, Finds}
 use types.Part.{Part}
 use Rattle.roqshyn.proofs.forms.Locals.{cell, room, sits}
 
@@ -74,7 +74,7 @@ module _ {M : Type 1} (𝓤 : URA M) (H : Heap 𝓤) (A : Atoms 𝓤) (W : Given
   vacant e none = id⊢ 𝓤 (H .room (e .0) (e .1) zero)
   vacant e (some v) = W .laws .at-room (e .0) (e .1) zero v
 
-  -- the first local of a list is taken out
+  -- the first local of a list is split off
   first : (e : Ty × ℕ) (i : Item 𝓤) (E : Env 𝓤 H) (σ : List (Option Val)) (P : SProp 𝓤) → ent 𝓤 (mean 𝓤 H A i) P
       → ent 𝓤 (⋆ 𝓤 H A (i ∷ cells 𝓤 H E σ)) (sep 𝓤 P (all 𝓤 (λ (u : Val). wand 𝓤 (H .at fullShare (e .0) (e .1) zero u)
       (⋆ 𝓤 H A (cell (e .0) (e .1) u ∷ cells 𝓤 H E σ)))))
@@ -116,19 +116,19 @@ module _ {M : Type 1} (𝓤 : URA M) (H : Heap 𝓤) (A : Atoms 𝓤) (W : Given
   spare (d ∷ E) [] (suc j) e h = later (room (d .0) (d .1)) e E [] j (H .room (e .0) (e .1) zero) (spare E [] j e h)
   spare (d ∷ E) (x ∷ σ) (suc j) e h = later (slot 𝓤 H d x) e E σ j (H .room (e .0) (e .1) zero) (spare E σ j e h)
 
-  taken : (E : Env 𝓤 H) (σ : List (Option Val)) (j : ℕ) (e : Ty × ℕ) (v : Val) → Is 𝓤 H E j e → Holds 𝓤 H σ j v
+  holding : (E : Env 𝓤 H) (σ : List (Option Val)) (j : ℕ) (e : Ty × ℕ) (v : Val) → Is 𝓤 H E j e → Holds 𝓤 H σ j v
       → ent 𝓤 (⋆ 𝓤 H A (cells 𝓤 H E σ)) (sep 𝓤 (H .at fullShare (e .0) (e .1) zero v) (all 𝓤 (Back E σ j e)))
-  taken [] σ j e v h is = absurd h
-  taken (d ∷ E) [] j e v h is = absurd is
-  taken (d ∷ E) (x ∷ σ) zero e v h is =
+  holding [] σ j e v h is = absurd h
+  holding (d ∷ E) [] j e v h is = absurd is
+  holding (d ∷ E) (x ∷ σ) zero e v h is =
       subst (λ (f : Ty × ℕ). ent 𝓤 (⋆ 𝓤 H A (cells 𝓤 H (d ∷ E) (x ∷ σ))) (sep 𝓤 (H .at fullShare (f .0) (f .1) zero v)
       (all 𝓤 (λ (u : Val). wand 𝓤 (H .at fullShare (f .0) (f .1) zero u)
       (⋆ 𝓤 H A (cells 𝓤 H (d ∷ E) (some u ∷ σ))))))) h (first d (slot 𝓤 H d x) E σ (H .at fullShare (d .0)
       (d .1) zero v)
       (subst (λ (y : Option Val). ent 𝓤 (mean 𝓤 H A (slot 𝓤 H d y)) (H .at fullShare (d .0) (d .1) zero v)) (sym is)
       (id⊢ 𝓤 _)))
-  taken (d ∷ E) (x ∷ σ) (suc j) e v h is = later (slot 𝓤 H d x) e E σ j (H .at fullShare (e .0) (e .1) zero v)
-      (taken E σ j e v h is)
+  holding (d ∷ E) (x ∷ σ) (suc j) e v h is = later (slot 𝓤 H d x) e E σ j (H .at fullShare (e .0) (e .1) zero v)
+      (holding E σ j e v h is)
 
 abbrev pub vars : {M : Type 1} (𝓤 : URA M) (H : Heap 𝓤) (A : Atoms 𝓤) → Env 𝓤 H → List (Option Val) → Item 𝓤
 vars 𝓤 H A E σ = raw (⋆ 𝓤 H A (cells 𝓤 H E σ))
@@ -160,7 +160,7 @@ module _ {M : Type 1} {𝓤 : URA M} {H : Heap 𝓤} {A : Atoms 𝓤} {K : Type 
       → Holds 𝓤 H σ j v
       → Part K W (vars 𝓤 H A (T .locals) σ) fullShare τ b zero v (λ u. vars 𝓤 H A (T .locals) (set σ j u))
   var t σ j {τ} {b} {v} h is = record {
-    out = taken 𝓤 H A W (T .locals) σ j (τ, b) v h is;
+    out = holding 𝓤 H A W (T .locals) σ j (τ, b) v h is;
     same = ap (λ (ρ : List (Option Val)). vars 𝓤 H A (T .locals) ρ) (set-same 𝓤 H σ j v is);
   }
 
@@ -190,5 +190,5 @@ module _ {M : Type 1} {𝓤 : URA M} {H : Heap 𝓤} {A : Atoms 𝓤} {K : Type 
     τ,
     b,
   )
-      → Walks K W Γ (T .env) (τ, b, zero) st sp → Finds K W Γ (T .env) (place (no T j) st) sp
+      → Follows K W Γ (T .env) (τ, b, zero) st sp → Finds K W Γ (T .env) (place (no T j) st) sp
   at t j h w = sits t (number 𝓤 H (T .env) (T .numbers) (T .locals) j (T .known) h) w

@@ -19,11 +19,11 @@ use Rattle.winbuf.proofs.bare.Regions.{regionEnd, fits-end}
 use Rattle.roqshyn.specs.declared.pixels.RoqPart.{RoqPart}
 use Rattle.roqshyn.specs.Parts.{Lies}
 
--- what was taken is as many as were taken
-take-taken : (n : ℕ) (l : List ℕ) → take (length (take n l)) l ≡ take n l
-take-taken zero l = refl
-take-taken (suc n) [] = refl
-take-taken (suc n) (x ∷ l) = ap (λ (t : List ℕ). x ∷ t) (take-taken n l)
+-- as many as a part has are that part
+take-again : (n : ℕ) (l : List ℕ) → take (length (take n l)) l ≡ take n l
+take-again zero l = refl
+take-again (suc n) [] = refl
+take-again (suc n) (x ∷ l) = ap (λ (t : List ℕ). x ∷ t) (take-again n l)
 
 abbrev pub partAt : ℕ → ℕ → ℕ → RoqPart
 partAt a s n = record { answer = a; start = s; count = n }
@@ -34,11 +34,11 @@ Cuts at ps cut = (k : ℕ) → k ≡ length cut → part (cond (eqb k 0) 0 at) k
 
 cuts : (b : Bool) (at n : ℕ) (ps : List ℕ) → Cuts at ps (cond b (part at n ps) [])
 cuts false at n ps k e = rw e
-cuts true at n ps zero e = subst (λ (m : ℕ). take m (drop at ps) ≡ take n (drop at ps)) (sym e) (take-taken n (drop at ps))
+cuts true at n ps zero e = subst (λ (m : ℕ). take m (drop at ps) ≡ take n (drop at ps)) (sym e) (take-again n (drop at ps))
 cuts true at n ps (suc k) e =
     let s : at ≡ cond (eqb (suc k) 0) 0 at = rw (ne-eqb (suc k) 0 (omega arith)) in
     subst (λ (i : ℕ). part i (suc k) ps ≡ part at n ps) s
-    (subst (λ (m : ℕ). take m (drop at ps) ≡ take n (drop at ps)) (sym e) (take-taken n (drop at ps)))
+    (subst (λ (m : ℕ). take m (drop at ps) ≡ take n (drop at ps)) (sym e) (take-again n (drop at ps)))
 
 pub region-cuts : (ps : List ℕ) (stride x y w h : ℕ) → Cuts (regionStart stride x y) ps (region ps stride x y w h .pixels)
 unfolding region

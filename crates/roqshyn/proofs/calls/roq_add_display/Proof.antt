@@ -10,7 +10,7 @@ use Rattle.display.proofs.Displays.add.Met as value′
 use Rattle.windows.specs.View.{Given, Meets}
 use Rattle.windows.specs.View as View
 use Rattle.windows.proofs.laws.Maximised.{adds-display}
-use Rattle.roqshyn.proofs.forms.Field as shim
+use Rattle.roqshyn.proofs.forms.Field as form
 use Rattle.roqshyn.proofs.forms.Args.{value as plain}
 use Rattle.roqshyn.proofs.forms.Slots.{third}
 use Rattle.roqshyn.proofs.forms.Parameters.{window, shared, displays, rect, number, windows, added}
@@ -24,7 +24,7 @@ unfolding code.routine
 roq-add-display-spec 𝓤 H 𝓜 𝓖 𝓡 =
     entered 𝓤 H (tripleOf 𝓤 H (𝓖 .A) f.signature (f.spec 𝓤 H (𝓖 .A) (𝓜 .mem) (𝓡 .run)))
     (tables 𝓤 H 𝓜 𝓡 code.env .C) (tables 𝓤 H 𝓜 𝓡 code.env .Λ) key.name code.function (code.unfolded 𝓤 H 𝓜 𝓡)
-    (shim.meets window shared displays displays number 0 (plain rect ∷ []) windows (third windows) added
+    (form.meets window shared displays displays number 0 (plain rect ∷ []) windows (third windows) added
     Given (λ d κs a. RepDisplays d) (λ d κs a r e. Adds d (a .0) r)
     (λ κs s a n t e. Meets (AddDisplay (a .0)) s (View.done t n))
     (λ κs s a h. h .rep .displays) (λ κs s a r ws h d. adds-display s h (a .0) r d)

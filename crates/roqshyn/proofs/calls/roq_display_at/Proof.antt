@@ -10,7 +10,7 @@ use Rattle.roqshyn.specs.Answers.{displayed}
 use Rattle.roqshyn.proofs.values.display_at.Symbol as value
 use Rattle.roqshyn.proofs.values.display_at.Met as value′
 use Rattle.roqshyn.proofs.forms.Args.{value as plain}
-use Rattle.roqshyn.proofs.forms.Read as shim
+use Rattle.roqshyn.proofs.forms.Read as form
 use Rattle.roqshyn.proofs.forms.Parameters.{session, number, display}
 use Rattle.roqshyn.proofs.calls.roq_display_at as f
 use Rattle.roqshyn.proofs.calls.roq_display_at.Key as key
@@ -22,6 +22,6 @@ unfolding code.routine
 roq-display-at-spec 𝓤 H 𝓜 𝓖 𝓡 =
     entered 𝓤 H (tripleOf 𝓤 H (𝓖 .A) f.signature (f.spec 𝓤 H (𝓖 .A) (𝓜 .mem) (𝓡 .run)))
     (tables 𝓤 H 𝓜 𝓡 code.env .C) (tables 𝓤 H 𝓜 𝓡 code.env .Λ) key.name code.function (code.unfolded 𝓤 H 𝓜 𝓡)
-    (shim.meets session display 0 (plain number ∷ plain number ∷ []) Given (λ s κs a r e. r ≡ displayed (displayAt (group s) (a .0) (a .1 .0)))
+    (form.meets session display 0 (plain number ∷ plain number ∷ []) Given (λ s κs a r e. r ≡ displayed (displayAt (group s) (a .0) (a .1 .0)))
     (λ κs s a r e. r ≡ displayed (displayAt (group s) (a .0) (a .1 .0))) (λ κs s a r ws d. d)
     𝓤 H 𝓜 𝓖 𝓡 code.env value.name value.routine code.calls-roqshyn·values·display-at (value′.met 𝓤 H 𝓜 𝓖 𝓡))

@@ -23,7 +23,7 @@ use Rattle.windows.proofs.inner.drag.turn.Met as turn′
 use Rattle.windows.proofs.inner.drag.settle as g
 use Rattle.windows.proofs.inner.drag.settle.Symbol as settle
 use Rattle.windows.proofs.inner.drag.settle.Met as settle′
-use Rattle.roqshyn.proofs.forms.Turns as shim
+use Rattle.roqshyn.proofs.forms.Turns as form
 use Rattle.roqshyn.proofs.forms.Args.{value as plain}
 use Rattle.roqshyn.proofs.forms.Steps.{asks-nothing}
 use Rattle.roqshyn.proofs.forms.Parameters.{window, shared, displays, winId, dragging, number, windows, dragPlan}
@@ -37,7 +37,7 @@ unfolding code.routine
 roq-drag-spec 𝓤 H 𝓜 𝓖 𝓡 =
     entered 𝓤 H (tripleOf 𝓤 H (𝓖 .A) f.signature (f.spec 𝓤 H (𝓖 .A) (𝓜 .mem) (𝓡 .run)))
     (tables 𝓤 H 𝓜 𝓡 code.env .C) (tables 𝓤 H 𝓜 𝓡 code.env .Λ) key.name code.function (code.unfolded 𝓤 H 𝓜 𝓡)
-    (shim.meets window shared displays dragging number 0 (plain winId ∷ plain number ∷ plain number ∷ []) windows dragPlan
+    (form.meets window shared displays dragging number 0 (plain winId ∷ plain number ∷ plain number ∷ []) windows dragPlan
     Given (λ s κs a t e. PlansDrag s (a .0 .0) (a .1 .0) (a .1 .1 .0) t) (λ d p. p < 16) (λ d p at. at ≡ getD (d .order) p noId .0)
     (λ w d at. OnTurn w d) (λ w d at r. Becomes w (turned d at (winOf w)) r) (λ k d n. Unit {0}) (λ k d n r. r ≡ settledBy d n k)
     (λ κs s a n t e. Meets (Drag (a .0 .0) (a .1 .0) (a .1 .1 .0)) s (View.done t n))

@@ -14,7 +14,7 @@ use Rattle.windows.proofs.inner.one.slot.Symbol as find
 use Rattle.windows.proofs.inner.one.slot.Met as find′
 use Rattle.windows.proofs.inner.store.fill.Symbol as value
 use Rattle.windows.proofs.inner.store.fill.Met as value′
-use Rattle.roqshyn.proofs.forms.Fields as shim
+use Rattle.roqshyn.proofs.forms.Fields as form
 use Rattle.roqshyn.proofs.forms.Args.{value, writes}
 use Rattle.roqshyn.proofs.forms.Parameters.{window, shared, displays, winId, rect, number, flag, windows}
 use Rattle.roqshyn.proofs.forms.Parameters.{altered}
@@ -29,7 +29,7 @@ unfolding code.routine
 roq-fill-spec 𝓤 H 𝓜 𝓖 𝓡 =
     entered 𝓤 H (tripleOf 𝓤 H (𝓖 .A) f.signature (f.spec 𝓤 H (𝓖 .A) (𝓜 .mem) (𝓡 .run)))
     (tables 𝓤 H 𝓜 𝓡 code.env .C) (tables 𝓤 H 𝓜 𝓡 code.env .Λ) key.name code.function (code.unfolded 𝓤 H 𝓜 𝓡)
-    (shim.meets window shared displays flag area damage number winId altered 1 (value rect ∷ value number ∷ writes 0 tt
+    (form.meets window shared displays flag area damage number winId altered 1 (value rect ∷ value number ∷ writes 0 tt
     ∷ []) windows its-used
     its-at its-damage its-c painted
     Given (λ id at. At (id .0) at) (λ u p d c κs a. HeldAs (a .0 .0) u p d c)

@@ -11,7 +11,7 @@ use Rattle.windows.proofs.inner.one.slot.Symbol as find
 use Rattle.windows.proofs.inner.one.slot.Met as find′
 use Rattle.windows.proofs.inner.one.mark.Symbol as value
 use Rattle.windows.proofs.inner.one.mark.Met as value′
-use Rattle.roqshyn.proofs.forms.Place as shim
+use Rattle.roqshyn.proofs.forms.Place as form
 use Rattle.roqshyn.proofs.forms.Parameters.{window, shared, displays, winId, number, windows, changed}
 use Rattle.roqshyn.proofs.calls.roq_mark as f
 use Rattle.roqshyn.proofs.calls.roq_mark.Key as key
@@ -23,7 +23,7 @@ unfolding code.routine
 roq-mark-spec 𝓤 H 𝓜 𝓖 𝓡 =
     entered 𝓤 H (tripleOf 𝓤 H (𝓖 .A) f.signature (f.spec 𝓤 H (𝓖 .A) (𝓜 .mem) (𝓡 .run)))
     (tables 𝓤 H 𝓜 𝓡 code.env .C) (tables 𝓤 H 𝓜 𝓡 code.env .Λ) key.name code.function (code.unfolded 𝓤 H 𝓜 𝓡)
-    (shim.meets window shared displays winId number 0 [] windows changed
+    (form.meets window shared displays winId number 0 [] windows changed
     Given (λ id at. At (id .0) at) (λ w k κs a. Held (a .0 .0) w k) (λ w k κs a r e. MeetsMarkAt (a .0 .0) w k r)
     (λ κs s a n t e. MeetsMark (a .0 .0) s (View.done t n))
     (λ id at p. p .inside) (λ κs s a at h p. held h p) (λ κs s a at r ws h p d. d s at (own h p))

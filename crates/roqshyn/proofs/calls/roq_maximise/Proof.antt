@@ -18,7 +18,7 @@ use Rattle.windows.proofs.inner.maximise.plan.Symbol as find
 use Rattle.windows.proofs.inner.maximise.plan.Met as find′
 use Rattle.windows.proofs.inner.maximise.apply.Symbol as value
 use Rattle.windows.proofs.inner.maximise.apply.Met as value′
-use Rattle.roqshyn.proofs.forms.Seek as shim
+use Rattle.roqshyn.proofs.forms.Seek as form
 use Rattle.roqshyn.proofs.forms.Args.{value as plain, writes}
 use Rattle.roqshyn.proofs.forms.Parameters.{window, shared, displays, winId, maximisePlan, number, windows, maximiseAt, changed}
 use Rattle.roqshyn.proofs.calls.roq_maximise as f
@@ -31,7 +31,7 @@ unfolding code.routine
 roq-maximise-spec 𝓤 H 𝓜 𝓖 𝓡 =
     entered 𝓤 H (tripleOf 𝓤 H (𝓖 .A) f.signature (f.spec 𝓤 H (𝓖 .A) (𝓜 .mem) (𝓡 .run)))
     (tables 𝓤 H 𝓜 𝓡 code.env .C) (tables 𝓤 H 𝓜 𝓡 code.env .Λ) key.name code.function (code.unfolded 𝓤 H 𝓜 𝓡)
-    (shim.meets window shared displays maximisePlan number 1 (plain winId ∷ writes 0 tt ∷ []) windows maximiseAt changed
+    (form.meets window shared displays maximisePlan number 1 (plain winId ∷ writes 0 tt ∷ []) windows maximiseAt changed
     Given (λ s κs a t e. PlansMaximise s (a .0 .0) (now (a .1 .0)) t (now (e .1 .0)))
     (λ w k t. RepWindow w × Small (rectOf (t .display)) × (t .answer ≡ 0 → t .id .0 < 16)) AppliesPlan
     (λ κs s a n t e. MeetsStore (Maximise (a .0 .0) (now (a .1 .0))) s (View.done t n) (now (e .1 .0)))

@@ -16,7 +16,7 @@ use Rattle.window.proofs.queue.front.Symbol as front
 use Rattle.window.proofs.queue.front.Met as front′
 use Rattle.roqshyn.proofs.values.pop.Symbol as value
 use Rattle.roqshyn.proofs.values.pop.Met as value′
-use Rattle.roqshyn.proofs.forms.Front as shim
+use Rattle.roqshyn.proofs.forms.Front as form
 use Rattle.roqshyn.proofs.forms.Parameters.{window, shared, displays, winId, flag, popped, windows}
 use Rattle.roqshyn.proofs.forms.Ways.{small, cursor, its-used, its-cursor}
 use Rattle.roqshyn.proofs.forms.Queues.{slot, its-head, its-len, its-slots, afterPop}
@@ -30,7 +30,7 @@ unfolding code.routine
 roq-pop-spec 𝓤 H 𝓜 𝓖 𝓡 =
     entered 𝓤 H (tripleOf 𝓤 H (𝓖 .A) f.signature (f.spec 𝓤 H (𝓖 .A) (𝓜 .mem) (𝓡 .run)))
     (tables 𝓤 H 𝓜 𝓡 code.env .C) (tables 𝓤 H 𝓜 𝓡 code.env .Λ) key.name code.function (code.unfolded 𝓤 H 𝓜 𝓡)
-    (shim.meets window shared displays flag cursor small slot winId popped windows its-used its-cursor its-head its-len
+    (form.meets window shared displays flag cursor small slot winId popped windows its-used its-cursor its-head its-len
     its-slots afterPop
     Given (λ id at. At (id .0) at) (λ h. h < 16) (λ h k. k ≡ h)
     (λ u p h n o id. RepCursor p × (h < 16) × (n ≤ 16)) (λ u p h n o id d. PopsFront (id .0) u p h n o d)

@@ -13,7 +13,7 @@ use Rattle.windows.proofs.inner.portion.whose_turn.Symbol as find
 use Rattle.windows.proofs.inner.portion.whose_turn.Met as find′
 use Rattle.windows.proofs.inner.portion.treat.Symbol as value
 use Rattle.windows.proofs.inner.portion.treat.Met as value′
-use Rattle.roqshyn.proofs.forms.Turn as shim
+use Rattle.roqshyn.proofs.forms.Turn as form
 use Rattle.roqshyn.proofs.forms.Args.{value as plain, reads, writes}
 use Rattle.roqshyn.proofs.forms.Parameters.{window, shared, displays, next, number, windows, turn, changed}
 use Rattle.roqshyn.proofs.calls.roq_portion as f
@@ -26,7 +26,7 @@ unfolding code.routine
 roq-portion-spec 𝓤 H 𝓜 𝓖 𝓡 =
     entered 𝓤 H (tripleOf 𝓤 H (𝓖 .A) f.signature (f.spec 𝓤 H (𝓖 .A) (𝓜 .mem) (𝓡 .run)))
     (tables 𝓤 H 𝓜 𝓡 code.env .C) (tables 𝓤 H 𝓜 𝓡 code.env .Λ) key.name code.function (code.unfolded 𝓤 H 𝓜 𝓡)
-    (shim.meets window shared displays next number 2 (plain number ∷ plain number ∷ reads 0 tt ∷ writes 1 tt ∷ []) windows turn changed
+    (form.meets window shared displays next number 2 (plain number ∷ plain number ∷ reads 0 tt ∷ writes 1 tt ∷ []) windows turn changed
     Given Turns (λ w k x κs a. Turned w k x)
     (λ w k x κs a r e. TreatsAt (Portion (a .0) (a .1 .0) (now (a .1 .1 .0)) (now (a .1 .1 .1 .0))) w k x r (now (e .1 .1 .1 .0)))
     (λ κs s a n t e. MeetsScreen (Portion (a .0) (a .1 .0) (now (a .1 .1 .0)) (now (a .1 .1 .1 .0))) s (View.done t n) (now (e .1 .1 .1 .0)))

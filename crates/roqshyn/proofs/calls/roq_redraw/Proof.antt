@@ -22,7 +22,7 @@ use Rattle.roqshyn.proofs.redraw.draw_turn.Symbol as turn
 use Rattle.roqshyn.proofs.redraw.draw_turn.Met as turn′
 use Rattle.roqshyn.proofs.redraw.paid.Symbol as paid
 use Rattle.roqshyn.proofs.redraw.paid.Met as paid′
-use Rattle.roqshyn.proofs.forms.Each as shim
+use Rattle.roqshyn.proofs.forms.Each as form
 use Rattle.roqshyn.proofs.forms.Parameters.{window, shared, displays, flag, number, windows}
 use Rattle.roqshyn.proofs.forms.Spots.{byte, damage, due, damaged, marked, entries, dues, order, layout, redrawPlan, cleared}
 use Rattle.roqshyn.proofs.calls.roq_redraw as f
@@ -35,7 +35,7 @@ unfolding code.routine
 roq-redraw-spec 𝓤 H 𝓜 𝓖 𝓡 =
     entered 𝓤 H (tripleOf 𝓤 H (𝓖 .A) f.signature (f.spec 𝓤 H (𝓖 .A) (𝓜 .mem) (𝓡 .run)))
     (tables 𝓤 H 𝓜 𝓡 code.env .C) (tables 𝓤 H 𝓜 𝓡 code.env .Λ) key.name code.function (code.unfolded 𝓤 H 𝓜 𝓡)
-    (shim.meets window shared displays order layout number damage flag byte due flag number number windows redrawPlan cleared damaged marked entries dues
+    (form.meets window shared displays order layout number damage flag byte due flag number number windows redrawPlan cleared damaged marked entries dues
     Given PlansRedraw (λ o p. p < 16) (λ o p at. at ≡ getD (o .ids) p noId .0)
     (λ d l at p w h store screen. SomeTurn d l at p w h (length store) (length screen)) DrawsTurn (λ u n r. r ≡ cond (eqb n 0) (free u) u)
     (λ κs s a n t e. MeetsScreen (Redraw (a .0) (a .1 .0) (a .1 .1 .0) (now (a .1 .1 .1 .0)) (now (a .1 .1 .1 .1 .0))) s (View.done t n) (now (e .1 .1 .1 .1 .0)))

@@ -13,7 +13,7 @@ use Rattle.windows.proofs.inner.one.slot.Symbol as find
 use Rattle.windows.proofs.inner.one.slot.Met as find′
 use Rattle.windows.proofs.inner.store.resize.Symbol as value
 use Rattle.windows.proofs.inner.store.resize.Met as value′
-use Rattle.roqshyn.proofs.forms.Place as shim
+use Rattle.roqshyn.proofs.forms.Place as form
 use Rattle.roqshyn.proofs.forms.Args.{value, writes}
 use Rattle.roqshyn.proofs.forms.Parameters.{window, shared, displays, winId, number, windows, changed}
 use Rattle.roqshyn.proofs.calls.roq_resize as f
@@ -26,7 +26,7 @@ unfolding code.routine
 roq-resize-spec 𝓤 H 𝓜 𝓖 𝓡 =
     entered 𝓤 H (tripleOf 𝓤 H (𝓖 .A) f.signature (f.spec 𝓤 H (𝓖 .A) (𝓜 .mem) (𝓡 .run)))
     (tables 𝓤 H 𝓜 𝓡 code.env .C) (tables 𝓤 H 𝓜 𝓡 code.env .Λ) key.name code.function (code.unfolded 𝓤 H 𝓜 𝓡)
-    (shim.meets window shared displays winId number 1 (value number ∷ value number ∷ writes 0 tt ∷ []) windows changed
+    (form.meets window shared displays winId number 1 (value number ∷ value number ∷ writes 0 tt ∷ []) windows changed
     Given (λ id at. At (id .0) at) (λ w k κs a. Held (a .0 .0) w k)
     (λ w k κs a r e. MeetsStoreAt (Resize (a .0 .0) (a .1 .0) (a .1 .1 .0) (now (a .1 .1 .1 .0))) (a .0 .0) w k r (now (e .1 .1 .1 .0)))
     (λ κs s a n t e. MeetsStore (Resize (a .0 .0) (a .1 .0) (a .1 .1 .0) (now (a .1 .1 .1 .0))) s (View.done t n) (now (e .1 .1 .1 .0)))

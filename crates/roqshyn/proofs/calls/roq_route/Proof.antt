@@ -25,7 +25,7 @@ use Rattle.window.proofs.queue.back.Symbol as back
 use Rattle.window.proofs.queue.back.Met as back′
 use Rattle.windows.proofs.inner.events.tell.Symbol as value
 use Rattle.windows.proofs.inner.events.tell.Met as value′
-use Rattle.roqshyn.proofs.forms.Back as shim
+use Rattle.roqshyn.proofs.forms.Back as form
 use Rattle.roqshyn.proofs.forms.Parameters.{window, shared, displays, event, message, number, winId, windows}
 use Rattle.roqshyn.proofs.forms.Ways.{small, cursor, its-cursor, its-grab}
 use Rattle.roqshyn.proofs.forms.Queues.{slot, its-head, its-len, its-slots, aim, told}
@@ -75,7 +75,7 @@ unfolding code.routine
 roq-route-spec 𝓤 H 𝓜 𝓖 𝓡 =
     entered 𝓤 H (tripleOf 𝓤 H (𝓖 .A) f.signature (f.spec 𝓤 H (𝓖 .A) (𝓜 .mem) (𝓡 .run)))
     (tables 𝓤 H 𝓜 𝓡 code.env .C) (tables 𝓤 H 𝓜 𝓡 code.env .Λ) key.name code.function (code.unfolded 𝓤 H 𝓜 𝓡)
-    (shim.meets window shared displays cursor small slot winId message event number windows its-cursor its-head its-len
+    (form.meets window shared displays cursor small slot winId message event number windows its-cursor its-head its-len
     its-slots its-grab aim told
     Given (λ s e t. Aims (Routes (eventOf e) s) s t) (λ h n. (h < 16) × (n ≤ 16)) (λ h n k. (k ≡ place h n) × (k < 16))
     (λ o p n i m. RepCursor p × (n ≤ 16) × (m .told ≡ true → Tellable (m .event))) (λ o p n i m d. Hears o p n i m d)

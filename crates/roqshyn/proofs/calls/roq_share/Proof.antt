@@ -7,7 +7,7 @@ use Rattle.windows.specs.View.{group, Given, Shares}
 use Rattle.windows.proofs.Session.share.Symbol as value
 use Rattle.windows.proofs.Session.share.Met as value′
 use Rattle.roqshyn.proofs.forms.Args.{value}
-use Rattle.roqshyn.proofs.forms.Read as shim
+use Rattle.roqshyn.proofs.forms.Read as form
 use Rattle.roqshyn.proofs.forms.Parameters.{session, winId, inView}
 use Rattle.roqshyn.proofs.calls.roq_share as f
 use Rattle.roqshyn.proofs.calls.roq_share.Key as key
@@ -19,6 +19,6 @@ unfolding code.routine
 roq-share-spec 𝓤 H 𝓜 𝓖 𝓡 =
     entered 𝓤 H (tripleOf 𝓤 H (𝓖 .A) f.signature (f.spec 𝓤 H (𝓖 .A) (𝓜 .mem) (𝓡 .run)))
     (tables 𝓤 H 𝓜 𝓡 code.env .C) (tables 𝓤 H 𝓜 𝓡 code.env .Λ) key.name code.function (code.unfolded 𝓤 H 𝓜 𝓡)
-    (shim.meets session inView 0 (value winId ∷ []) Given (λ s κs a r e. Shares (group s) (a .0 .0) r)
+    (form.meets session inView 0 (value winId ∷ []) Given (λ s κs a r e. Shares (group s) (a .0 .0) r)
     (λ κs s a r e. Shares (group s) (a .0 .0) r) (λ κs s a r ws d. d)
     𝓤 H 𝓜 𝓖 𝓡 code.env value.name value.routine code.calls-windows·Session·share (value′.met 𝓤 H 𝓜 𝓖 𝓡))

@@ -9,7 +9,7 @@ use Rattle.windows.specs.View.{group, Given, Prints}
 use Rattle.windows.proofs.Session.sheet.Symbol as value
 use Rattle.windows.proofs.Session.sheet.Met as value′
 use Rattle.roqshyn.proofs.forms.Args.{value, writesOf}
-use Rattle.roqshyn.proofs.forms.Read as shim
+use Rattle.roqshyn.proofs.forms.Read as form
 use Rattle.roqshyn.proofs.forms.Parameters.{session, winId, listing}
 use Rattle.roqshyn.proofs.calls.roq_sheet as f
 use Rattle.roqshyn.proofs.calls.roq_sheet.Key as key
@@ -21,7 +21,7 @@ unfolding code.routine
 roq-sheet-spec 𝓤 H 𝓜 𝓖 𝓡 =
     entered 𝓤 H (tripleOf 𝓤 H (𝓖 .A) f.signature (f.spec 𝓤 H (𝓖 .A) (𝓜 .mem) (𝓡 .run)))
     (tables 𝓤 H 𝓜 𝓡 code.env .C) (tables 𝓤 H 𝓜 𝓡 code.env .Λ) key.name code.function (code.unfolded 𝓤 H 𝓜 𝓡)
-    (shim.meets session listing 1 (value winId ∷ writesOf w8 0 tt ∷ []) Given
+    (form.meets session listing 1 (value winId ∷ writesOf w8 0 tt ∷ []) Given
     (λ s κs a r e. Prints (group s) (a .0 .0) (now (a .1 .0)) r (now (e .1 .0)))
     (λ κs s a r e. Prints (group s) (a .0 .0) (now (a .1 .0)) r (now (e .1 .0))) (λ κs s a r ws d. d)
     𝓤 H 𝓜 𝓖 𝓡 code.env value.name value.routine code.calls-windows·Session·sheet (value′.met 𝓤 H 𝓜 𝓖 𝓡))

@@ -7,7 +7,7 @@ use Rattle.windows.specs.View.{Starts}
 use Rattle.windows.specs.View as View
 use Rattle.roqshyn.proofs.values.start.Symbol as value
 use Rattle.roqshyn.proofs.values.start.Met as value′
-use Rattle.roqshyn.proofs.forms.One as shim
+use Rattle.roqshyn.proofs.forms.One as form
 use Rattle.roqshyn.proofs.forms.Parameters.{session, number, done}
 use Rattle.roqshyn.proofs.calls.roq_start as f
 use Rattle.roqshyn.proofs.calls.roq_start.Key as key
@@ -19,6 +19,6 @@ unfolding code.routine
 roq-start-spec 𝓤 H 𝓜 𝓖 𝓡 =
     entered 𝓤 H (tripleOf 𝓤 H (𝓖 .A) f.signature (f.spec 𝓤 H (𝓖 .A) (𝓜 .mem) (𝓡 .run)))
     (tables 𝓤 H 𝓜 𝓡 code.env .C) (tables 𝓤 H 𝓜 𝓡 code.env .Λ) key.name code.function (code.unfolded 𝓤 H 𝓜 𝓡)
-    (shim.meets session number number done (λ M 𝓤 s. emp 𝓤)
+    (form.meets session number number done (λ M 𝓤 s. emp 𝓤)
     (λ s c a t. Starts c (View.done t a))
     𝓤 H 𝓜 𝓖 𝓡 code.env value.name value.routine code.calls-roqshyn·values·start (value′.met 𝓤 H 𝓜 𝓖 𝓡))

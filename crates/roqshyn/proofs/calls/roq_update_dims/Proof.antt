@@ -25,7 +25,7 @@ use Rattle.windows.proofs.inner.update.turn.Met as turn′
 use Rattle.windows.proofs.inner.update.settle as g
 use Rattle.windows.proofs.inner.update.settle.Symbol as settle
 use Rattle.windows.proofs.inner.update.settle.Met as settle′
-use Rattle.roqshyn.proofs.forms.Turns as shim
+use Rattle.roqshyn.proofs.forms.Turns as form
 use Rattle.roqshyn.proofs.forms.Args.{writes}
 use Rattle.roqshyn.proofs.forms.Steps.{asks-nothing}
 use Rattle.roqshyn.proofs.forms.Parameters.{window, shared, displays, moving, number, windows, dimsPlan}
@@ -39,7 +39,7 @@ unfolding code.routine
 roq-update-dims-spec 𝓤 H 𝓜 𝓖 𝓡 =
     entered 𝓤 H (tripleOf 𝓤 H (𝓖 .A) f.signature (f.spec 𝓤 H (𝓖 .A) (𝓜 .mem) (𝓡 .run)))
     (tables 𝓤 H 𝓜 𝓡 code.env .C) (tables 𝓤 H 𝓜 𝓡 code.env .Λ) key.name code.function (code.unfolded 𝓤 H 𝓜 𝓡)
-    (shim.meets window shared displays moving number 1 (writes 0 tt ∷ []) windows dimsPlan
+    (form.meets window shared displays moving number 1 (writes 0 tt ∷ []) windows dimsPlan
     Given (λ s κs a t e. Plans s (now (a .0)) t (now (e .0))) (λ m p. p < 16) (λ m p at. at ≡ getD (m .order) p noId .0)
     (λ w m at. Movable w (m .moves) at) (λ w m at r. Moved w (m .moves) at r) (λ k m n. Unit {0}) (λ k m n r. r ≡ cond (eqb n 0) (indebted k) k)
     (λ κs s a n t e. MeetsStore (UpdateDims (now (a .0))) s (View.done t n) (now (e .0)))
