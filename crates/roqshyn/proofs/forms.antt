@@ -20,6 +20,7 @@ pub mod InPlace
 pub mod Inside
 pub mod Stack
 pub mod Touch
+pub mod Run
 pub mod Parameters
 pub mod Spot
 pub mod Relend

@@ -112,6 +112,11 @@ known-all 𝓤 H N [] bs i s = tt
 known-all 𝓤 H N (l ∷ ls) bs i s = (s .0, known-all 𝓤 H N ls (bs .1) (suc i) (s .1))
 
 module _ {n : ℕ} (first : List Local) (ps : List (Arg n)) (own more : List Local) where
+  -- their numbers in the code
+  abbrev pub numbers : List ℕ
+  numbers = count first 0 ++ (count own (frame.own-at first ps own more 0) ++ count more
+      (frame.more-at first ps own more 0))
+
   module _ {M : Type 1} (𝓤 : URA M) (H : Heap 𝓤) (bs₀ : Blocks first) (bs₁ : Blocks own) (bs₂ : Blocks more) where
     -- the locals that are one entry
     abbrev pub stack : Env 𝓤 H
@@ -132,15 +137,12 @@ module _ {n : ℕ} (first : List Local) (ps : List (Arg n)) (own more : List Loc
     abbrev pub table : Table 𝓤 H
     table = record {
       env = frame.env first ps own more 𝓤 H bs₀ bs bs₁ xs bs₂;
-      numbers = count first 0 ++ (count own (frame.own-at first ps own more 0) ++ count more
-          (frame.more-at first ps own more 0));
+      numbers = numbers;
       locals = stack 𝓤 H bs₀ bs₁ bs₂;
       known = all-known;
     }
       where
-        all-known : Known 𝓤 H (frame.env first ps own more 𝓤 H bs₀ bs bs₁ xs bs₂)
-            (count first 0 ++ (count own (frame.own-at first ps own more 0) ++ count more
-            (frame.more-at first ps own more 0))) (stack 𝓤 H bs₀ bs₁ bs₂)
+        all-known : Known 𝓤 H (frame.env first ps own more 𝓤 H bs₀ bs bs₁ xs bs₂) numbers (stack 𝓤 H bs₀ bs₁ bs₂)
         all-known =
             let N = frame.env first ps own more 𝓤 H bs₀ bs bs₁ xs bs₂ in
             known-more 𝓤 H N first bs₀ 0 _ _ (sits-first 𝓤 H (envOf 𝓤 H first bs₀)
