@@ -16,11 +16,12 @@ pub mod Call
 pub mod Find
 pub mod Ask
 pub mod Lend
-pub mod InPlace
 pub mod Inside
 pub mod Stack
 pub mod Touch
 pub mod Run
+pub mod Both
+pub mod Asking
 pub mod Parameters
 pub mod Spot
 pub mod Relend
@@ -37,5 +38,4 @@ pub mod Turns
 pub mod Seek
 pub mod Turn
 pub mod Field
-pub mod One
 pub mod Read

@@ -181,7 +181,7 @@ module _ {n : ℕ} where
       Passing = tripleOf 𝓤 H A sig (closing 𝓤 H A ended clauses)
 
 -- of plain data alone
-abbrev no-args : List (Arg 0)
+abbrev pub no-args : List (Arg 0)
 no-args = []
 
 module _ (vs : List Plain) (D : Result) (Pre : (κs : Lfts 0) → Args (sig vs no-args D) κs → Type 0)

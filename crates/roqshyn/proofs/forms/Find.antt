@@ -12,7 +12,7 @@ use base.Fml.{ftrue}
 use prog.Wp.{Heap, Env, Calls, Loops, noLocal}
 use ghost.Atoms.{Atoms, sem}
 use contract.Monad.{fact}
-use types.Kit.{Given, Item, ‵, raw, Post, runs, Seq, _$_, _∵_, !, qed, move, drop, use1, join, fjoin, rewrite, frame, done}
+use types.Kit.{Given, Item, ‵, raw, ⋆, Post, runs, Seq, _$_, _∵_, !, qed, move, drop, use1, join, fjoin, rewrite, frame, done}
 use types.Run.{look, init, stop, load, and-then, no-more, land}
 use types.Part.{look-in}
 use sound.WpLaws.{FmC}
@@ -25,7 +25,7 @@ use denote.Triple.Spec.{tripleOf}
 use denote.Triple.Clauses.{Ended, Clauses, closing}
 use denote.Exit.{yes}
 use Rattle.roqshyn.proofs.forms.Types.{Plain, row, Of, has, typed-at, index}
-use Rattle.roqshyn.proofs.forms.Locals.{cell, room, sits}
+use Rattle.roqshyn.proofs.forms.Locals.{cell, room, sits, apart, together}
 use Rattle.roqshyn.proofs.forms.Vars.{set, vars, Holds, Table, no, Has, var, into, at}
 use Rattle.roqshyn.proofs.forms.Steps.{answers}
 
@@ -82,3 +82,24 @@ module _ (P : Plain) (Found : Of P → ℕ → Type 0) where
       land t (at T t j (h .1) (stop t)) (into T t σ j (h .1) (typed-at index 𝓤 H A W k v k-is)) $
       rewrite t 0 (λ (u : Val). vars 𝓤 H A (T .locals) (set σ j u)) (ap only (index .tells k (v ∷ []) k-is)) refl $
       next k found))
+
+  -- the same of an argument of the call, which is the first of the entries that are one behind the session
+  pub finds-first : {M : Type 1} {𝓤 : URA M} {H : Heap 𝓤} {A : Atoms 𝓤} {Kg : Type 0} {W : Given 𝓤 H A} → Kg
+      → (T : Table 𝓤 H) (σ : List (Option Val)) {C : Calls 𝓤 H} {Λ : Loops 𝓤 H} {z : Post 𝓤 H} {Γ : List (Item 𝓤)}
+      (Δ : List (Item 𝓤)) {m : Item 𝓤} {rest : Body} {i l : ℕ} (j : ℕ) → FmC 𝓤 H (W .laws) C → (f : Name) → Triple 𝓤 (C f) (Find 𝓤 H A)
+      → (p : Of P) → Is (row P) p (P .val p ∷ []) → getD (T .env) i (noLocal 𝓤 H) ≡ (P .ty, l) → Has T j (tyInt w64)
+      → ((k : ℕ) → Found p k → Seq Kg W (vars 𝓤 H A (T .locals) (set σ j (vint w64 k)) ∷ m
+      ∷ raw (⋆ 𝓤 H A (cell (P .ty) l (P .val p) ∷ Δ)) ∷ Γ) (runs C Λ (T .env) rest z))
+      → Seq Kg W (vars 𝓤 H A (T .locals) σ ∷ m ∷ raw (⋆ 𝓤 H A (cell (P .ty) l (P .val p) ∷ Δ)) ∷ Γ)
+      (runs C Λ (T .env) (seq (call f (copy (place i []) ∷ []) (place (no T j) [])) rest) z)
+  finds-first {𝓤 = 𝓤} {H = H} {A = A} {W = W} t T σ Δ {l = l} j fm f known p p-is atᵢ there next =
+      let c : Item 𝓤 = cell (P .ty) l (P .val p) in
+      move t (2 ∷ []) $ apart W c Δ $ move t (2 ∷ 0 ∷ []) $
+      -- [the locals; the argument; the others; the session; …]
+      nothing t $ use1 W (raw (Find 𝓤 H A .pre (to 𝓤 H A p))) (ready 𝓤 H A W p p-is) $
+      calls-at t fm (Find 𝓤 H A) known (to 𝓤 H A p) (and-then t (load t (sits t atᵢ (stop t)) (look t 2 refl)) (no-more t)) (λ v.
+      answers W t tt ended tt (p, tt) v (‵ ftrue) (λ k ws. Found p k)
+      (λ k ws k-is found. drop t $ drop t $
+      land t (at T t j there (stop t)) (into T t σ j there (typed-at index 𝓤 H A W k v k-is)) $
+      rewrite t 0 (λ (u : Val). vars 𝓤 H A (T .locals) (set σ j u)) (ap only (index .tells k (v ∷ []) k-is)) refl $
+      move t (1 ∷ 2 ∷ []) $ together W c Δ $ move t (1 ∷ 2 ∷ 0 ∷ []) $ next k found))

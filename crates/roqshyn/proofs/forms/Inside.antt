@@ -258,9 +258,6 @@ module _ {E K O : Plain} (L : Slots E K O) where
   abbrev start : ℕ → ℕ
   start o = o + up (align (tyArray (E .ty) (L .n))) zero
 
-  abbrev beside : ℕ
-  beside = up (align (K .ty)) (up (align (tyArray (E .ty) (L .n))) zero + size (tyArray (E .ty) (L .n)))
-
   module _ {M : Type 1} {𝓤 : URA M} {H : Heap 𝓤} {A : Atoms 𝓤} {Kg : Type 0} {W : Given 𝓤 H A} where
     pub element : Kg → {i : Item 𝓤} {b o : ℕ} {now : Of S → Item 𝓤} (k : ℕ) → k < L .n → (s : Of S) → Ok S s
         → Inside Kg W i S b o s now
@@ -279,15 +276,16 @@ module _ {E K O : Plain} (L : Slots E K O) where
               (slots.shared-is L s is));
         }
 
-    pub next : Kg → {i : Item 𝓤} {b o : ℕ} {now : Of S → Item 𝓤} (s : Of S) → Ok S s → Inside Kg W i S b o s now
-        → Inside Kg W i K b (o + beside) (L .shared s) (λ x. now (slots.second L .put x s))
-    next t s is h = record {
-      back = λ u. h .back (vstruct (vcons (vstruct (ofList (slots.vals L s))) (vcons u (vcons (O .val
-          (L .rest s)) vnil))));
-      part = sub t 1 refl (h .part);
-      becomes = λ y y-is. ap (h .back) (slots.second L .val-put s is y y-is) ∙ h .becomes (slots.second L .put y s)
-          (slots.second L .is-put s is y y-is);
-    }
+    pub alone : Kg → {F : Plain} (G : slots.Field L F) {i : Item 𝓤} {b o : ℕ} {now : Of S → Item 𝓤} (s : Of S) → Ok S s
+        → Inside Kg W i S b o s now → Inside Kg W i F b (o + G .offset) (G .get s) (λ x. now (G .put x s))
+    alone t {F} G {i} {b} {o} s is h =
+        let back : Val → Item 𝓤 = λ u. h .back (vstruct (setV (slots.fields L s) (G .at) u)) in
+        record {
+          back = back;
+          part = subst (λ (v : Val). Part Kg W i fullShare (F .ty) b (o + G .offset) v back) (G .val-get s)
+              (sub t (G .at) (G .found) (h .part));
+          becomes = λ y y-is. ap (h .back) (G .val-put s is y y-is) ∙ h .becomes (G .put y s) (G .is-put s is y y-is);
+        }
 
   -- an element that was put there is overwritten
   pub again : (s : Of S) → Ok S s → (k : ℕ) → k < L .n → (w : Of E) (f : Of E → Of E)
@@ -317,14 +315,21 @@ module _ {E K O : Plain} (L : Slots E K O) where
     inside = λ t k l s is h. element t k l s is h;
   }
 
-  abbrev pub shared : Way S K
-  shared = record {
-    path = λ st. field 1 ∷ st;
-    off = λ o. o + beside;
-    get = L .shared;
-    put = slots.second L .put;
-    is-get = slots.shared-is L;
-    is-put = λ s x is x-is. slots.second L .is-put s is x x-is;
-    follows = λ t w. fld t refl w;
-    inside = λ t s is h. next t s is h;
+  -- one of the fields behind the array
+  abbrev pub wayTo : {F : Plain} → slots.Field L F → Way S F
+  wayTo G = record {
+    path = λ st. field (G .at) ∷ st;
+    off = λ o. o + G .offset;
+    get = G .get;
+    put = G .put;
+    is-get = G .is-get;
+    is-put = λ s x is x-is. G .is-put s is x x-is;
+    follows = λ t w. fld t (G .found) w;
+    inside = λ t s is h. alone t G s is h;
   }
+
+  abbrev pub shared : Way S K
+  shared = wayTo (slots.second L)
+
+  abbrev pub last : Way S O
+  last = wayTo (slots.third L)

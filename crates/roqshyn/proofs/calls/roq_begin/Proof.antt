@@ -13,9 +13,10 @@ use Rattle.windows.proofs.inner.portion.begin.Symbol as value
 use Rattle.windows.proofs.inner.portion.begin.Met as value′
 use Rattle.roqshyn.proofs.forms.Field as form
 use Rattle.roqshyn.proofs.forms.Args.{value as plain}
-use Rattle.roqshyn.proofs.forms.Slots.{second}
+use Rattle.roqshyn.proofs.forms.Slots as slots
+use Rattle.roqshyn.proofs.forms.Inside as way
 use Rattle.roqshyn.proofs.forms.Steps.{asks-nothing}
-use Rattle.roqshyn.proofs.forms.Parameters.{window, shared, displays, number, flag, windows, sharedDone}
+use Rattle.roqshyn.proofs.forms.Parameters.{shared, number, flag, windows, sharedDone}
 use Rattle.roqshyn.proofs.calls.roq_begin as f
 use Rattle.roqshyn.proofs.calls.roq_begin.Key as key
 use Rattle.roqshyn.proofs.calls.roq_begin.Statement.{statement}
@@ -26,7 +27,7 @@ unfolding code.routine
 roq-begin-spec 𝓤 H 𝓜 𝓖 𝓡 =
     entered 𝓤 H (tripleOf 𝓤 H (𝓖 .A) f.signature (f.spec 𝓤 H (𝓖 .A) (𝓜 .mem) (𝓡 .run)))
     (tables 𝓤 H 𝓜 𝓡 code.env .C) (tables 𝓤 H 𝓜 𝓡 code.env .Λ) key.name code.function (code.unfolded 𝓤 H 𝓜 𝓡)
-    (form.meets window shared displays shared number 0 (plain flag ∷ []) windows (second windows) sharedDone
+    (form.meets (slots.plain windows) shared number 0 (plain flag ∷ []) (way.shared windows) sharedDone
     Given (λ k κs a. Unit {0}) (λ k κs a r e. MeetsShared (Begin (a .0)) k r)
     (λ κs s a n t e. Meets (Begin (a .0)) s (View.done t n))
     (λ κs s a h. tt) (λ κs s a r ws h d. d s h refl)
