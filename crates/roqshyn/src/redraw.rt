@@ -22,6 +22,8 @@ use geom::inner::answers::OK;
 use geom::inner::answers::SCREEN_SIZE;
 use geom::inner::answers::STORE_LENGTH;
 use geom::inner::bools::either;
+use geom::inner::lent::pixels_fit;
+use geom::inner::lent::store_fits;
 use geom::inner::rect16::Rect16;
 use order::rects;
 use order::rects::Rects;
@@ -30,7 +32,6 @@ use window::ids::Place;
 use window::ids::WinId;
 use windows::Session;
 use windows::inner::frames::frames;
-use windows::inner::redraw::screen_fits;
 
 // The numbers of the windows in the render order, lowest first.
 #[repr(C)]
@@ -98,6 +99,18 @@ fn lay_out(s: Session, full: bool) -> Layout
     }
 }
 
+// No turn.
+fn refused(order: Order, layout: Layout, answer: u32) -> RedrawPlan
+    ensures { λ r. ⌜ r ≡ record { n = 0; answer = answer; order = order; layout = layout } ⌝ }
+{
+    RedrawPlan {
+        n: 0,
+        answer,
+        order,
+        layout,
+    }
+}
+
 // The questions are asked, of the lengths of store and screen.
 pub fn plan(
     s: Session,
@@ -114,26 +127,15 @@ pub fn plan(
     let layout = lay_out(s, full);
     let ids = s.shared.order;
     let order = Order { ids };
-    let c = s.shared.c as usize;
-    if store == 16 * c {
-        if screen_fits(width, height, screen) {
-            return RedrawPlan {
-                n: s.shared.shown,
-                answer: OK,
-                order,
-                layout,
-            };
-        }
-        return RedrawPlan {
-            n: 0,
-            answer: SCREEN_SIZE,
-            order,
-            layout,
-        };
+    if !store_fits(store, s.shared.c) {
+        return refused(order, layout, STORE_LENGTH);
+    }
+    if !pixels_fit(width, height, screen) {
+        return refused(order, layout, SCREEN_SIZE);
     }
     RedrawPlan {
-        n: 0,
-        answer: STORE_LENGTH,
+        n: s.shared.shown,
+        answer: OK,
         order,
         layout,
     }

@@ -13,6 +13,7 @@ pub mod Shown
 pub mod Raised
 pub mod Layered
 pub mod Hidden
+pub mod Lent
 pub mod Store
 pub mod Pixels
 pub mod Maximised

@@ -175,8 +175,8 @@ impl Session {
         self,
         id: WinId,
         area: Rect,
-        data: &[u32],
         stride: usize,
+        data: &[u32],
         store: &mut [u32],
     ) -> Written
         requires { ⌜ Given self ⌝ }

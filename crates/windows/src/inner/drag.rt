@@ -20,7 +20,6 @@ ghost use Rattle.windows.specs.inner.Drag.{draggedWin, uncoveredWin, tur
 use crate::Session;
 use crate::Shared;
 use crate::inner::frames::frames;
-use crate::inner::maximise::in_use;
 use crate::inner::maximise::with_flag;
 use crate::inner::one::repaired;
 use crate::inner::one::slot;
@@ -39,6 +38,7 @@ use order::get_render_idx;
 use window::Window;
 use window::ids::Place;
 use window::ids::WinId;
+use window::ids::in_use;
 
 // Whose turns there are, in the first n places; whether windows are repaired, and whether a full redraw is owed.
 pub struct Turns {

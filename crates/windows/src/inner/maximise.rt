@@ -1,9 +1,7 @@
 // Maximising: document 02, N2. The call goes in two halves: the first asks the questions and resizes the window's
 // pixels in the store, the second has the window take its display. `update_dims` is in `update`.
 ghost use mathlib.Core.Path.{_≡_};
-ghost use mathlib.Core.Bool.{_&&_};
 ghost use Prim.Native.Nat.{_<_};
-ghost use lib.Dec.{ltb};
 ghost use lib.ListN.{set};
 ghost use Rattle.geom.specs.Rect16.{Small, rectOf};
 ghost use Rattle.window.specs.Represents.{RepWindow};
@@ -21,10 +19,12 @@ use geom::inner::answers::OK;
 use geom::inner::answers::STORE_LENGTH;
 use geom::inner::answers::UNKNOWN_ID;
 use geom::inner::answers::WINDOW_SIZE;
+use geom::inner::lent::store_fits;
 use geom::inner::rect16::Rect16;
 use winbuf::inner::resize::resize_store;
 use window::Window;
 use window::ids::WinId;
+use window::ids::in_use;
 
 // The window that a call of maximise is for, the display that it takes, and the answer.
 #[repr(C)]
@@ -64,32 +64,37 @@ impl Shared {
     }
 }
 
-// Question 3, of a number and whether the window there is in use.
-pub fn in_use(id: WinId, used: bool) -> bool
-    ensures { λ b. ⌜ b ≡ ltb (id .0) 16 && used ⌝ }
-{
-    if id.0 < 16 {
-        return used;
-    }
-    false
-}
-
 // The second half of maximise: the window takes its display, and its flag is set.
 pub fn apply(win: Window, mut shared: Shared, t: MaximisePlan) -> Changed
     requires { ⌜ RepWindow win × Small (rectOf (t .display)) × (t .answer ≡ 0 → t .id .0 < 16) ⌝ }
     ensures { λ r. ⌜ AppliesPlan win shared t r ⌝ }
 {
-    let mut window = win;
-    if t.answer == OK {
-        window = resized_to(win, t.display);
-        shared = shared.set_maximised(t.id, true);
-        shared = shared.owing();
+    if t.answer != OK {
+        return Changed {
+            window: win,
+            shared,
+            answer: t.answer,
+        };
     }
+    let window = resized_to(win, t.display);
+    shared = shared.set_maximised(t.id, true);
+    shared = shared.owing();
     Changed {
         window,
         shared,
-        answer: t.answer,
+        answer: OK,
     }
+}
+
+fn planned(at: usize, id: WinId, display: Rect16, answer: u32) -> MaximiseAt
+    ensures { λ r. ⌜ r ≡ record { at = at; what = record { id = id; display = display; answer = answer } } ⌝ }
+{
+    let what = MaximisePlan {
+        id,
+        display,
+        answer,
+    };
+    MaximiseAt { at, what }
 }
 
 // The first half of maximise: asks the questions and resizes the window's pixels.
@@ -104,30 +109,24 @@ pub fn plan(s: Session, id: WinId, store: &mut [u32]) -> MaximiseAt
     let old = areas[at];
     let displays = s.displays;
     let display = displays.display_of(old);
-    let mut answer: u32 = STORE_LENGTH;
-    let c = s.shared.c as usize;
-    if store.len() == 16 * c {
-        answer = UNKNOWN_ID;
-        if in_use(id, used[at]) {
-            answer = WINDOW_SIZE;
-            if fits(display, s.shared.c) {
-                answer = OK;
-                resize_store(
-                    store,
-                    at * c,
-                    c,
-                    old.w,
-                    old.h as usize,
-                    display.w,
-                    display.h as usize,
-                );
-            }
-        }
+    if !store_fits(store.len(), s.shared.c) {
+        return planned(at, id, display, STORE_LENGTH);
     }
-    let what = MaximisePlan {
-        id,
-        display,
-        answer,
-    };
-    MaximiseAt { at, what }
+    if !in_use(id, used[at]) {
+        return planned(at, id, display, UNKNOWN_ID);
+    }
+    if !fits(display, s.shared.c) {
+        return planned(at, id, display, WINDOW_SIZE);
+    }
+    let c = s.shared.c as usize;
+    resize_store(
+        store,
+        at * c,
+        c,
+        old.w,
+        old.h as usize,
+        display.w,
+        display.h as usize,
+    );
+    planned(at, id, display, OK)
 }

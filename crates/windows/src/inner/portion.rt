@@ -11,12 +11,13 @@ use crate::Shared;
 use crate::SharedDone;
 use crate::inner::frames::frames;
 use crate::inner::redraw::draw_window;
-use crate::inner::redraw::screen_fits;
 use geom::inner::answers::NO_WALK;
 use geom::inner::answers::OK;
 use geom::inner::answers::SCREEN_SIZE;
 use geom::inner::answers::STORE_LENGTH;
 use geom::inner::bools::either;
+use geom::inner::lent::pixels_fit;
+use geom::inner::lent::store_fits;
 use order::places::window_at;
 use order::rects;
 use order::rects::Rects;
@@ -67,6 +68,17 @@ fn cleaned(mut win: Window, full: bool) -> Window
     win
 }
 
+// Nothing changes.
+fn refused(window: Window, shared: Shared, answer: u32) -> Changed
+    ensures { λ r. ⌜ r ≡ record { window = window; shared = shared; answer = answer } ⌝ }
+{
+    Changed {
+        window,
+        shared,
+        answer,
+    }
+}
+
 // A portion: the next window is drawn as a redraw draws it, and the walk goes on above it.
 pub fn treat(
     win: Window,
@@ -80,41 +92,38 @@ pub fn treat(
     requires { ⌜ Turned win shared next ⌝ }
     ensures { λ r. ⌜ TreatsAt (Call.Portion width height (now (store .entry)) (now (screen .entry))) win shared next r (now (screen .exit)) ⌝ }
 {
-    let mut window = win;
-    let mut answer: u32 = STORE_LENGTH;
-    let c = shared.c as usize;
-    if store.len() == 16 * c {
-        answer = SCREEN_SIZE;
-        if screen_fits(width, height, screen.len()) {
-            answer = NO_WALK;
-            let due = shared.due;
-            if due.walk.on {
-                let full = due.walk.full;
-                let above = next.above;
-                let numbers = above.numbers;
-                draw_window(
-                    win,
-                    next.base,
-                    &numbers,
-                    above.len,
-                    full,
-                    store,
-                    screen,
-                    width,
-                    height,
-                    shared.dimmed,
-                );
-                window = cleaned(win, full);
-                let rest = due.further(shared.shown);
-                shared.due = rest;
-                answer = OK;
-            }
-        }
+    if !store_fits(store.len(), shared.c) {
+        return refused(win, shared, STORE_LENGTH);
     }
+    if !pixels_fit(width, height, screen.len()) {
+        return refused(win, shared, SCREEN_SIZE);
+    }
+    let due = shared.due;
+    if !due.walk.on {
+        return refused(win, shared, NO_WALK);
+    }
+    let full = due.walk.full;
+    let above = next.above;
+    let numbers = above.numbers;
+    draw_window(
+        win,
+        next.base,
+        &numbers,
+        above.len,
+        full,
+        store,
+        screen,
+        width,
+        height,
+        shared.dimmed,
+    );
+    let window = cleaned(win, full);
+    let rest = due.further(shared.shown);
+    shared.due = rest;
     Changed {
         window,
         shared,
-        answer,
+        answer: OK,
     }
 }
 

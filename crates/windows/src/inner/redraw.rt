@@ -1,11 +1,10 @@
 // The call redraw: document 01, "Redraw, lowest window first".
 ghost use mathlib.Core.Path.{_≡_};
-ghost use mathlib.Core.Bool.{true, cond, _&&_, _||_};
+ghost use mathlib.Core.Bool.{true, cond, _||_};
 ghost use mathlib.Core.List.{[]};
 ghost use Prim.Native.Nat.{_+_, _*_, _≤_};
-ghost use lib.Dec.{leb, eqb};
+ghost use lib.Dec.{eqb};
 ghost use lib.ListN.{length};
-ghost use Rattle.geom.specs.Questions.{small};
 ghost use Rattle.window.specs.Represents.{RepWindow};
 ghost use Rattle.rules.specs.Visible.{rectsOf};
 ghost use Rattle.rules.specs.Redraw.{drawAll};
@@ -23,7 +22,8 @@ use geom::inner::answers::OK;
 use geom::inner::answers::SCREEN_SIZE;
 use geom::inner::answers::STORE_LENGTH;
 use geom::inner::bools::either;
-use geom::inner::small::MOST;
+use geom::inner::lent::pixels_fit;
+use geom::inner::lent::store_fits;
 use order::places::window_at;
 use order::rects;
 use order::rects::dirty_of;
@@ -36,25 +36,6 @@ use window::ids::Place;
 pub struct Drawn {
     pub full: bool,
     pub answer: u32,
-}
-
-// Question 8.
-pub fn screen_fits(sw: u32, sh: u32, len: usize) -> bool
-    ensures { λ t. ⌜ t ≡ leb 1 sw && small sw && (leb 1 sh && small sh) && eqb len (sw * sh) ⌝ }
-{
-    if sw < 1 {
-        return false;
-    }
-    if MOST < sw {
-        return false;
-    }
-    if sh < 1 {
-        return false;
-    }
-    if MOST < sh {
-        return false;
-    }
-    len == sw as usize * sh as usize
 }
 
 // The windows that a redraw went through, by their numbers: those shown, or none where it was refused.
@@ -155,16 +136,20 @@ pub fn draw(
     ensures { λ d. ⌜ Draws (Call.Redraw forced width height (now (store .entry)) (now (screen .entry))) s d (now (screen .exit)) ⌝ }
 {
     let full = either(forced, s.shared.due.owed);
-    let mut answer: u32 = STORE_LENGTH;
-    let c = s.shared.c as usize;
-    if store.len() == 16 * c {
-        answer = SCREEN_SIZE;
-        if screen_fits(width, height, screen.len()) {
-            draw_all(s, full, store, screen, width, height);
-            answer = OK;
-        }
+    if !store_fits(store.len(), s.shared.c) {
+        return Drawn {
+            full,
+            answer: STORE_LENGTH,
+        };
     }
-    Drawn { full, answer }
+    if !pixels_fit(width, height, screen.len()) {
+        return Drawn {
+            full,
+            answer: SCREEN_SIZE,
+        };
+    }
+    draw_all(s, full, store, screen, width, height);
+    Drawn { full, answer: OK }
 }
 
 // The second half: marks and damage of the windows that were drawn are cleared, the debt is paid, and a walk is dropped. A refused redraw

@@ -21,8 +21,6 @@ ghost use Rattle.windows.specs.inner.One.{Held, HeldAs, MeetsStoreAt, Me
 ghost use Rattle.windows.specs.inner.Pixels.{Becomes, RowsIn, PaintsAs, BlitsAs, Resizable};
 use crate::Changed;
 use crate::Shared;
-use crate::inner::maximise::in_use;
-use crate::inner::one::is_used;
 use geom::Dims;
 use geom::Intersection;
 use geom::Pos;
@@ -34,6 +32,7 @@ use geom::inner::answers::TOO_LARGE;
 use geom::inner::answers::UNKNOWN_ID;
 use geom::inner::answers::WINDOW_SIZE;
 use geom::inner::is_empty;
+use geom::inner::lent::store_fits;
 use geom::inner::rect16::Rect16;
 use geom::inner::small::is_small;
 use geom::inner::small::is_small_size;
@@ -46,6 +45,7 @@ use window::Window;
 use window::damage::Damage;
 use window::damage::add_dirty;
 use window::ids::WinId;
+use window::ids::in_use;
 
 // A window's damage after a fill or a blit; the answer, and how many pixels of the store differ.
 #[repr(C)]
@@ -124,8 +124,8 @@ fn blit_part(
     at: Rect16,
     base: usize,
     area: Rect,
-    data: &[u32],
     stride: usize,
+    data: &[u32],
     store: &mut [u32],
 ) -> usize
     requires { ⌜ RowsIn (length (now store)) base at × Small area × (isEmpty area ≡ false) ⌝ }
@@ -157,8 +157,8 @@ fn blit_rect(
     old: Damage,
     base: usize,
     area: Rect,
-    data: &[u32],
     stride: usize,
+    data: &[u32],
     store: &mut [u32],
 ) -> Painted
     requires { ⌜ RowsIn (length (now store)) base at × RepDamage old × Small area ⌝ }
@@ -167,7 +167,7 @@ fn blit_rect(
     if is_empty(area) {
         return unpainted(old, OK);
     }
-    let altered = blit_part(at, base, area, data, stride, store);
+    let altered = blit_part(at, base, area, stride, data, store);
     let damage = damaged(old, at, area);
     let result = Altered {
         answer: OK,
@@ -227,8 +227,7 @@ pub fn fill(
     requires { ⌜ HeldAs (id .0) used at damage c ⌝ }
     ensures { λ r. ⌜ MeetsAlteredAs (id .0) (Write.fill area colour) (now (store .entry)) used at damage c r (now (store .exit)) ⌝ }
 {
-    let pixels = c as usize;
-    if store.len() != 16 * pixels {
+    if !store_fits(store.len(), c) {
         return unpainted(damage, STORE_LENGTH);
     }
     if !in_use(id, used) {
@@ -237,7 +236,8 @@ pub fn fill(
     if !is_small(area) {
         return unpainted(damage, TOO_LARGE);
     }
-    fill_rect(at, damage, id.0 as usize * pixels, area, colour, store)
+    let base = id.0 as usize * c as usize;
+    fill_rect(at, damage, base, area, colour, store)
 }
 
 pub fn blit(
@@ -254,8 +254,7 @@ pub fn blit(
     requires { ⌜ HeldAs (id .0) used at damage c ⌝ }
     ensures { λ r. ⌜ MeetsAlteredAs (id .0) (Write.blit area (now («data» .entry)) stride) (now (store .entry)) used at damage c r (now (store .exit)) ⌝ }
 {
-    let pixels = c as usize;
-    if store.len() != 16 * pixels {
+    if !store_fits(store.len(), c) {
         return unpainted(damage, STORE_LENGTH);
     }
     if !in_use(id, used) {
@@ -267,15 +266,19 @@ pub fn blit(
     if stride < 1 {
         return unpainted(damage, STRIDE);
     }
-    blit_rect(
-        at,
-        damage,
-        id.0 as usize * pixels,
-        area,
-        data,
-        stride,
-        store,
-    )
+    let base = id.0 as usize * c as usize;
+    blit_rect(at, damage, base, area, stride, data, store)
+}
+
+// Nothing changes.
+fn refused(window: Window, shared: Shared, answer: u32) -> Changed
+    ensures { λ r. ⌜ r ≡ record { window = window; shared = shared; answer = answer } ⌝ }
+{
+    Changed {
+        window,
+        shared,
+        answer,
+    }
 }
 
 pub fn resize(
@@ -289,28 +292,26 @@ pub fn resize(
     requires { ⌜ Held (id .0) win shared ⌝ }
     ensures { λ r. ⌜ MeetsStoreAt (Call.Resize (id .0) w h (now (store .entry))) (id .0) win shared r (now (store .exit)) ⌝ }
 {
-    let mut window = win;
-    let mut answer: u32 = STORE_LENGTH;
-    let c = shared.c as usize;
-    if store.len() == 16 * c {
-        answer = UNKNOWN_ID;
-        if is_used(win, id) {
-            answer = TOO_LARGE;
-            let size = Dims::new(w, h);
-            if is_small_size(size) {
-                answer = WINDOW_SIZE;
-                if w * h <= shared.c {
-                    answer = OK;
-                    window = resized(win, id.0 as usize * c, c, size, store);
-                    shared = shared.set_maximised(id, false);
-                    shared = shared.owing();
-                }
-            }
-        }
+    if !store_fits(store.len(), shared.c) {
+        return refused(win, shared, STORE_LENGTH);
     }
+    if !in_use(id, win.used) {
+        return refused(win, shared, UNKNOWN_ID);
+    }
+    let size = Dims::new(w, h);
+    if !is_small_size(size) {
+        return refused(win, shared, TOO_LARGE);
+    }
+    if shared.c < w * h {
+        return refused(win, shared, WINDOW_SIZE);
+    }
+    let c = shared.c as usize;
+    let window = resized(win, id.0 as usize * c, c, size, store);
+    shared = shared.set_maximised(id, false);
+    shared = shared.owing();
     Changed {
         window,
         shared,
-        answer,
+        answer: OK,
     }
 }

@@ -23,6 +23,7 @@ use display::update::resize_all;
 use geom::inner::answers::OK;
 use geom::inner::answers::STORE_LENGTH;
 use geom::inner::answers::WINDOW_SIZE;
+use geom::inner::lent::store_fits;
 use geom::inner::rect16::Rect16;
 use window::Window;
 use window::ids::WinId;
@@ -106,14 +107,13 @@ pub fn plan_moves(s: Session, store: &mut [u32]) -> DimsPlan
     let flags = s.shared.maximised;
     let displays = s.displays;
     let moves = displays.moves(old, used, flags);
-    let c = s.shared.c as usize;
-    if store.len() != 16 * c {
+    if !store_fits(store.len(), s.shared.c) {
         return refused(moves, STORE_LENGTH);
     }
     if !all_fit(moves, s.shared.c) {
         return refused(moves, WINDOW_SIZE);
     }
-    resize_all(store, c, old, moves);
+    resize_all(store, s.shared.c as usize, old, moves);
     accepted(old, moves)
 }
 

@@ -1,8 +1,10 @@
 -- Questions 1 and 8; the order and the layout are the session's.
-use Prim.Native.Nat.{suc}
+use Prim.Native.Nat.{suc, _*_}
 use mathlib.Core.Path.{_≡_, refl, sym, subst, _∙_}
 use mathlib.Core.Bool.{Bool, _||_}
 use native.Mathlib.Nat.{suc-ne-zero}
+use borrow.Author.Tests.{not-true, not-false}
+use Rattle.windows.proofs.laws.Lent.{fits, unfit}
 use Rattle.roqshyn.specs.inner.Redraw.{LaidOut}
 use Rattle.roqshyn.proofs.laws.Redraw.{no-screen, no-store}
 use borrow.Author.Needs.{needs}
@@ -19,49 +21,84 @@ either-requires c κs = search needs
 lay-out-requires : tie.Need-lay-out-requires
 lay-out-requires c κs = c .before .pre
 
-cast-c : tie.Need-cast-c
-cast-c c = search needs
+-- the order, and the layout just before, from where question 1 was asked
+abbrev laid-out : tie.After-store-fits → tie.After-lay-out
+laid-out c = c .before .before .before
 
-mul-if1 : tie.Need-mul-if1
-mul-if1 c = search needs
+-- questions 1 and 8 are answered yes
+whole : (c : tie.Else1) → let a = laid-out (c .before) .before .before .args in a .store ≡ 16 * a .s .shared .c
+whole c = fits _ _ (c .before .store-fits .ensures) (c .if1 .left)
 
-screen-fits-requires : tie.Need-screen-fits-requires
-screen-fits-requires c κs = search needs
+store-fits-requires : tie.Need-store-fits-requires
+store-fits-requires c κs = search needs
+
+refused-requires : tie.Need-refused-requires
+refused-requires c κs = search needs
 
 returns : tie.Need-returns
 returns c =
-    let q = c .before in
-    let t = q .before in
-    record {
-      order = refl;
-      layout = laid (t .before .before .before);
-      accepted = λ e. (refl, record { whole = t .if1 .taken; fits = sym (q .screen-fits .ensures) ∙ c .if2 .taken });
-      refused = λ n. absurd (n refl);
-    }
-
-returns-2 : tie.Need-returns-2
-returns-2 c =
-    let q = c .before in
-    let t = q .before in
-    let y = t .before .before .before in
+    let t = c .before in
+    let y = laid-out (t .before) in
     let s = y .before .before in
-    record {
-      order = refl;
-      layout = laid y;
-      accepted = λ e. absurd (suc-ne-zero 7 e);
-      refused = λ n. (refl, no-screen (s .args .s) (s .args .forced) (s .args .width) (s .args .height) _ _ (s .pre) (t .if1 .taken) (sym (q .screen-fits .ensures) ∙ c .if2 .left));
-    }
-
-returns-3 : tie.Need-returns-3
-returns-3 c =
-    let y = c .before .before .before in
-    let s = y .before .before in
-    record {
+    rw (c .refused .ensures)
+    (record {
       order = refl;
       layout = laid y;
       accepted = λ e. absurd (suc-ne-zero 0 e);
-      refused = λ n. (refl, no-store (s .args .s) (s .args .forced) (s .args .width) (s .args .height) _ _ (s .pre) (c .if1 .left));
+      refused = λ n. (
+        refl,
+        no-store (s .args .s) (s .args .forced) (s .args .width) (s .args .height) _ _ (s .pre)
+            (unfit _ _ (t .before .store-fits .ensures) (t .if1 .taken)),
+      );
+    })
+
+pixels-fit-requires : tie.Need-pixels-fit-requires
+pixels-fit-requires c κs = search needs
+
+refused-requires-2 : tie.Need-refused-requires-2
+refused-requires-2 c κs = search needs
+
+returns-2 : tie.Need-returns-2
+returns-2 c =
+    let t = c .before in
+    let q = t .before in
+    let y = laid-out (q .before .before) in
+    let s = y .before .before in
+    rw (c .refused2 .ensures)
+    (record {
+      order = refl;
+      layout = laid y;
+      accepted = λ e. absurd (suc-ne-zero 7 e);
+      refused = λ n. (
+        refl,
+        no-screen (s .args .s) (s .args .forced) (s .args .width) (s .args .height) _ _ (s .pre) (whole (q .before))
+            (sym (q .pixels-fit .ensures) ∙ not-true _ (t .if2 .taken)),
+      );
+    })
+
+returns-3 : tie.Need-returns-3
+returns-3 c =
+    let q = c .before in
+    record {
+      order = refl;
+      layout = laid (laid-out (q .before .before));
+      accepted = λ e. (
+        refl,
+        record { whole = whole (q .before); fits = sym (q .pixels-fit .ensures) ∙ not-false _ (c .if2 .left) },
+      );
+      refused = λ n. absurd (n refl);
     }
 
 pub plan-spec : {M : Type 1} → statement M
-plan-spec = tie.close (tie.spec either-requires lay-out-requires cast-c mul-if1 screen-fits-requires returns returns-2 returns-3)
+plan-spec =
+    tie.close
+    (tie.spec
+    either-requires
+    lay-out-requires
+    store-fits-requires
+    refused-requires
+    returns
+    pixels-fit-requires
+    refused-requires-2
+    returns-2
+    returns-3)

@@ -5,6 +5,7 @@ use mathlib.Core.Bool.{true, false, cond}
 use mathlib.Core.List.{List, [], _∷_}
 use native.Mathlib.Omega.{arith}
 use lib.Dec.{leb}
+use lib.ListN.{length}
 use borrow.Author.Tests.{le-leb, lt-leb, not-true, not-false}
 use Rattle.geom.specs.declared.Rect.{Rect}
 use Rattle.geom.specs.Questions.{_is_}
@@ -16,6 +17,7 @@ use Rattle.rules.specs.Store.{blitAt}
 use Rattle.rules.specs.Calls.{Blit, does, accepted}
 use Rattle.rules.specs.Panels as Panels
 use Rattle.windows.specs.View.{blitWin}
+use Rattle.windows.proofs.laws.Lent.{fits, unfit}
 use Rattle.windows.proofs.laws.Store.{Rule, Counts, Writable, writable, not-whole, not-used, no, small-rect, set-unless}
 use Rattle.windows.proofs.laws.Store.{place-as, stored-as, accepted-as, refused-as}
 use borrow.Author.Needs.{needs}
@@ -40,26 +42,33 @@ unfolding does Spec.blit
 counts {id} {a} {d} {stride} {store} =
     record { counts = λ g. altered-cond (accepted g (Blit id a d stride store)) store (blitAt (id * g .c) (win g id) a d stride store) }
 
--- where the call starts, from questions 1 and 3 on
-abbrev start : tie.Else2 → tie.Start
-start c = c .before .before .before .before .before
+-- the start, and where questions 1 and 3 are answered yes
+abbrev entry : tie.Else1 → tie.Start
+entry c = let fit = c .before in fit .before .before .before
 
--- they are answered yes
+abbrev start : tie.Else2 → tie.Start
+start c = entry (c .before .before)
+
+whole : (c : tie.Else1) → length (entry c .args .store .now) ≡ 16 * entry c .args .c
+whole c = fits _ _ (c .before .store-fits .ensures) (c .if1 .left)
+
 known : (c : tie.Else2) → let a = start c .args in Writable (a .id .0) (a .used) (a .c) (a .store .now)
-known c = writable (c .before .before .if1 .left) (c .before .in-use .ensures) (not-false _ (c .if2 .left))
+known c = writable (whole (c .before .before)) (c .before .in-use .ensures) (not-false _ (c .if2 .left))
 
 -- and question 5
 small : (c : tie.Else3) → smallRect (start (c .before .before) .args .area) ≡ true
 small c = sym (c .before .is-small .ensures) ∙ not-false _ (c .if3 .left)
 
-mul-if1 : tie.Need-mul-if1
-mul-if1 c = search needs
+store-fits-requires : tie.Need-store-fits-requires
+store-fits-requires c κs = search needs
 
 unpainted-requires : tie.Need-unpainted-requires
 unpainted-requires c κs = search needs
 
 returns : tie.Need-returns
-returns c = refused-as _ counts 0 (c .unpainted .ensures) (λ w k. not-whole rule (c .before .if1 .taken))
+returns c =
+    let t = c .before in
+    refused-as _ counts 0 (c .unpainted .ensures) (λ w k. not-whole rule (unfit _ _ (t .before .store-fits .ensures) (t .if1 .taken)))
 
 in-use-requires : tie.Need-in-use-requires
 in-use-requires c κs = search needs
@@ -71,7 +80,7 @@ returns-2 : tie.Need-returns-2
 returns-2 c =
     let t = c .before in
     refused-as _ counts 2 (c .unpainted2 .ensures)
-    (λ w k. not-used rule (t .before .before .if1 .left) (t .before .in-use .ensures) (not-true _ (t .if2 .taken)))
+    (λ w k. not-used rule (whole (t .before .before)) (t .before .in-use .ensures) (not-true _ (t .if2 .taken)))
 
 is-small-requires : tie.Need-is-small-requires
 is-small-requires c κs = search needs
@@ -96,11 +105,11 @@ returns-4 c =
     refused-as _ counts 6 (c .unpainted4 .ensures)
     (λ w k. no rule (known t) 6 (rw (small f, lt-leb 1 (start t .args .stride) (c .before .if4 .taken))))
 
-cast-blit-rect : tie.Need-cast-blit-rect
-cast-blit-rect c = search needs
+cast-base : tie.Need-cast-base
+cast-base c = search needs
 
-mul-blit-rect : tie.Need-mul-blit-rect
-mul-blit-rect c =
+mul-base : tie.Need-mul-base
+mul-base c =
     let t = c .before .before .before .before in
     omega (arith, place-as (start t .pre) (known t))
 
@@ -129,7 +138,7 @@ pub blit-spec : {M : Type 1} → statement M
 blit-spec =
     tie.close
     (tie.spec
-    mul-if1
+    store-fits-requires
     unpainted-requires
     returns
     in-use-requires
@@ -140,8 +149,8 @@ blit-spec =
     returns-3
     unpainted-requires-4
     returns-4
-    cast-blit-rect
-    mul-blit-rect
+    cast-base
+    mul-base
     blit-rect-requires
     same-length
     returns-5)

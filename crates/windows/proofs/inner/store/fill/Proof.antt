@@ -4,6 +4,7 @@ use mathlib.Core.Path.{_≡_, refl, sym, ap, _∙_}
 use mathlib.Core.Bool.{true, false, cond}
 use mathlib.Core.List.{List, [], _∷_}
 use native.Mathlib.Omega.{arith}
+use lib.ListN.{length}
 use borrow.Author.Tests.{not-true, not-false}
 use Rattle.geom.specs.declared.Rect.{Rect}
 use Rattle.geom.specs.Questions.{_is_}
@@ -15,6 +16,7 @@ use Rattle.rules.specs.Store.{bounds, filledAt}
 use Rattle.rules.specs.Calls.{Fill, does, accepted}
 use Rattle.rules.specs.Panels as Panels
 use Rattle.windows.specs.View.{filledWin}
+use Rattle.windows.proofs.laws.Lent.{fits, unfit}
 use Rattle.windows.proofs.laws.Store.{Rule, Counts, Writable, writable, not-whole, not-used, no, small-rect, set-if}
 use Rattle.windows.proofs.laws.Store.{place-as, stored-as, accepted-as, refused-as}
 use borrow.Author.Needs.{needs}
@@ -38,26 +40,33 @@ unfolding does Spec.fill
 counts {id} {a} {v} {store} =
     record { counts = λ g. altered-cond (accepted g (Fill id a v store)) store (filledAt (id * g .c) (win g id) a v store) }
 
--- where the call starts, from questions 1 and 3 on
-abbrev start : tie.Else2 → tie.Start
-start c = c .before .before .before .before
+-- the start, and where questions 1 and 3 are answered yes
+abbrev entry : tie.Else1 → tie.Start
+entry c = c .before .before .before
 
--- they are answered yes
+abbrev start : tie.Else2 → tie.Start
+start c = entry (c .before .before)
+
+whole : (c : tie.Else1) → length (entry c .args .store .now) ≡ 16 * entry c .args .c
+whole c = fits _ _ (c .before .store-fits .ensures) (c .if1 .left)
+
 known : (c : tie.Else2) → let a = start c .args in Writable (a .id .0) (a .used) (a .c) (a .store .now)
-known c = writable (c .before .before .if1 .left) (c .before .in-use .ensures) (not-false _ (c .if2 .left))
+known c = writable (whole (c .before .before)) (c .before .in-use .ensures) (not-false _ (c .if2 .left))
 
 -- and question 5
 small : (c : tie.Else3) → smallRect (start (c .before .before) .args .area) ≡ true
 small c = sym (c .before .is-small .ensures) ∙ not-false _ (c .if3 .left)
 
-mul-if1 : tie.Need-mul-if1
-mul-if1 c = search needs
+store-fits-requires : tie.Need-store-fits-requires
+store-fits-requires c κs = search needs
 
 unpainted-requires : tie.Need-unpainted-requires
 unpainted-requires c κs = search needs
 
 returns : tie.Need-returns
-returns c = refused-as _ counts 0 (c .unpainted .ensures) (λ w k. not-whole rule (c .before .if1 .taken))
+returns c =
+    let t = c .before in
+    refused-as _ counts 0 (c .unpainted .ensures) (λ w k. not-whole rule (unfit _ _ (t .before .store-fits .ensures) (t .if1 .taken)))
 
 in-use-requires : tie.Need-in-use-requires
 in-use-requires c κs = search needs
@@ -69,7 +78,7 @@ returns-2 : tie.Need-returns-2
 returns-2 c =
     let t = c .before in
     refused-as _ counts 2 (c .unpainted2 .ensures)
-    (λ w k. not-used rule (t .before .before .if1 .left) (t .before .in-use .ensures) (not-true _ (t .if2 .taken)))
+    (λ w k. not-used rule (whole (t .before .before)) (t .before .in-use .ensures) (not-true _ (t .if2 .taken)))
 
 is-small-requires : tie.Need-is-small-requires
 is-small-requires c κs = search needs
@@ -84,11 +93,11 @@ returns-3 c =
     let e : smallRect (start t .args .area) ≡ false = sym (i .is-small .ensures) ∙ not-true _ (c .before .if3 .taken) in
     refused-as _ counts 4 (c .unpainted3 .ensures) (λ w k. no rule (known t) 4 (rw e))
 
-cast-fill-rect : tie.Need-cast-fill-rect
-cast-fill-rect c = search needs
+cast-base : tie.Need-cast-base
+cast-base c = search needs
 
-mul-fill-rect : tie.Need-mul-fill-rect
-mul-fill-rect c =
+mul-base : tie.Need-mul-base
+mul-base c =
     let t = c .before .before .before in
     omega (arith, place-as (start t .pre) (known t))
 
@@ -115,7 +124,7 @@ pub fill-spec : {M : Type 1} → statement M
 fill-spec =
     tie.close
     (tie.spec
-    mul-if1
+    store-fits-requires
     unpainted-requires
     returns
     in-use-requires
@@ -124,8 +133,8 @@ fill-spec =
     is-small-requires
     unpainted-requires-3
     returns-3
-    cast-fill-rect
-    mul-fill-rect
+    cast-base
+    mul-base
     fill-rect-requires
     same-length
     returns-4)
