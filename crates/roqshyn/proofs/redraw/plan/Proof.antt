@@ -23,7 +23,7 @@ lay-out-requires c κs = c .before .pre
 
 -- the order, and the layout just before, from where question 1 was asked
 abbrev laid-out : tie.After-store-fits → tie.After-lay-out
-laid-out c = c .before .before .before
+laid-out c = c .before .before
 
 -- questions 1 and 8 are answered yes
 whole : (c : tie.Else1) → let a = laid-out (c .before) .before .before .args in a .store ≡ 16 * a .s .shared .c
