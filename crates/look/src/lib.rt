@@ -7,12 +7,11 @@
 ghost use mathlib.Core.Path.{_≡_};
 ghost use Prim.Native.Nat.{_+_, _*_, _≤_};
 ghost use lib.ListN.{length};
-ghost use Rattle.look.specs.View.{isSide, targetFits};
 ghost use Rattle.look.specs.inner.Steps.{Looks};
 use geom::inner::answers::LOOK;
 use geom::inner::answers::OK;
 use geom::inner::answers::TARGET_SIZE;
-use geom::inner::small::MOST;
+use geom::inner::lent::pixels_fit;
 use rows::look_rows;
 use whole::Whole;
 use whole::whole_of;
@@ -50,25 +49,6 @@ pub struct Steps {
     pub step: u64,
 }
 
-// A width or height from 1 to 32,767.
-fn is_side(n: u32) -> bool
-    ensures { λ r. ⌜ r ≡ isSide n ⌝ }
-{
-    1 <= n && n <= MOST
-}
-
-// Question 23, of a target of `len` pixels.
-fn target_fits(len: usize, tw: u32, th: u32) -> bool
-    ensures { λ r. ⌜ r ≡ targetFits len tw th ⌝ }
-{
-    if is_side(tw) {
-        if is_side(th) {
-            return len == tw as usize * th as usize;
-        }
-    }
-    false
-}
-
 // Questions 22 and 23, and what the target shows of a window of w by h whose pixels begin at `base` of the store.
 pub fn look_window(
     look: Look,
@@ -93,9 +73,9 @@ pub fn look_window(
     let Whole::Steps(t) = whole else {
         return LOOK;
     };
-    if target_fits(target.len(), tw, th) {
-        look_rows(target, tw as u16, th as usize, store, base, w, h, t);
-        return OK;
+    if !pixels_fit(tw, th, target.len()) {
+        return TARGET_SIZE;
     }
-    TARGET_SIZE
+    look_rows(target, tw as u16, th as usize, store, base, w, h, t);
+    OK
 }
