@@ -19,18 +19,6 @@ use geom::Rect;
 use geom::inner;
 use geom::inner::numbers;
 
-// Writes a rectangle at place k.
-fn write_rect(table: &mut [u32; 68], k: usize, r: Rect)
-    requires { ⌜ k ≤ 16 ⌝ }
-    ensures { λ _. ⌜ now (table .exit) ≡ sets (now (table .entry)) (4 * k) (numbers (r ∷ [])) ⌝ }
-{
-    let at = 4 * k;
-    table[at] = r.pos.x;
-    table[at + 1] = r.pos.y;
-    table[at + 2] = r.dims.w;
-    table[at + 3] = r.dims.h;
-}
-
 // Writes r at place k if it meets `at`; returns the next free place.
 fn keep(at: Rect, r: Rect, table: &mut [u32; 68], k: usize) -> usize
     requires { ⌜ Fits at × Fits r × (k < 16) ⌝ }
@@ -38,7 +26,7 @@ fn keep(at: Rect, r: Rect, table: &mut [u32; 68], k: usize) -> usize
     ensures { λ _. ⌜ now (table .exit) ≡ cond (meets at r) (sets (now (table .entry)) (4 * k) (numbers (r ∷ []))) (now (table .entry)) ⌝ }
 {
     if overlap(at, r) {
-        write_rect(table, k, r);
+        numbers::write_rect(table, k, r);
         return k + 1;
     }
     k
@@ -49,7 +37,7 @@ pub fn gather(at: Rect, above: &[u32], n: usize, table: &mut [u32; 68]) -> usize
     requires { ⌜ Fits at × Lent n (now above) × (n ≤ 16) × (length (now table) ≡ 68) ⌝ }
     ensures { λ k. ⌜ Gathered at n (now (above .entry)) k (now (table .exit)) ⌝ }
 {
-    write_rect(table, 16, at);
+    numbers::write_rect(table, 16, at);
     let mut k: usize = 0;
     let mut i: usize = 0;
     while i < n {
