@@ -32,7 +32,7 @@ fn main() {
     let filled = shown.session.fill(panel, whole, 7, &mut store);
     check::expect(filled.altered == 4);
     let marked = filled.session.mark(panel);
-    let drawn = marked.session.redraw(false, &store, &mut screen, 3, 2);
+    let drawn = marked.session.redraw(false, 3, 2, &store, &mut screen);
     check::expect(drawn.answer == OK);
     check::expect(screen[1] == 7);
     check::expect(screen[2] == 5);

@@ -26,7 +26,7 @@ fn blit(s: Session, ns: &[u32; 4200], data: &[u32], store: &mut [u32]) -> Writte
 {
     let area = numbers::rect(ns, 1);
     let stride = numbers::wide(ns[5]);
-    s.blit(numbers::id(ns), area, data, stride, store)
+    s.blit(numbers::id(ns), area, stride, data, store)
 }
 
 fn part(s: Session, ns: &[u32; 4200], all: &[u32], count: usize, store: &mut [u32]) -> Written
@@ -109,10 +109,10 @@ fn draw(s: Session, k: u8, ns: &[u32; 4200], store: &[u32], screen: &mut [u32]) 
     ensures { λ r. ⌜ MeetsScreen (screenCall k (now (ns .entry)) (now (store .entry)) (now (screen .entry))) s r (now (screen .exit)) ⌝ }
 {
     if k == kind::PORTION {
-        return s.portion(store, screen, ns[0], ns[1]);
+        return s.portion(ns[0], ns[1], store, screen);
     }
     let forced = ns[0] == 1;
-    s.redraw(forced, store, screen, ns[1], ns[2])
+    s.redraw(forced, ns[1], ns[2], store, screen)
 }
 
 fn draw_part(

@@ -158,11 +158,11 @@ fn draw_whole(
     base: usize,
     above: &[u32],
     n: usize,
-    store: &[u32],
-    screen: &mut [u32],
+    dim: bool,
     sw: u32,
     sh: u32,
-    dim: bool,
+    store: &[u32],
+    screen: &mut [u32],
 )
     requires { ⌜ Small (rectOf area) × (base + area .w * area .h ≤ length (now store)) × Lent n (now above) × (n ≤ 16) ⌝ }
     requires { ⌜ (sw ≤ 32767) × (sh ≤ 32767) × (length (now screen) ≡ sw * sh) ⌝ }
@@ -176,11 +176,11 @@ fn draw_whole(
         n,
         &whole,
         1,
-        store,
-        screen,
+        dim,
         sw,
         sh,
-        dim,
+        store,
+        screen,
     );
 }
 
@@ -193,18 +193,18 @@ fn draw_area(
     above: &[u32],
     n: usize,
     full: bool,
-    store: &[u32],
-    screen: &mut [u32],
+    dim: bool,
     sw: u32,
     sh: u32,
-    dim: bool,
+    store: &[u32],
+    screen: &mut [u32],
 )
     requires { ⌜ Small (rectOf area) × RepDamage damage × (base + area .w * area .h ≤ length (now store)) × Lent n (now above) × (n ≤ 16) ⌝ }
     requires { ⌜ (sw ≤ 32767) × (sh ≤ 32767) × (length (now screen) ≡ sw * sh) ⌝ }
     ensures { λ _. ⌜ now (screen .exit) ≡ paintedAt dim area damage full base (rectsOf n (now (above .entry))) (now (store .entry)) sw sh (now (screen .entry)) ⌝ }
 {
     if either(full, damage.len == 0) {
-        draw_whole(area, base, above, n, store, screen, sw, sh, dim);
+        draw_whole(area, base, above, n, dim, sw, sh, store, screen);
         return;
     }
     let dirty = Rects::of_damage(damage);
@@ -216,11 +216,11 @@ fn draw_area(
         n,
         &entries,
         dirty.len,
-        store,
-        screen,
+        dim,
         sw,
         sh,
-        dim,
+        store,
+        screen,
     );
 }
 
@@ -254,11 +254,11 @@ pub fn draw_turn(
             &numbers[next..],
             all.len - p - 1,
             l.full,
-            store,
-            screen,
+            l.dimmed,
             width,
             height,
-            l.dimmed,
+            store,
+            screen,
         );
         return Cleared {
             marked: false,

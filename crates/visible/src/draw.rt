@@ -119,11 +119,11 @@ pub fn draw(
     n: usize,
     dirty: &[u32],
     m: usize,
-    store: &[u32],
-    screen: &mut [u32],
+    dim: bool,
     sw: u32,
     sh: u32,
-    dim: bool,
+    store: &[u32],
+    screen: &mut [u32],
 )
     requires { ⌜ Small at × (base + width at * height at ≤ length (now store)) ⌝ }
     requires { ⌜ Lent n (now above) × (n ≤ 16) × Lent m (now dirty) ⌝ }

@@ -280,10 +280,10 @@ impl Session {
     pub fn redraw(
         self,
         forced: bool,
-        store: &[u32],
-        screen: &mut [u32],
         width: u32,
         height: u32,
+        store: &[u32],
+        screen: &mut [u32],
     ) -> Done
         requires { ⌜ Given self ⌝ }
         ensures { λ r. ⌜ MeetsScreen (Call.Redraw forced width height (now (store .entry)) (now (screen .entry))) self r (now (screen .exit)) ⌝ }
@@ -318,7 +318,7 @@ impl Session {
         }
     }
 
-    pub fn portion(self, store: &[u32], screen: &mut [u32], width: u32, height: u32) -> Done
+    pub fn portion(self, width: u32, height: u32, store: &[u32], screen: &mut [u32]) -> Done
         requires { ⌜ Given self ⌝ }
         ensures { λ r. ⌜ MeetsScreen (Call.Portion width height (now (store .entry)) (now (screen .entry))) self r (now (screen .exit)) ⌝ }
     {

@@ -104,10 +104,10 @@ pub fn blit_area(
     pitch: usize,
     left: usize,
     top: usize,
-    w: u16,
-    n: usize,
     src: &[u32],
     stride: usize,
+    w: u16,
+    n: usize,
 ) -> usize
     requires { ⌜ Inside (length (now px)) base pitch left top w n ⌝ }
     ensures { λ k. ⌜ Counted (writeRows n (λ r. base + (top + r) * pitch + left) (λ r. take w (part (r * stride) stride (now (src .entry)))) (now (px .entry))) (now (px .entry)) (now (px .exit)) k ⌝ }

@@ -111,11 +111,11 @@ pub fn treat(
         &numbers,
         above.len,
         full,
-        store,
-        screen,
+        shared.dimmed,
         width,
         height,
-        shared.dimmed,
+        store,
+        screen,
     );
     let window = cleaned(win, full);
     let rest = due.further(shared.shown);

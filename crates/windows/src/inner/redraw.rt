@@ -58,11 +58,11 @@ pub fn draw_window(
     above: &[u32],
     n: usize,
     full: bool,
-    store: &[u32],
-    screen: &mut [u32],
+    dim: bool,
     sw: u32,
     sh: u32,
-    dim: bool,
+    store: &[u32],
+    screen: &mut [u32],
 )
     requires { ⌜ RepWindow w × (base + w .at .w * w .at .h ≤ length (now store)) × Lent n (now above) × (n ≤ 16) ⌝ }
     requires { ⌜ (sw ≤ 32767) × (sh ≤ 32767) × (length (now screen) ≡ sw * sh) ⌝ }
@@ -80,17 +80,17 @@ pub fn draw_window(
             n,
             &entries,
             dirty.len,
-            store,
-            screen,
+            dim,
             sw,
             sh,
-            dim,
+            store,
+            screen,
         );
     }
 }
 
 // Draws every window, lowest first.
-fn draw_all(s: Session, full: bool, store: &[u32], screen: &mut [u32], sw: u32, sh: u32)
+fn draw_all(s: Session, full: bool, sw: u32, sh: u32, store: &[u32], screen: &mut [u32])
     requires { ⌜ Given s × Drawable s sw sh (now store) (now screen) ⌝ }
     ensures { λ _. ⌜ now (screen .exit) ≡ drawAll (group s) full (now (store .entry)) sw sh (group s .order) (now (screen .entry)) ⌝ }
 {
@@ -113,11 +113,11 @@ fn draw_all(s: Session, full: bool, store: &[u32], screen: &mut [u32], sw: u32, 
             &numbers[next..],
             n - p.0 - 1,
             full,
-            store,
-            screen,
+            s.shared.dimmed,
             sw,
             sh,
-            s.shared.dimmed,
+            store,
+            screen,
         );
         p = p.next();
     }
@@ -148,7 +148,7 @@ pub fn draw(
             answer: SCREEN_SIZE,
         };
     }
-    draw_all(s, full, store, screen, width, height);
+    draw_all(s, full, width, height, store, screen);
     Drawn { full, answer: OK }
 }
 

@@ -140,10 +140,10 @@ fn blit_part(
             at.w as usize,
             part.pos.x as usize,
             part.pos.y as usize,
-            part.dims.w as u16,
-            part.dims.h as usize,
             data,
             stride,
+            part.dims.w as u16,
+            part.dims.h as usize,
         ),
         Intersection::Apart => 0,
         // never: question 14 holds of both

@@ -12,10 +12,10 @@ use Rattle.windows.proofs.inner.redraw.draw_all.Statement.{statement}
 use Rattle.windows.proofs.inner.redraw.draw_all.Tie as tie
 
 abbrev Inv-loop : tie.InvT-loop
-Inv-loop full store screen₀ sw sh s n order numbers p₀ screen p = Drawing s full store sw sh screen₀ screen (p .0)
+Inv-loop full sw sh store screen₀ s n order numbers p₀ screen p = Drawing s full store sw sh screen₀ screen (p .0)
 
 abbrev μ-loop : tie.MeasureT-loop
-μ-loop full store screen₀ sw sh s n order numbers p₀ screen p = n - p .0
+μ-loop full sw sh store screen₀ s n order numbers p₀ screen p = n - p .0
 
 -- the start, from where the rectangles are lent, and that place from a turn
 abbrev entry : tie.After-from Inv-loop μ-loop → tie.Start Inv-loop μ-loop
@@ -77,7 +77,9 @@ element-copy-out-w : tie.Need-element-copy-out-w Inv-loop μ-loop
 element-copy-out-w c = omega (arith, at-low (c .before))
 
 cast-base : tie.Need-cast-base Inv-loop μ-loop
-cast-base c = search needs
+cast-base c =
+    let s = entry (after-from (c .before .before .before)) in
+    search (needs, s .good .0)
 
 mul-base : tie.Need-mul-base Inv-loop μ-loop
 mul-base c =
