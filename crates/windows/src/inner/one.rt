@@ -1,10 +1,8 @@
 // The calls that touch one window, as functions of that window and of what the windows share. A session by value and a
 // session behind a pointer both stand on them. A refused call hands back the window and what is shared as it got them.
 ghost use mathlib.Core.Path.{_≡_};
-ghost use mathlib.Core.Bool.{_&&_};
 ghost use mathlib.Core.Option.{some};
 ghost use Prim.Native.Nat.{_<_};
-ghost use lib.Dec.{ltb};
 ghost use Rattle.window.specs.Represents.{RepWindow, winOf};
 ghost use Rattle.rules.specs.Repair.{whollyRepaired};
 ghost use Rattle.rules.specs.Calls.{Call};
@@ -71,16 +69,6 @@ pub fn free_slot(s: Session) -> FreeSlot
     }
 }
 
-// Question 3, of the window that lies at the id's place.
-pub fn is_used(win: Window, id: WinId) -> bool
-    ensures { λ b. ⌜ b ≡ ltb (id .0) 16 && win .used ⌝ }
-{
-    if id.0 < 16 {
-        return win.used;
-    }
-    false
-}
-
 // A window of layer 0 that is not shown, not maximised and has no pixels, if the place of this id is free. Only the
 // fields of a new window are written: past the entries of its damage and queue the arrays stay as they were.
 pub fn create(mut win: Window, mut shared: Shared, id: WinId) -> CreatedOne
@@ -119,8 +107,8 @@ pub fn create(mut win: Window, mut shared: Shared, id: WinId) -> CreatedOne
     }
 }
 
-// A refused call.
-fn refused(win: Window, shared: Shared, answer: u32) -> Changed
+// A refused call: nothing changes.
+pub fn refused(win: Window, shared: Shared, answer: u32) -> Changed
     ensures { λ r. ⌜ r ≡ record { window = win; shared = shared; answer = answer } ⌝ }
 {
     Changed {

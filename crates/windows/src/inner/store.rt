@@ -21,6 +21,7 @@ ghost use Rattle.windows.specs.inner.One.{Held, HeldAs, MeetsStoreAt, Me
 ghost use Rattle.windows.specs.inner.Pixels.{Becomes, RowsIn, PaintsAs, BlitsAs, Resizable};
 use crate::Changed;
 use crate::Shared;
+use crate::inner::one::refused;
 use geom::Dims;
 use geom::Intersection;
 use geom::Pos;
@@ -268,17 +269,6 @@ pub fn blit(
     }
     let base = id.0 as usize * c as usize;
     blit_rect(at, damage, base, area, stride, data, store)
-}
-
-// Nothing changes.
-fn refused(window: Window, shared: Shared, answer: u32) -> Changed
-    ensures { λ r. ⌜ r ≡ record { window = window; shared = shared; answer = answer } ⌝ }
-{
-    Changed {
-        window,
-        shared,
-        answer,
-    }
 }
 
 pub fn resize(
