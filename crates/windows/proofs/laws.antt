@@ -8,6 +8,7 @@ pub mod Places
 pub mod Frames
 pub mod Framed
 pub mod Above
+pub mod Find
 pub mod Created
 pub mod Shown
 pub mod Raised

@@ -1,6 +1,7 @@
 -- What our own functions say: nobody has to believe it.
 pub mod One
 pub mod Frames
+pub mod Find
 pub mod Drawing
 pub mod Sharing
 pub mod Pixels

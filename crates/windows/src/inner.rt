@@ -3,6 +3,7 @@
 pub mod dimming;
 pub mod drag;
 pub mod events;
+pub mod find;
 pub mod frames;
 pub mod maximise;
 pub mod one;

@@ -35,7 +35,7 @@ use Rattle.windows.specs.declared.inner.redraw.Drawn.{Drawn}
 use Rattle.windows.specs.inner.Drawing.{painted, Draws}
 use Rattle.order.specs.inner.Rects.{Holds}
 use Rattle.windows.proofs.laws.Session.{given-ok, refuses, gives}
-use Rattle.windows.proofs.laws.Places.{order-length, id-at, shown-at, id-low, is-used, win-there, above-there}
+use Rattle.windows.proofs.laws.Places.{order-length, id-at, shown-at, id-low, win-there, above-there}
 use Rattle.order.proofs.laws.Order.{drop-map}
 use Rattle.order.proofs.laws.Rects.{lends}
 use Rattle.windows.proofs.laws.Above.{higher}
@@ -78,7 +78,9 @@ module _ (s : Session) (h : Given s) (i : ℕ) (l : i < s .shared .shown) (v : W
   drawn-under above a full store screen sw sh screen′ q =
       let at : Rect = rectOf (windowAt s (v .0) .at) in
       let vis : List Rect = map (relative at) (outsideAll (at ∷ []) (higher s (suc i))) in
-      let e : visible (group s) (v .0) ≡ vis = visible-is s (v .0) i at (shown-at s h i l v read) (is-used s h i l v read) (above-there s h i l v read) refl in
+      let e : visible (group s) (v .0) ≡ vis =
+      visible-is (group s) (v .0) at (higher s (suc i)) (shown-at s h i l v read) (ap (λ (w : Win). w .at) (win-there s h i l v read))
+      (ap (map (λ j. win (group s) j .at)) (above-there s h i l v read)) in
       q ∙ rw (a, regions-lent full (rects (windowAt s (v .0) .damage)) vis, marked-there full, e, win-there s h i l v read)
 
   -- of the rectangles of all shown windows, those behind its own are the ones above it

@@ -1,89 +1,80 @@
--- Question 3, then the sheet of a window that has a place; a hidden window has the sheet without bands.
-use mathlib.Core.Path.{refl, sym, ap, _∙_}
+-- Question 3, then the sheet of a window under those above it; a hidden window has the sheet without bands.
+use mathlib.Core.Path.{_≡_, refl}
+use mathlib.Core.Bool.{true}
 use native.Mathlib.Omega.{arith}
+use borrow.Author.Tests.{not-true, not-false}
 use Rattle.sheet.specs.inner.Numbers.{bandsIn, endIn}
-use Rattle.order.specs.inner.Order.{idxOf}
-use Rattle.windows.proofs.laws.Session.{used-at, used-past}
-use Rattle.windows.proofs.laws.Printed.{hidden-prints, no-sheet}
+use Rattle.windows.specs.View.{group}
+use Rattle.windows.specs.inner.Find.{Finds}
+use Rattle.windows.proofs.laws.Find.{its, small, lent, few}
+use Rattle.windows.proofs.laws.Printed.{no-sheet, hidden-prints, shown-prints}
 use borrow.Author.Needs.{needs}
 use Rattle.windows.proofs.Session.sheet.Statement.{statement}
 use Rattle.windows.proofs.Session.sheet.Tie as tie
 
-cast-at : tie.Need-cast-at
-cast-at c = search needs
+-- behind the look-up, from the test whether the window is shown
+abbrev after-find : tie.After-struct-known2 → tie.After-find
+after-find c = c .before .before .before .before
+
+abbrev entry : tie.After-find → tie.Start
+entry c = c .before .before .before .before
+
+-- what was found is so of this session's group
+found : (c : tie.After-find) → let a = entry c .args in Finds (group (a .self)) (a .id .0) (c .find .result)
+found c = c .find .ensures _ (its _ (entry c .pre) _ (c .before .frames .ensures))
+
+used : (c : tie.After-struct-known2) → after-find c .find .result .used ≡ true
+used c = not-false _ (c .before .before .if1 .left)
 
 frames-requires : tie.Need-frames-requires
 frames-requires c κs = search needs
 
-array-read-if2 : tie.Need-array-read-if2
-array-read-if2 c = search needs
-
-get-render-idx-requires : tie.Need-get-render-idx-requires
-get-render-idx-requires c κs = search needs
-
-enum-known-idx : tie.Need-enum-known-idx
-enum-known-idx c = search needs
-
-sheet-shown-requires : tie.Need-sheet-shown-requires
-sheet-shown-requires c κs =
-    let i = c .before .before .before .before in
-    let f = i .before .before .before .before in
-    (f .before .before .before .pre, sym (ap idxOf (c .before .before .idx .given .1)) ∙ i .get-render-idx .ensures)
-
-same-length : tie.Need-same-length
-same-length c = search needs
+find-requires : tie.Need-find-requires
+find-requires c κs = record { session = _; laid = its _ (c .before .before .before .pre) _ (c .frames .ensures) }
 
 returns : tie.Need-returns
-returns c = search needs
-
-enum-told : tie.Need-enum-told
-enum-told c = search needs
-
-slice-aggregate-write : tie.Need-slice-aggregate-write
-slice-aggregate-write c = search needs
+returns c = no-sheet _ _ _ (found (c .before .before)) _ (not-true _ (c .if1 .taken))
 
 write-requires : tie.Need-write-requires
 unfolding endIn
 write-requires c κs = (omega arith, refl, omega arith, omega arith)
 
-same-length-2 : tie.Need-same-length-2
-same-length-2 c = search needs
+same-length : tie.Need-same-length
+same-length c = search needs
 
 returns-2 : tie.Need-returns-2
 unfolding bandsIn
 returns-2 c =
     let w = c .before .before in
-    let e = w .before .before .before in
-    let i = e .before .before in
-    let u = i .before .before in
-    let f = u .before .before in
-    let s = f .before .before .before in
-    hidden-prints _ _ _ _ _ (s .pre) (sym (f .frames .ensures .used _ (f .before .if1 .taken)) ∙ u .if2 .taken) (sym (ap idxOf (e .enum-told .given .1)) ∙ i .get-render-idx .ensures) (w .write .ensures)
+    let t = w .before .before .before .before .before in
+    hidden-prints _ _ _ (found (after-find (t .before))) _ (used (t .before)) _ _ (not-true _ (t .if2 .taken)) (w .write .ensures)
+
+write-requires-2 : tie.Need-write-requires-2
+write-requires-2 c κs =
+    let f = after-find (c .before .before .before .before .before) in
+    let h = entry f .pre in
+    let e = found f in
+    (lent h e, few h e, small h e)
+
+same-length-2 : tie.Need-same-length-2
+same-length-2 c = search needs
 
 returns-3 : tie.Need-returns-3
 returns-3 c =
-    let f = c .before .before in
-    no-sheet _ _ _ (used-at _ _ ∙ sym (f .frames .ensures .used _ (f .before .if1 .taken)) ∙ c .if2 .left)
-
-returns-4 : tie.Need-returns-4
-returns-4 c = no-sheet _ _ _ (used-past _ _ (c .before .before .pre .rep) (c .if1 .left))
+    let w = c .before .before in
+    let y = w .before .before .before .before .before in
+    shown-prints _ _ _ (found (after-find (y .before))) _ (used (y .before)) _ _ (not-false _ (y .if2 .left)) (w .write2 .ensures)
 
 pub sheet-spec : {M : Type 1} → statement M
 sheet-spec =
     tie.close
     (tie.spec
-    cast-at
     frames-requires
-    array-read-if2
-    get-render-idx-requires
-    enum-known-idx
-    sheet-shown-requires
-    same-length
+    find-requires
     returns
-    enum-told
-    slice-aggregate-write
     write-requires
-    same-length-2
+    same-length
     returns-2
-    returns-3
-    returns-4)
+    write-requires-2
+    same-length-2
+    returns-3)
