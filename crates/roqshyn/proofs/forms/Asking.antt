@@ -28,13 +28,10 @@ at = record {
   handed = 4;
   new-element = 5;
   new-shared = 6;
-  offset = 8;
-  array = 9;
-  address = 10;
+  reading = record { offset = 8; array = 9; at = 10 };
   element = 11;
   shared = 12;
-  array-again = 13;
-  address-again = 14;
+  writing = record { offset = 8; array = 13; at = 14 };
 }
 
 -- E is the element's type, K the other field's, O that of the field which stays, X that of what belongs to the place, R

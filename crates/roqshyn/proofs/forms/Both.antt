@@ -21,7 +21,7 @@ use Rattle.roqshyn.proofs.forms.Slots.{Slots}
 use Rattle.roqshyn.proofs.forms.Locals.{at-cell}
 use Rattle.roqshyn.proofs.forms.Vars.{set, vars, Holds, Table, no, Has, There, var, into, at}
 use Rattle.roqshyn.proofs.forms.Inside.{Ok, elements, shared, here, itself}
-use Rattle.roqshyn.proofs.forms.Touch.{points, loads, stores, aimed, Aims, aims, fetch, restore, reads-local}
+use Rattle.roqshyn.proofs.forms.Touch.{Address, loads, loads-by, stores, stores-by, aimed, fetched, Aims, aims, fetch, fetch-by, restore, reads-local}
 use Rattle.roqshyn.proofs.forms.Ask.{ofTrio}
 
 -- the places of the locals of such a call
@@ -32,15 +32,12 @@ pub record Places : Type 0 where
   pub handed : ℕ
   pub new-element : ℕ
   pub new-shared : ℕ
-  -- the offset of the element in the array, the address of the array and that of the element; and what is read
-  pub offset : ℕ
-  pub array : ℕ
-  pub address : ℕ
+  -- how the element is reached to be read; and what is read
+  pub reading : Address
   pub element : ℕ
   pub shared : ℕ
-  -- the two addresses once more
-  pub array-again : ℕ
-  pub address-again : ℕ
+  -- how it is reached to be written
+  pub writing : Address
 
 -- of those of every call
 abbrev pub answer : ℕ
@@ -56,20 +53,18 @@ module _ {E K O R : Plain} (L : Slots E K O) (D : Trio E K R) (N : Places) where
   -- `(*s).items[index]` and `(*s).shared`
   abbrev pub reads-both : (ℕ → ℕ) → Body → Body
   reads-both no rest =
-      points (elements L) (no pointer) (no (N .index)) (no (N .offset)) (no (N .array)) (no (N .address))
-      (loads (here E) (no (N .address)) (no (N .element))
-      (loads (shared L) (no pointer) (no (N .shared)) rest))
+      loads-by (elements L) (here E) no pointer (N .index) (N .reading) (N .element)
+      (loads (shared L) (no pointer) (no (N .shared)) rest)
 
   -- `let w = handed.0; (*s).items[index] = w; let k = handed.1; (*s).shared = k; handed.2`
   abbrev pub writes-both : (ℕ → ℕ) → Body → Body
   writes-both no rest =
       seq (assign (place (no (N .new-element)) []) (rvOpd (copy (place (no (N .handed)) (field 0 ∷ [])))))
-      (points (elements L) (no pointer) (no (N .index)) (no (N .offset)) (no (N .array-again)) (no (N .address-again))
-      (stores (here E) (no (N .address-again)) (copy (place (no (N .new-element)) []))
+      (stores-by (elements L) (here E) no pointer (N .index) (N .writing) (copy (place (no (N .new-element)) []))
       (seq (assign (place (no (N .new-shared)) []) (rvOpd (copy (place (no (N .handed)) (field 1 ∷ [])))))
       (stores (shared L) (no pointer) (copy (place (no (N .new-shared)) []))
       (seq (assign (place (no answer) []) (rvOpd (copy (place (no (N .handed)) (field 2 ∷ [])))))
-      rest)))))
+      rest))))
 
   module _ (b o : ℕ) (s : Of S) (k : ℕ) where
     -- where the element lies
@@ -77,11 +72,8 @@ module _ {E K O R : Plain} (L : Slots E K O) (D : Trio E K R) (N : Places) where
     element-at = k * size (E .ty) + elements L .off o
 
     -- what the locals hold once both are read
-    abbrev aimed-first : List (Option Val) → List (Option Val)
-    aimed-first σ = aimed (elements L) b o k (N .offset) (N .array) (N .address) σ
-
     abbrev half-read : List (Option Val) → List (Option Val)
-    half-read σ = set (aimed-first σ) (N .element) (E .val (slots.at L s k))
+    half-read σ = fetched (elements L) b o k (here E) (N .reading) (N .element) (slots.at L s k) σ
 
     abbrev pub both-read : List (Option Val) → List (Option Val)
     both-read σ = set (half-read σ) (N .shared) (K .val (L .shared s))
@@ -92,7 +84,7 @@ module _ {E K O R : Plain} (L : Slots E K O) (D : Trio E K R) (N : Places) where
       split-once σ = set σ (N .new-element) (E .val (D .fst d))
 
       abbrev aimed-again : List (Option Val) → List (Option Val)
-      aimed-again σ = aimed (elements L) b o k (N .offset) (N .array-again) (N .address-again) (split-once σ)
+      aimed-again σ = aimed (elements L) b o k (N .writing) (split-once σ)
 
       abbrev split-twice : List (Option Val) → List (Option Val)
       split-twice σ = set (aimed-again σ) (N .new-shared) (K .val (D .snd d))
@@ -103,16 +95,17 @@ module _ {E K O R : Plain} (L : Slots E K O) (D : Trio E K R) (N : Places) where
     -- the locals are there, and they hold what is read: by `refl` where the places are known
     module _ {M : Type 1} (𝓤 : URA M) (H : Heap 𝓤) (T : Table 𝓤 H) (σ : List (Option Val)) where
       abbrev pub Readable : Type 0
-      Readable = Aims (elements L) b o k 𝓤 H T pointer (N .index) (N .offset) (N .array) (N .address) σ
-          × (There T (N .address) × Has T (N .element) (E .ty) × Holds 𝓤 H (aimed-first σ) (N .address) (vptr b element-at))
+      Readable = (Aims (elements L) b o k 𝓤 H T pointer (N .index) (N .reading) σ
+          × (There T (N .reading .at) × Has T (N .element) (E .ty)
+          × Holds 𝓤 H (aimed (elements L) b o k (N .reading) σ) (N .reading .at) (vptr b element-at)))
           × (There T pointer × Has T (N .shared) (K .ty) × Holds 𝓤 H (half-read σ) pointer (vptr b o))
 
       abbrev pub Writable : D .type .Denot → Type 0
       Writable d =
           (Has T (N .handed) (trioTy D) × Has T (N .new-element) (E .ty) × Has T (N .new-shared) (K .ty) × Has T answer (R .ty))
           × Holds 𝓤 H σ (N .handed) (ofTrio D .val d)
-          × Aims (elements L) b o k 𝓤 H T pointer (N .index) (N .offset) (N .array-again) (N .address-again) (split-once d σ)
-          × (There T (N .address-again) × Holds 𝓤 H (aimed-again d σ) (N .address-again) (vptr b element-at))
+          × Aims (elements L) b o k 𝓤 H T pointer (N .index) (N .writing) (split-once d σ)
+          × (There T (N .writing .at) × Holds 𝓤 H (aimed-again d σ) (N .writing .at) (vptr b element-at))
           × Holds 𝓤 H (aimed-again d σ) (N .new-element) (E .val (D .fst d))
           × Holds 𝓤 H (aimed-again d σ) (N .handed) (ofTrio D .val d)
           × (There T pointer × Holds 𝓤 H (split-twice d σ) pointer (vptr b o))
@@ -135,10 +128,9 @@ module _ {E K O R : Plain} (L : Slots E K O) (D : Trio E K R) (N : Places) where
         (runs C Λ (T .env) (reads-both (no T) rest) z)
     fetch-both t h = step (λ next.
         let it = itself t S b o s in
-        aims T t (elements L) b o k σ pointer (N .index) (N .offset) (N .array) (N .address) low (h .0) $
-        fetch T (here E) b (element-at b o s k) (slots.at L s k) (slots.is-at L s is k low)
-        (elements L .inside t k low s is it) t (aimed-first b o s k σ) (N .address) (N .element) (h .1) $
-        fetch T (shared L) b o s is it t (half-read b o s k σ) pointer (N .shared) (h .2) $ next)
+        fetch-by T t (elements L) (here E) b o k σ pointer (N .index) (N .reading) (N .element) low (slots.at L s k)
+        (slots.is-at L s is k low) (elements L .inside t k low s is it) (h .0) $
+        fetch T (shared L) b o s is it t (half-read b o s k σ) pointer (N .shared) (h .1) $ next)
 
     pub restore-both : Kg → (d : D .type .Denot) (v : Val) → Is (D .type) d (v ∷ []) → Writable b o s k 𝓤 H T σ d
         → Step Kg W (vars 𝓤 H A (T .locals) (both-written b o s k d σ)
@@ -158,10 +150,9 @@ module _ {E K O R : Plain} (L : Slots E K O) (D : Trio E K R) (N : Places) where
         assigns t (of-opd t (load t (at T t (N .handed) (has .0) (fld t refl (stop t)))
         (look-in t 0 (sub t 0 refl (var T t σ (N .handed) (has .0) (h .1)))))) (at T t (N .new-element) (has .1) (stop t))
         (into T t σ (N .new-element) (has .1) (E .typed 𝓤 H A W w (owed .0))) $
-        aims T t (elements L) b o k (split-once b o s k d σ) pointer (N .index) (N .offset) (N .array-again) (N .address-again)
-        low (h .2) $
+        aims T t (elements L) b o k (split-once b o s k d σ) pointer (N .index) (N .writing) low (h .2) $
         restore T (here E) b (element-at b o s k) (slots.at L s k) w-was (elements L .inside t k low s is (itself t S b o s)) t σ₁
-        (N .address-again) (h .3) w (owed .0) (reads-local T t σ₁ (N .new-element) (E .ty) (has .1) (h .4)) $
+        (N .writing .at) (h .3) w (owed .0) (reads-local T t σ₁ (N .new-element) (E .ty) (has .1) (h .4)) $
         assigns t (of-opd t (load t (at T t (N .handed) (has .0) (fld t refl (stop t)))
         (look-in t 0 (sub t 1 refl (var T t σ₁ (N .handed) (has .0) (h .5)))))) (at T t (N .new-shared) (has .2) (stop t))
         (into T t σ₁ (N .new-shared) (has .2) (K .typed 𝓤 H A W g (owed .1))) $

@@ -75,13 +75,10 @@ module _ (E K O P R : Plain) (n : ℕ) (ps : List (Arg n)) (L : Slots E K O) (D 
     handed = 3;
     new-element = 4;
     new-shared = 5;
-    offset = 6;
-    array = 7;
-    address = 8;
+    reading = record { offset = 6; array = 7; at = 8 };
     element = 9;
     shared = 10;
-    array-again = 11;
-    address-again = 12;
+    writing = record { offset = 6; array = 11; at = 12 };
   }
 
   abbrev code : Name → Name → Fn
@@ -141,7 +138,7 @@ module _ (E K O P R : Plain) (n : ℕ) (ps : List (Arg n)) (L : Slots E K O) (D 
           let low = inside (a .1 .0) k found in
           let σ₁ = set (run.σ₀ X) (at .index) (vint w64 k) in
           fetch-both L D at T b o s was k low σ₁ !
-          ((refl, refl, refl, refl, refl, refl, refl, refl, refl), (refl, refl, refl), (refl, refl, refl)) $
+          (((refl, refl, refl, refl, refl, refl, refl, refl, refl), (refl, refl, refl)), (refl, refl, refl)) $
           let σ₂ = both-read L D at b o s k σ₁ in
           run.passes-on X (E ∷ K ∷ []) (ofTrio D) pre does are B σ₂ (at .handed) s fm g known
           (slots.at L s k, (L .shared s, tt)) (slots.is-at L s was k low, (slots.shared-is L s was, tt))

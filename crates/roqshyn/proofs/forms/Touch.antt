@@ -35,6 +35,16 @@ points {X} {F} r s a i p q rest =
     (seq (assign (place q []) (op2 offset (copy (place p [])) (copy (place i []))))
     rest))
 
+-- the places of the locals by which an element is reached: its offset in the array, the array's address, and its own
+pub record Address : Type 0 where
+  pub offset : ℕ
+  pub array : ℕ
+  pub at : ℕ
+
+-- the same with places, of which `no` gives the numbers
+abbrev pub points-by : {X F : Plain} → Row X F → (ℕ → ℕ) → (s a : ℕ) → Address → Body → Body
+points-by r no s a p rest = points r (no s) (no a) (no (p .offset)) (no (p .array)) (no (p .at)) rest
+
 -- `let e = (*q).path`
 abbrev pub loads : {X P : Plain} → Way X P → (q e : ℕ) → Body → Body
 loads {X} w q e rest = seq (assign (place e []) (rvOpd (copy (place q (deref (X .ty) ∷ w .path []))))) rest
@@ -42,6 +52,13 @@ loads {X} w q e rest = seq (assign (place e []) (rvOpd (copy (place q (deref (X 
 -- `(*q).path = x`
 abbrev pub stores : {X P : Plain} → Way X P → (q : ℕ) → Operand → Body → Body
 stores {X} w q x rest = seq (assign (place q (deref (X .ty) ∷ w .path [])) (rvOpd x)) rest
+
+-- `let e = (*s).items[a].path`, and `(*s).items[a].path = x`
+abbrev pub loads-by : {X F P : Plain} → Row X F → Way F P → (ℕ → ℕ) → (s a : ℕ) → Address → (e : ℕ) → Body → Body
+loads-by r w no s a p e rest = points-by r no s a p (loads w (no (p .at)) (no e) rest)
+
+abbrev pub stores-by : {X F P : Plain} → Row X F → Way F P → (ℕ → ℕ) → (s a : ℕ) → Address → Operand → Body → Body
+stores-by r w no s a p x rest = points-by r no s a p (stores w (no (p .at)) x rest)
 
 -- what the locals hold once they have the address of element k: its place in the array, the array's address, and its own
 module _ {X F : Plain} (r : Row X F) (b o k : ℕ) where
@@ -51,14 +68,20 @@ module _ {X F : Plain} (r : Row X F) (b o k : ℕ) where
   abbrev array : Val
   array = vptr b (r .off o)
 
-  abbrev pub aimed : (i p q : ℕ) → List (Option Val) → List (Option Val)
-  aimed i p q σ = set (set (set σ i index) p array) q (vptr b (k * size (F .ty) + r .off o))
+  abbrev pub aimed : Address → List (Option Val) → List (Option Val)
+  aimed p σ = set (set (set σ (p .offset) index) (p .array) array) (p .at) (vptr b (k * size (F .ty) + r .off o))
 
-  abbrev pub Aims : {M : Type 1} (𝓤 : URA M) (H : Heap 𝓤) → Table 𝓤 H → (s a i p q : ℕ) → List (Option Val) → Type 0
-  Aims 𝓤 H T s a i p q σ =
-      There T s × Has T a (tyInt w64) × Has T i (tyInt w64) × Has T p tyPtr × Has T q tyPtr × Holds 𝓤 H σ a (vint w64 k)
-      × Holds 𝓤 H (set σ i index) s (vptr b o) × Holds 𝓤 H (set (set σ i index) p array) p array × Holds 𝓤 H (set
-      (set σ i index) p array) i index
+  -- the locals are there, and they hold what is read: by `refl` where the places are known
+  abbrev pub Aims : {M : Type 1} (𝓤 : URA M) (H : Heap 𝓤) → Table 𝓤 H → (s a : ℕ) → Address → List (Option Val) → Type 0
+  Aims 𝓤 H T s a p σ =
+      There T s × Has T a (tyInt w64) × Has T (p .offset) (tyInt w64) × Has T (p .array) tyPtr × Has T (p .at) tyPtr
+      × Holds 𝓤 H σ a (vint w64 k) × Holds 𝓤 H (set σ (p .offset) index) s (vptr b o)
+      × Holds 𝓤 H (set (set σ (p .offset) index) (p .array) array) (p .array) array
+      × Holds 𝓤 H (set (set σ (p .offset) index) (p .array) array) (p .offset) index
+
+  -- and once a field of the element x is read into e
+  abbrev pub fetched : {P : Plain} → Way F P → Address → (e : ℕ) → Of F → List (Option Val) → List (Option Val)
+  fetched {P} w p e x σ = set (aimed p σ) e (P .val (w .get x))
 
 -- an operand that is a local, or a field of one, where the locals are entry n
 module _ {M : Type 1} {𝓤 : URA M} {H : Heap 𝓤} {A : Atoms 𝓤} {K : Type 0} {W : Given 𝓤 H A} (T : Table 𝓤 H)
@@ -88,23 +111,23 @@ reads-local T t σ j τ is h = load t (at T t j is (stop t)) (look-in t 0 (var T
 module _ {M : Type 1} {𝓤 : URA M} {H : Heap 𝓤} {A : Atoms 𝓤} {K : Type 0} {W : Given 𝓤 H A}
     (T : Table 𝓤 H) {C : Calls 𝓤 H} {Λ : Loops 𝓤 H} {z : Post 𝓤 H}
     {Γ : List (Item 𝓤)} {rest : Body} where
-  pub aims : K → {X F : Plain} (r : Row X F) (b o k : ℕ) (σ : List (Option Val)) (s a i p q : ℕ) → k < r .n
-      → Aims r b o k 𝓤 H T s a i p q σ
-      → Step K W (vars 𝓤 H A (T .locals) (aimed r b o k i p q σ) ∷ Γ) (runs C Λ (T .env) rest z)
-      (vars 𝓤 H A (T .locals) σ ∷ Γ) (runs C Λ (T .env) (points r (no T s) (no T a) (no T i) (no T p) (no T q) rest) z)
-  aims t r b o k σ s a i p q low h = step (λ next.
+  pub aims : K → {X F : Plain} (r : Row X F) (b o k : ℕ) (σ : List (Option Val)) (s a : ℕ) (p : Address) → k < r .n
+      → Aims r b o k 𝓤 H T s a p σ
+      → Step K W (vars 𝓤 H A (T .locals) (aimed r b o k p σ) ∷ Γ) (runs C Λ (T .env) rest z)
+      (vars 𝓤 H A (T .locals) σ ∷ Γ) (runs C Λ (T .env) (points-by r (no T) s a p rest) z)
+  aims t r b o k σ s a p low h = step (λ next.
       let near = r .near k low in
-      let σ₁ = set σ i (index r b o k) in
-      let σ₂ = set σ₁ p (array r b o k) in
+      let σ₁ = set σ (p .offset) (index r b o k) in
+      let σ₂ = set σ₁ (p .array) (array r b o k) in
       assigns t (bin t (reads-local T t σ a (tyInt w64) (h .1) (h .5)) (lit t (r .fits)) (record { fits = near }))
-      (at T t i (h .2) (stop t))
-      (into T t σ i (h .2) (tt, record { fits = near })) $
+      (at T t (p .offset) (h .2) (stop t))
+      (into T t σ (p .offset) (h .2) (tt, record { fits = near })) $
       assigns t (addr t (at T t s (h .0) (hop t (look-in t 0 (var T t σ₁ s (h .0) (h .6))) (r .follows t (stop t)))))
-      (at T t p (h .3) (stop t))
-      (into T t σ₁ p (h .3) (tt, tt)) $
-      assigns t (bin t (reads-local T t σ₂ p tyPtr (h .3) (h .7)) (reads-local T t σ₂ i (tyInt w64) (h .2) (h .8)) tt)
-      (at T t q (h .4) (stop t))
-      (into T t σ₂ q (h .4) (tt, tt)) $ next)
+      (at T t (p .array) (h .3) (stop t))
+      (into T t σ₁ (p .array) (h .3) (tt, tt)) $
+      assigns t (bin t (reads-local T t σ₂ (p .array) tyPtr (h .3) (h .7))
+      (reads-local T t σ₂ (p .offset) (tyInt w64) (h .2) (h .8)) tt) (at T t (p .at) (h .4) (stop t))
+      (into T t σ₂ (p .at) (h .4) (tt, tt)) $ next)
 
   module _ {X P : Plain} (w : Way X P) (b o : ℕ) (x : Of X) (is : Ok X x) {m : Item 𝓤} {now : Of X → Item 𝓤}
       (inside : Inside K W m X b o x now) where
@@ -145,3 +168,18 @@ module _ {M : Type 1} {𝓤 : URA M} {H : Heap 𝓤} {A : Atoms 𝓤} {K : Type 
       restore g b (k * size (F .ty) + elements L .off o) (slots.at L s₁ k) (slots.is-at L s₁ s₁-is k l)
       (elements L .inside t k l s₁ s₁-is (itself t S b o s₁)) t σ q h y y-is from $
       rewrite t 1 (λ (u : slots.Session L). at-cell (S .ty) b o (S .val u)) (again L s is k l w (g .put y)) refl $ next)
+
+module _ {M : Type 1} {𝓤 : URA M} {H : Heap 𝓤} {A : Atoms 𝓤} {K : Type 0} {W : Given 𝓤 H A}
+    (T : Table 𝓤 H) {C : Calls 𝓤 H} {Λ : Loops 𝓤 H} {z : Post 𝓤 H}
+    {Γ : List (Item 𝓤)} {rest : Body} where
+  -- an element is reached, and a field of it is read
+  pub fetch-by : K → {X F P : Plain} (r : Row X F) (w : Way F P) (b o k : ℕ) (σ : List (Option Val)) (s a : ℕ)
+      (p : Address) (e : ℕ) → k < r .n → (x : Of F) → Ok F x → {m : Item 𝓤} {now : Of F → Item 𝓤}
+      → Inside K W m F b (k * size (F .ty) + r .off o) x now
+      → Aims r b o k 𝓤 H T s a p σ × (There T (p .at) × Has T e (P .ty)
+      × Holds 𝓤 H (aimed r b o k p σ) (p .at) (vptr b (k * size (F .ty) + r .off o)))
+      → Step K W (vars 𝓤 H A (T .locals) (fetched r b o k w p e x σ) ∷ m ∷ Γ) (runs C Λ (T .env) rest z)
+      (vars 𝓤 H A (T .locals) σ ∷ m ∷ Γ) (runs C Λ (T .env) (loads-by r w (no T) s a p e rest) z)
+  fetch-by t {F = F} r w b o k σ s a p e low x is inside h = step (λ next.
+      aims T t r b o k σ s a p low (h .0) $
+      fetch T w b (k * size (F .ty) + r .off o) x is inside t (aimed r b o k p σ) (p .at) e (h .1) $ next)

@@ -136,7 +136,7 @@ module _ (E K O X R : Plain) (n : ℕ) (ps : List (Arg n)) (L : Slots E K O) (Y 
           (vars.at T ! (at .index) refl (stop !)) (into T ! σ₂ (at .index) refl (index .typed 𝓤 H A W k (t-owed .0))) $
           let σ₃ = set σ₂ (at .index) (vint w64 k) in
           fetch-both L D at T b o s was k low σ₃ !
-          ((refl, refl, refl, refl, refl, refl, refl, refl, refl), (refl, refl, refl), (refl, refl, refl)) $
+          (((refl, refl, refl, refl, refl, refl, refl, refl, refl), (refl, refl, refl)), (refl, refl, refl)) $
           let σ₄ = both-read L D at b o s k σ₃ in
           run.passes-on Z (E ∷ K ∷ X ∷ []) (ofTrio D) pre does are B σ₄ (at .handed) s fm g known
           (slots.at L s k, (L .shared s, (Y .snd t, tt)))
