@@ -1,0 +1,204 @@
+"""documents.py [--write | --test]: sees that what the documents name and count is there.
+
+The documents are all pages in Markdown, NOTICE, and the comments of the header, of the Rust bindings and of the examples.
+Of docs/CHANGES.md only the newest entry is held to it. Checked are the names in backticks (named.py), the name of a thing
+beside the file that has it, the exported calls, the commands of indented blocks, links and their anchors, numbers of
+decisions, questions, duties and entries, counts and sizes (figures.py), lists (listed.py), and how wide lines are. A line
+says what is wrong, and the status is then 1. With --write paragraphs that are too wide are wrapped first. With --test it
+also makes edits that it has to refuse (documents_test.py).
+
+The original is in the folder ROQSHYN_ORIGINAL, or else in ../shared/docs/src beside the repository. Where it is not at
+hand, names that only it has are left out.
+"""
+import os
+import pathlib
+import re
+import sys
+
+import prose
+from figures import wrong_figures
+from listed import wrong_lists
+from named import PATH, Names, original_words
+from tree import ROOT, Tree, read_files
+
+ORIGINAL = pathlib.Path(os.environ.get("ROQSHYN_ORIGINAL") or ROOT.parent / "shared" / "docs" / "src")
+CHANGES, HEADER = "docs/CHANGES.md", "include/roqshyn.h"
+# Comments that are documents: those of the header, of the bindings and of the examples.
+COMMENTED = re.compile(r"include/roqshyn\.h|bindings/rust/src/\w+\.rs|examples/.*\.(?:c|rs)")
+# tools/trace sees to the rows of the first, and the rows of the second are calls that are still to come, too.
+WITHOUT_ROWS = ("docs/TRACE.md", "docs/ADDITIONS.md")
+# Written by bench/run.
+MADE = ("docs/speed-table.md",)
+# The words of a licence are kept as they were published.
+UNWRAPPED = (*MADE, "NOTICE")
+# Names that are not there, and why a document has them.
+EXCEPTIONS = {
+    "docs/ADDING-A-CALL.md": ("probe",),  # a word that was added to try it
+    "docs/PROVING.md": ("ListN.antt", "Lts"),  # a file and a module of the kit
+    "docs/SAFETY-MANUAL.md": (".bss",),  # a section that an archive does not have
+    "docs/TRACE.md": ("N5.2", "File.name", "crate/File.name", "crate::path::function"),  # forms of names
+}
+WIDTHS = {"README.md": 100}
+WIDTH = 120
+BESIDE = re.compile(
+    r"((?:`[^`]+`(?:,\s+(?:and\s+)?|\s+and\s+))*`[^`]+`),?\s+(?:at\s+the\s+end\s+of\s+|in\s+|of\s+|\()`([\w.+/-]+)`"
+)
+NUMBERED = (
+    (r"[Dd]ecisions? (\d+(?:(?:, | and | to )\d+)*)", "docs/DECISIONS.md", r"^(?:- \*\*)?(\d+)\. ", "decision"),
+    (r"[Ee]ntry (\d+)", "docs/DIFFERENCES.md", r"^## (\d+)\.", "entry"),
+    (r"[Qq]uestions? (\d+(?:(?:, | and | to )\d+)*)", HEADER, r"^ \* +(\d+)  ", "question"),
+    (r"\bdut(?:y|ies) D(\d+)", "docs/SAFETY-MANUAL.md", r"^\*\*D(\d+)\. ", "duty"),
+)
+
+
+def newest(text):
+    """The pages of changes without older entries: the newest is at the other end from the base."""
+    starts = [found.start() for found in re.finditer(r"^## ", text, re.M)] + [len(text)]
+    if len(starts) < 2:
+        return text
+    first = not text[starts[0] :].startswith("## The base")
+    begin, end = starts[:2] if first else starts[-2:]
+    blank = lambda part: "\n" * part.count("\n")
+    return text[: starts[0]] + blank(text[starts[0] : begin]) + text[begin:end] + blank(text[end:])
+
+
+class Documents:
+    def __init__(self, files, original):
+        self.tree = Tree(files)
+        self.names = Names(self.tree, original)
+        self.exported = set(re.findall(r"\b(?:roq_\w+|Roq[A-Z]\w*|ROQ_\w+)", without_comments(files[HEADER])))
+        self.pages = {path: text for path, text in sorted(files.items()) if path.endswith(".md") or path == "NOTICE"}
+        self.pages = {path: newest(text) if path == CHANGES else text for path, text in self.pages.items()}
+        self.comments = {path: text for path, text in sorted(files.items()) if COMMENTED.fullmatch(path)}
+
+    def paragraphs(self):
+        """Those of all documents, each with its file."""
+        for path, text in (self.pages | self.comments).items():
+            if path in MADE:
+                continue
+            for paragraph in (prose.comments if path in self.comments else prose.paragraphs)(text):
+                if path not in WITHOUT_ROWS or not paragraph.is_row:
+                    yield path, paragraph
+
+    def folders(self, path, paragraph):
+        """The crates and folders that a paragraph names, in which the files lie that it names from there on."""
+        found = set()
+        for span, _, _ in paragraph.spans():
+            first, *rest = span.strip("/").split("/")
+            if first == "crates" and rest:
+                found.add(f"crates/{rest[0]}/")
+            elif first in self.tree.crates:
+                found.add(f"crates/{first}/")
+            elif first in self.tree.folders and first not in (".", "docs", "crates"):
+                found.add(f"{first}/")
+        return found if "crates/*/" not in found else set()
+
+    def wrong_names(self):
+        for path, paragraph in self.paragraphs():
+            folders = self.folders(path, paragraph)
+            for span, line, found in paragraph.spans():
+                said = self.names.wrong(span, paragraph.text[: found.start()], folders, path)
+                if said and span not in EXCEPTIONS.get(path, ()):
+                    yield f"{path}:{line}: `{span}`: {said}"
+
+    def wrong_beside(self):
+        """`few-made` in `sheet/proofs/laws/Bounds.antt`: that file has it."""
+        for path, paragraph in self.paragraphs():
+            for found in BESIDE.finditer(paragraph.text):
+                places = self.names.files_of(found[2]) if PATH.fullmatch(found[2]) else []
+                for name in re.findall(r"`([\w-]+)`", found[1]) if places else ():
+                    if not self.names.stands_in(name, places):
+                        line = paragraph.line + paragraph.text.count("\n", 0, found.start())
+                        yield f"{path}:{line}: `{name}`: it is not in {found[2]}"
+
+    def wrong_exported(self):
+        """Names of the header, with backticks or without."""
+        for path, text in (self.pages | self.comments).items():
+            for found in re.finditer(r"\b(?:roq_\w+|Roq[A-Z]\w*|ROQ_\w+)(?!…|\w)", text):
+                if found[0] not in self.exported and not found[0].endswith("_"):
+                    yield f"{path}:{prose.line_at(text, found.start())}: {HEADER} has no {found[0]}"
+
+    def wrong_blocks(self):
+        """Commands in indented blocks."""
+        for path, text in self.pages.items():
+            for found in re.finditer(r"^    ((?:bash|rt|\./\S+) ?[^#\n]*)", text, re.M):
+                said = self.names.command(found[1].strip(), set(), path)
+                if said:
+                    yield f"{path}:{prose.line_at(text, found.start())}: {found[1].strip()}: {said}"
+
+    def wrong_links(self):
+        for path, text in self.pages.items():
+            for link, line in prose.links(text):
+                page, _, anchor = link.partition("#")
+                place = prose.target(path, page)
+                if "://" in link:
+                    continue
+                if place not in self.tree.files and place not in self.tree.folders:
+                    yield f"{path}:{line}: a link leads to {place}, which is not there"
+                elif anchor and anchor not in prose.anchors(self.tree.files.get(place, "")):
+                    yield f"{path}:{line}: {place} has no heading #{anchor}"
+
+    def wrong_numbers(self):
+        """Decisions, entries, questions and duties that are cited by a number."""
+        for form, home, there, what in NUMBERED:
+            known = set(re.findall(there, self.tree.files[home], re.M))
+            for path, text in (self.pages | self.comments).items():
+                for found in re.finditer(form.replace(" ", r"[\s*]+"), text):
+                    for number in re.findall(r"\d+", found[1]):
+                        if number not in known:
+                            yield f"{path}:{prose.line_at(text, found.start())}: {home} has no {what} {number}"
+
+    def wrong_widths(self):
+        for path, text in self.pages.items():
+            for line, columns in prose.wide_lines(text, WIDTHS.get(path, WIDTH)) if path not in UNWRAPPED else ():
+                yield f"{path}:{line}: {columns} columns, and {WIDTHS.get(path, WIDTH)} are the most"
+        for number, line in enumerate(self.tree.files[HEADER].split("\n"), 1):
+            if len(line) > WIDTH and re.match(r"/\*| \*", line):
+                yield f"{HEADER}:{number}: {len(line)} columns, and {WIDTH} are the most"
+
+    def wrong(self):
+        yield from self.wrong_names()
+        yield from self.wrong_beside()
+        yield from self.wrong_exported()
+        yield from self.wrong_blocks()
+        yield from self.wrong_links()
+        yield from self.wrong_numbers()
+        yield from wrong_figures(self.tree, self.pages | self.comments)
+        yield from wrong_lists(self.tree)
+        yield from self.wrong_widths()
+
+
+def without_comments(text):
+    return re.sub(r"/\*.*?\*/", "", text, flags=re.S)
+
+
+def write(files):
+    """Wraps what is too wide, but for what is no prose of today."""
+    for path, text in files.items():
+        if path.endswith(".md") and path not in UNWRAPPED:
+            files[path] = prose.wrapped(text, WIDTHS.get(path, WIDTH))
+            if files[path] != text:
+                (ROOT / path).write_text(files[path])
+
+
+def main(words):
+    files, original = read_files(), original_words(ORIGINAL)
+    if words == ["--write"]:
+        write(files)
+    documents = Documents(files, original)
+    said = list(dict.fromkeys(documents.wrong()))
+    if said:
+        print("\n".join(said))
+        sys.exit(1)
+    if words == ["--test"]:
+        from documents_test import refused
+
+        print(f"{refused(files, original)} edits refused")
+    if original is None:
+        print(f"left out: names of the original, whose files are not under {ORIGINAL}")
+    names = sum(1 for _, paragraph in documents.paragraphs() for _ in paragraph.spans())
+    print(f"{len(documents.pages)} documents and the comments of {len(documents.comments)} files: {names} names are there")
+
+
+if __name__ == "__main__":
+    main(sys.argv[1:])
