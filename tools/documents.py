@@ -24,7 +24,9 @@ from tree import ROOT, Tree, read_files
 ORIGINAL = pathlib.Path(os.environ.get("ROQSHYN_ORIGINAL") or ROOT.parent / "shared" / "docs" / "src")
 CHANGES, HEADER = "docs/CHANGES.md", "include/roqshyn.h"
 # Comments that are documents: those of the header, of the bindings and of the examples.
-COMMENTED = re.compile(r"include/roqshyn\.h|bindings/rust/src/\w+\.rs|examples/.*\.(?:c|rs)")
+COMMENTED = re.compile(r"include/roqshyn\.h|bindings/rust/src/\w+\.rs|examples/.*\.(?:c|rs|calls)|examples/(?:run|desk/\w+)")
+# A path that comments and NOTICE have without backticks.
+PLAIN = re.compile(r"(?<![\w./-])(?:\.ci|bench|bindings|compare|crates|docs|examples|include|mistakes|tools)/[\w./-]*\w")
 # tools/trace sees to the rows of the first, and the rows of the second are calls that are still to come, too.
 WITHOUT_ROWS = ("docs/TRACE.md", "docs/ADDITIONS.md")
 # Written by bench/run.
@@ -63,24 +65,30 @@ def newest(text):
 
 
 class Documents:
-    def __init__(self, files, original):
+    def __init__(self, files, original, names=None):
         self.tree = Tree(files)
-        self.names = Names(self.tree, original)
+        self.names = names or Names(self.tree, original)
         self.exported = set(re.findall(r"\b(?:roq_\w+|Roq[A-Z]\w*|ROQ_\w+)", without_comments(files[HEADER])))
         self.pages = {path: text for path, text in sorted(files.items()) if path.endswith(".md") or path == "NOTICE"}
         self.pages = {path: newest(text) if path == CHANGES else text for path, text in self.pages.items()}
         self.comments = {path: text for path, text in sorted(files.items()) if COMMENTED.fullmatch(path)}
 
-    def paragraphs(self):
-        """Those of all documents, each with its file."""
-        for path, text in (self.pages | self.comments).items():
-            if path in MADE:
-                continue
-            for paragraph in (prose.comments if path in self.comments else prose.paragraphs)(text):
-                if path not in WITHOUT_ROWS or not paragraph.is_row:
-                    yield path, paragraph
+    def paragraphs(self, path, text):
+        """Those of a document that are held to it."""
+        for paragraph in (prose.comments if path in self.comments else prose.paragraphs)(text):
+            if path not in MADE and (path not in WITHOUT_ROWS or not paragraph.is_row):
+                yield paragraph
 
-    def folders(self, path, paragraph):
+    def wrong_pages(self):
+        """What is wrong with each text; it is looked at once with the same names."""
+        for path, text in (self.pages | self.comments).items():
+            if (path, text) not in self.names.seen:
+                paragraphs = list(self.paragraphs(path, text))
+                said = [*self.wrong_names(path, paragraphs), *self.wrong_beside(path, paragraphs)]
+                self.names.seen[path, text] = said
+            yield from self.names.seen[path, text]
+
+    def folders(self, paragraph):
         """The crates and folders that a paragraph names, in which the files lie that it names from there on."""
         found = set()
         for span, _, _ in paragraph.spans():
@@ -93,17 +101,17 @@ class Documents:
                 found.add(f"{first}/")
         return found if "crates/*/" not in found else set()
 
-    def wrong_names(self):
-        for path, paragraph in self.paragraphs():
-            folders = self.folders(path, paragraph)
+    def wrong_names(self, path, paragraphs):
+        for paragraph in paragraphs:
+            folders = self.folders(paragraph)
             for span, line, found in paragraph.spans():
                 said = self.names.wrong(span, paragraph.text[: found.start()], folders, path)
                 if said and span not in EXCEPTIONS.get(path, ()):
                     yield f"{path}:{line}: `{span}`: {said}"
 
-    def wrong_beside(self):
+    def wrong_beside(self, path, paragraphs):
         """`few-made` in `sheet/proofs/laws/Bounds.antt`: that file has it."""
-        for path, paragraph in self.paragraphs():
+        for paragraph in paragraphs:
             for found in BESIDE.finditer(paragraph.text):
                 places = self.names.files_of(found[2]) if PATH.fullmatch(found[2]) else []
                 for name in re.findall(r"`([\w-]+)`", found[1]) if places else ():
@@ -117,6 +125,15 @@ class Documents:
             for found in re.finditer(r"\b(?:roq_\w+|Roq[A-Z]\w*|ROQ_\w+)(?!…|\w)", text):
                 if found[0] not in self.exported and not found[0].endswith("_"):
                     yield f"{path}:{prose.line_at(text, found.start())}: {HEADER} has no {found[0]}"
+
+    def wrong_paths(self):
+        """Paths in comments and in NOTICE, where backticks are not usual."""
+        for path, text in (self.comments | {"NOTICE": self.pages["NOTICE"]}).items():
+            for paragraph in prose.comments(text) if path in self.comments else [prose.Paragraph(text, 1)]:
+                for found in PLAIN.finditer(paragraph.text):
+                    if not self.names.is_there(found[0]):
+                        line = paragraph.line + paragraph.text.count("\n", 0, found.start())
+                        yield f"{path}:{line}: there is no {found[0]}"
 
     def wrong_blocks(self):
         """Commands in indented blocks."""
@@ -157,19 +174,25 @@ class Documents:
                 yield f"{HEADER}:{number}: {len(line)} columns, and {WIDTH} are the most"
 
     def wrong(self):
-        yield from self.wrong_names()
-        yield from self.wrong_beside()
+        yield from wrong_lists(self.tree)
+        yield from wrong_figures(self.tree, self.pages | self.comments)
         yield from self.wrong_exported()
+        yield from self.wrong_paths()
         yield from self.wrong_blocks()
         yield from self.wrong_links()
         yield from self.wrong_numbers()
-        yield from wrong_figures(self.tree, self.pages | self.comments)
-        yield from wrong_lists(self.tree)
         yield from self.wrong_widths()
+        yield from self.wrong_pages()
 
 
 def without_comments(text):
     return re.sub(r"/\*.*?\*/", "", text, flags=re.S)
+
+
+def by_place(said):
+    """A line's file and number."""
+    path, _, rest = said.partition(":")
+    return path, int((re.match(r"\d+", rest) or "0")[0]), rest
 
 
 def write(files):
@@ -186,18 +209,20 @@ def main(words):
     if words == ["--write"]:
         write(files)
     documents = Documents(files, original)
-    said = list(dict.fromkeys(documents.wrong()))
+    said = sorted(set(documents.wrong()), key=by_place)
     if said:
         print("\n".join(said))
         sys.exit(1)
     if words == ["--test"]:
         from documents_test import refused
 
-        print(f"{refused(files, original)} edits refused")
+        print(f"{refused(files, original, documents.names)} edits refused")
     if original is None:
         print(f"left out: names of the original, whose files are not under {ORIGINAL}")
-    names = sum(1 for _, paragraph in documents.paragraphs() for _ in paragraph.spans())
-    print(f"{len(documents.pages)} documents and the comments of {len(documents.comments)} files: {names} names are there")
+    pages, comments = documents.pages, documents.comments
+    paragraphs = [one for path, text in (pages | comments).items() for one in documents.paragraphs(path, text)]
+    names = sum(1 for paragraph in paragraphs for _ in paragraph.spans())
+    print(f"{len(pages)} documents and the comments of {len(comments)} files: {names} names are there")
 
 
 if __name__ == "__main__":

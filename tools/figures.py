@@ -9,6 +9,7 @@ import re
 
 import calls
 import prose
+import stack
 
 WORDS = "one two three four five six seven eight nine ten eleven twelve thirteen fourteen fifteen sixteen".split()
 NUMBERS = {word: number for number, word in enumerate(WORDS, 1)}
@@ -184,6 +185,7 @@ FIGURES = (
         "original's {} files",
         "is its own {} files",
     ),
+    Figure("functions that call themselves", lambda tree: len(stack.DEPTHS), "{} functions call themselves"),
     Figure("public calls", lambda tree: len(all_calls(tree)), "{} public calls"),
     Figure("exported calls", lambda tree: sum(call.exported for call in all_calls(tree)), "{} exported calls"),
     Figure("crates", lambda tree: len(tree.crates), "all {} crates", "{} crates of the library"),
@@ -196,16 +198,18 @@ def number_of(text):
 
 
 @functools.cache
-def form(sentence):
-    """A sentence as it may be broken into lines, also in comments."""
-    return re.compile(sentence.replace(" ", r"[\s*/]+").replace("{}", NUMBER), re.I)
+def found_in(sentence, text):
+    """Where a text has such a sentence, which may be broken into lines, also in comments."""
+    words = re.findall(r"[A-Za-z]{4,}", re.sub(r"\(\?.*?\)|\[.*?\]|\\.", " ", sentence))
+    if not all(word in text for word in words):
+        return ()
+    form = sentence.replace(" ", r"[\s*/]+").replace("{}", NUMBER)
+    return tuple((number_of(found["number"]), found.span("number")) for found in re.finditer(form, text, re.I))
 
 
 def stated(figure, text):
     """The numbers that a text states for it, each with its place."""
-    for sentence in figure.said:
-        for found in form(sentence).finditer(text):
-            yield number_of(found["number"]), found.span("number")
+    return [found for sentence in figure.said for found in found_in(sentence, text)]
 
 
 def wrong_figures(tree, texts):

@@ -7,6 +7,7 @@ from figures import number_of
 
 HEADER, ERRORS, ANSWERS = "include/roqshyn.h", "bindings/rust/src/error.rs", "crates/geom/src/answers.rt"
 SCRIPT, NOTICE, MANUAL = "docs/CALL-SCRIPT.md", "NOTICE", "docs/SAFETY-MANUAL.md"
+DIFFERENCES = "docs/DIFFERENCES.md"
 # Where a reader looks for commands and for scripts.
 COMMANDS = ("README.md", "docs/COMMANDS.md", "compare/README.md", "examples/README.md")
 # Rectangles of CALL-SCRIPT.md, A and perhaps B, are four numbers each.
@@ -48,6 +49,14 @@ def commands(tree):
     for path in sorted(tree.files):
         if re.fullmatch(r"examples/\w[\w-]*\.calls", path) and not re.search(rf"{path}|\({path.split('/')[1]}\)", said):
             yield f"{path}: no document among {', '.join(p for p in COMMANDS if p in tree.files)} names it"
+
+
+def differences(tree):
+    """Every script that shows a difference is named where that is described."""
+    for path in sorted(tree.files):
+        name = path.removeprefix("compare/differences/")
+        if name != path and name.endswith(".calls") and f"`{name}`" not in tree.files[DIFFERENCES]:
+            yield f"{path}: {DIFFERENCES} does not name it"
 
 
 def script_words(tree):
@@ -132,5 +141,6 @@ def in_gate(tree):
 
 
 def wrong_lists(tree):
-    for part in (crates, original, commands, script_words, questions, exported, tested, doors, announced, in_gate):
+    parts = crates, original, commands, differences, script_words, questions, exported, tested, doors, announced, in_gate
+    for part in parts:
         yield from part(tree)

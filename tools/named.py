@@ -53,6 +53,8 @@ class Names:
         self.notice = re.findall(r"Kernel/\S+\.rs", tree.files["NOTICE"])
         self.mistakes = {pathlib.PurePath(path).stem for path in tree.files if path.endswith(".edit")}
         self.known = {}
+        # What was wrong with a text, by its path and itself.
+        self.seen = {}
 
     def script_stand_ins(self):
         """Those of the tables of call scripts: ID, X, COLOUR, ANSWER."""
@@ -74,7 +76,7 @@ class Names:
     # Forms: each gives None of what is another one ---------------------------------------------------------------------
 
     def command(self, text, folders, document):
-        first, *rest = text.split()
+        first, *rest = re.sub(r"^(?:[A-Z_]+=\S+ )+", "", text).split() or [text]
         if first in OTHERS:
             return self.wrong_files(rest)
         if first == "rt":
@@ -109,6 +111,8 @@ class Names:
         text = place[1] if place else text
         if not PATH.fullmatch(text):
             return None
+        if text.startswith("PREFIX/"):
+            return "" if pathlib.PurePath(text).name in self.tree.files["install"] else f"install puts no {text} there"
         if text.startswith(ELSEWHERE) or self.of_original(text):
             return ""
         beside = str(pathlib.PurePath(document).parent / text)
@@ -175,7 +179,7 @@ class Names:
             return any(known.startswith(word[:-1]) for known in self.tree.words)
         if word.startswith("…"):
             return any(known.endswith(word[1:]) for known in self.tree.words)
-        if not re.search(r"[^\W\d_]", word) or word.startswith(ELSEWHERE):
+        if not re.search(r"[^\W\d_]", word) or word.startswith((*ELSEWHERE, "PREFIX/")):
             return True
         if word.startswith("--"):
             return self.is_option(word)

@@ -52,11 +52,11 @@ class Tree:
         self.folders = {str(above) for path in files for above in pathlib.PurePath(path).parents}
         self.crates = re.findall(r"^(\w+):", files["crates.txt"], re.M)
         self.commands = {path for path, text in files.items() if text.startswith("#!")}
-        self.words = self.all_words()
-        self.by_name = self.named_so()
         self.script = self.script_lines()
 
-    def all_words(self):
+    @functools.cached_property
+    def words(self):
+        """Those of all code."""
         found = set()
         for path, text in self.files.items():
             suffix = pathlib.PurePath(path).suffix
@@ -64,7 +64,8 @@ class Tree:
                 found |= code_words(text, suffix)
         return found
 
-    def named_so(self):
+    @functools.cached_property
+    def by_name(self):
         """Files and folders by the last part of their path, with its suffix and without."""
         found = {}
         for path in [*self.files, *self.folders]:
