@@ -72,7 +72,7 @@ EDITS = [
     ("a line with another count", [(SCRIPT, "| `drag ID X Y` |", "| `drag ID X` |")], "`drag ID X` has 2 numbers"),
     ("a question in other words", [(HEADER, "w x h is at most C", "w x h is below C")], "question 6 has other words"),
     ("a question that bindings lack", [("bindings/rust/src/error.rs", "    27 ", "    28 ")], "it has no question 27"),
-    ("a question that the code lacks", [("crates/geom/src/answers.rt", "u32 = 27;", "u32 = 28;")], "it has no question 28"),
+    ("a question that the code lacks", [("crates/geom/src/inner/answers.rt", "u32 = 27;", "u32 = 28;")], "it has no question 28"),
     ("a call that the header lacks", [(HEADER, "roq_focus(const", "roq_focused(const")], "it has no exported call roq_focus"),
     ("a script that shows no entry", [("compare/differences/99-new.calls", "", "create\n")], "99-new.calls: docs/DIFF"),
     ("a session that grew", [("include/layout.c", "SIZE(RoqSession, 5784)", "SIZE(RoqSession, 5792)")], "the number is 5,792"),

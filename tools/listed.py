@@ -5,7 +5,7 @@ import prose
 from calls import tables
 from figures import number_of
 
-HEADER, ERRORS, ANSWERS = "include/roqshyn.h", "bindings/rust/src/error.rs", "crates/geom/src/answers.rt"
+HEADER, ERRORS, ANSWERS = "include/roqshyn.h", "bindings/rust/src/error.rs", "crates/geom/src/inner/answers.rt"
 SCRIPT, NOTICE, MANUAL = "docs/CALL-SCRIPT.md", "NOTICE", "docs/SAFETY-MANUAL.md"
 DIFFERENCES = "docs/DIFFERENCES.md"
 # Where a reader looks for commands and for scripts.
