@@ -1,15 +1,16 @@
 """documents.py [--write | --test]: sees that what the documents name and count is there.
 
-The documents are all pages in Markdown, NOTICE, and the comments of the header, of the Rust bindings and of the examples.
-Of docs/CHANGES.md only the newest entry is held to it. Checked are the names in backticks (named.py), the name of a thing
-beside the file that has it, the exported calls, the commands of indented blocks, links and their anchors, numbers of
-decisions, questions, duties and entries, counts and sizes (figures.py), lists (listed.py), and how wide lines are. A line
-says what is wrong, and the status is then 1. With --write paragraphs that are too wide are wrapped first. With --test it
-also makes edits that it has to refuse (documents_test.py).
+The documents are all pages in Markdown, NOTICE, and the comments of the header, of the Rust bindings and of the
+examples. Of docs/CHANGES.md only the newest entry is held to it. Checked are the names in backticks (named.py), the
+name of a thing beside the file that has it, the exported calls, commands and code of indented blocks, links and their
+anchors, numbers of decisions, questions, duties and entries, counts and sizes (figures.py), lists (listed.py), and how
+wide lines are. A line says what is wrong, and the status is then 1. With --write paragraphs that are too wide are
+wrapped first. With --test it also makes edits that it has to refuse (documents_test.py).
 
 The original is in the folder ROQSHYN_ORIGINAL, or else in ../shared/docs/src beside the repository. Where it is not at
 hand, names that only it has are left out.
 """
+import functools
 import os
 import pathlib
 import re
@@ -24,15 +25,21 @@ from tree import ROOT, Tree, read_files
 ORIGINAL = pathlib.Path(os.environ.get("ROQSHYN_ORIGINAL") or ROOT.parent / "shared" / "docs" / "src")
 CHANGES, HEADER = "docs/CHANGES.md", "include/roqshyn.h"
 # Comments that are documents: those of the header, of the bindings and of the examples.
-COMMENTED = re.compile(r"include/roqshyn\.h|bindings/rust/src/\w+\.rs|examples/.*\.(?:c|rs|calls)|examples/(?:run|desk/\w+)")
+COMMENTED = re.compile(
+    r"include/roqshyn\.h|bindings/rust/src/\w+\.rs|examples/.*\.(?:c|rs|calls)|examples/(?:run|desk/\w+)"
+)
 # A path that comments and NOTICE have without backticks.
-PLAIN = re.compile(r"(?<![\w./-])(?:\.ci|bench|bindings|compare|crates|docs|examples|include|mistakes|tools)/[\w./-]*\w")
+PLAIN = re.compile(
+    r"(?<![\w./-])(?:\.ci|bench|bindings|compare|crates|docs|examples|include|mistakes|tools)/[\w./-]*\w"
+)
 # tools/trace sees to the rows of the first, and the rows of the second are calls that are still to come, too.
 WITHOUT_ROWS = ("docs/TRACE.md", "docs/ADDITIONS.md")
 # Written by bench/run.
 MADE = ("docs/speed-table.md",)
 # The words of a licence are kept as they were published.
 UNWRAPPED = (*MADE, "NOTICE")
+# Pages whose indented blocks are lines of the code.
+QUOTING = ("docs/PROVING.md", "docs/PROMISES.md")
 # Names that are not there, and why a document has them.
 EXCEPTIONS = {
     "docs/ADDING-A-CALL.md": ("probe",),  # a word that was added to try it
@@ -85,6 +92,7 @@ class Documents:
             if (path, text) not in self.names.seen:
                 paragraphs = list(self.paragraphs(path, text))
                 said = [*self.wrong_names(path, paragraphs), *self.wrong_beside(path, paragraphs)]
+                said += self.wrong_quotations(path, text) if path in QUOTING else ()
                 self.names.seen[path, text] = said
             yield from self.names.seen[path, text]
 
@@ -143,6 +151,15 @@ class Documents:
                 if said:
                     yield f"{path}:{prose.line_at(text, found.start())}: {found[1].strip()}: {said}"
 
+    def wrong_quotations(self, path, text):
+        """Lines of code in indented blocks stand in the code."""
+        code = [flat(said) for file, said in self.tree.files.items() if file.endswith((".antt", ".rt"))]
+        for found in re.finditer(r"(?<=\n\n)(?: {4,}\S.*\n\n?)+", text):
+            for line in found[0].splitlines():
+                if line and not any(flat(line) in one for one in code):
+                    at = text.index(line, found.start())
+                    yield f"{path}:{prose.line_at(text, at)}: no code has this line: {line.strip()}"
+
     def wrong_links(self):
         for path, text in self.pages.items():
             for link, line in prose.links(text):
@@ -183,6 +200,11 @@ class Documents:
         yield from self.wrong_numbers()
         yield from self.wrong_widths()
         yield from self.wrong_pages()
+
+
+@functools.cache
+def flat(text):
+    return " ".join(text.split())
 
 
 def without_comments(text):

@@ -4,8 +4,8 @@ import sys
 from documents import Documents
 from figures import FIGURES, stated, wrong_figures
 
-PAGE, HEADER, MANUAL, SCRIPT = "docs/DIFFERENCES.md", "include/roqshyn.h", "docs/SAFETY-MANUAL.md", "docs/CALL-SCRIPT.md"
-NOTICE, GATE, CRATES = "NOTICE", ".ci/run", "crates.txt"
+PAGE, HEADER, SCRIPT = "docs/COMMANDS.md", "include/roqshyn.h", "docs/CALL-SCRIPT.md"
+NOTICE, CRATES = "NOTICE", "crates.txt"
 FIRST = "  crates/geom/src/      from"
 
 # A sentence that is put at the end of a page, and a part of what has to be said of it.
@@ -51,33 +51,82 @@ SENTENCES = [
     ("a count of calls", "There are 7 public calls.", "7 public calls; the number is"),
     ("a count in words", "All four requests are there.", "4 requests; the number is"),
     ("commands announced", "Nine more commands:\n\n- `bash compare/run`\n", "Nine more commands, and 1 follow"),
-    ("a command that the gate does not run", "`bash bench/run`, which the gate runs, is.", ".ci/run does not run bench/run"),
+    (
+        "a command that the gate does not run",
+        "`bash bench/run`, which the gate runs, is.",
+        ".ci/run does not run bench/run",
+    ),
     ("a wide line", "word " * 30, "columns, and 120 are the most"),
 ]
 # A file, what stands in it and what is put there; a file without text is renamed.
 EDITS = [
-    ("a spec renamed", [("crates/rules/specs/Examples.antt", None, "crates/rules/specs/Tables.antt")], "rules/specs/Examples.antt"),
+    (
+        "a spec renamed",
+        [("crates/rules/specs/Examples.antt", None, "crates/rules/specs/Tables.antt")],
+        "rules/specs/Examples.antt",
+    ),
     ("a command renamed", [("tools/stack", None, "tools/depth")], "there is no command tools/stack"),
-    ("a script renamed", [("examples/chain.calls", None, "examples/chains.calls")], "examples/chains.calls: no document"),
+    (
+        "a script renamed",
+        [("examples/chain.calls", None, "examples/chains.calls")],
+        "examples/chains.calls: no document",
+    ),
     ("a test renamed", [("include/ids.c", None, "include/id.c")], "there is no include/ids.c"),
-    ("a mistake renamed", [("mistakes/due/back_not_full.edit", None, "mistakes/due/back.edit")], "back_not_full.edit"),
+    (
+        "a mistake renamed",
+        [("mistakes/windows/move_owes_nothing.edit", None, "mistakes/windows/move.edit")],
+        "move_owes_nothing.edit",
+    ),
+    ("a line that no proof has", [("docs/PROMISES.md", "", "\n    no-such-lemma = refl\n")], "no code has this line"),
     ("a page that nothing leads to", [("docs/NEW.md", "", "# New\n")], "docs/NEW.md: no links lead to it"),
     ("a new command", [("tools/new", "", "#!/usr/bin/env bash\n")], "tools/new: no `bash tools/new`"),
     ("a new command with --test", [("tools/new", "", "#!/usr/bin/env bash\n# --test\n")], "no command with --test new"),
     ("a new crate", [(CRATES, "", "more: geom\n")], "it has no crate more"),
-    ("a crate that NOTICE lacks", [(NOTICE, FIRST, FIRST.replace("crates", "carats"))], "NOTICE: it has no crate of the original's geom"),
-    ("a crate too many in NOTICE", [(NOTICE, FIRST, f"  crates/rules/src/     from a\n{FIRST}")], "NOTICE: rules is no crate"),
-    ("a file of the original in NOTICE", [(NOTICE, "video/geom.rs", "video/gem.rs")], "gem.rs is no file of the original"),
+    (
+        "a crate that NOTICE lacks",
+        [(NOTICE, FIRST, FIRST.replace("crates", "carats"))],
+        "NOTICE: it has no crate of the original's geom",
+    ),
+    (
+        "a crate too many in NOTICE",
+        [(NOTICE, FIRST, f"  crates/rules/src/     from a\n{FIRST}")],
+        "NOTICE: rules is no crate",
+    ),
+    (
+        "a file of the original in NOTICE",
+        [(NOTICE, "video/geom.rs", "video/gem.rs")],
+        "gem.rs is no file of the original",
+    ),
     ("a word that CALL-SCRIPT.md lacks", [(SCRIPT, "| `focus` |", "| `focal` |")], "it has no line focus"),
     ("a line with another count", [(SCRIPT, "| `drag ID X Y` |", "| `drag ID X` |")], "`drag ID X` has 2 numbers"),
     ("a question in other words", [(HEADER, "w x h is at most C", "w x h is below C")], "question 6 has other words"),
     ("a question that bindings lack", [("bindings/rust/src/error.rs", "    27 ", "    28 ")], "it has no question 27"),
-    ("a question that the code lacks", [("crates/geom/src/inner/answers.rt", "u32 = 27;", "u32 = 28;")], "it has no question 28"),
-    ("a call that the header lacks", [(HEADER, "roq_focus(const", "roq_focused(const")], "it has no exported call roq_focus"),
+    (
+        "a question that the code lacks",
+        [("crates/geom/src/inner/answers.rt", "u32 = 27;", "u32 = 28;")],
+        "it has no question 28",
+    ),
+    (
+        "a call that the header lacks",
+        [(HEADER, "roq_focus(const", "roq_focused(const")],
+        "it has no exported call roq_focus",
+    ),
     ("a script that shows no entry", [("compare/differences/99-new.calls", "", "create\n")], "99-new.calls: docs/DIFF"),
-    ("a session that grew", [("include/layout.c", "SIZE(RoqSession, 5784)", "SIZE(RoqSession, 5792)")], "the number is 5,792"),
-    ("a queue that grew", [("crates/window/src/queue.rt", "[Slot; 16]", "[Slot; 17]")], "16 events of a queue; the number is 17"),
-    ("a path in the header", [(HEADER, "worked out by tools/stack", "worked out by tools/depth")], "there is no tools/depth"),
+    (
+        "a session that grew",
+        [("include/layout.c", "SIZE(RoqSession, 5784)", "SIZE(RoqSession, 5792)")],
+        "the number is 5,792",
+    ),
+    (
+        "a queue that grew",
+        [("crates/window/src/queue.rt", "[Slot; 16]", "[Slot; 17]")],
+        "16 events of a queue; the number is 17",
+    ),
+    (
+        "a path in the header",
+        [(HEADER, "worked out by tools/stack", "worked out by tools/depth")],
+        "there is no tools/depth",
+    ),
     ("a file in NOTICE", [(NOTICE, FIRST, FIRST.replace("geom", "gem"))], "there is no crates/gem/src"),
     ("a wide comment", [(HEADER, "/* An event.", f"/* An event. {'word ' * 25}")], "columns, and 120 are the most"),
 ]

@@ -1,4 +1,4 @@
-"""Lists that have to be complete: crates, commands, scripts, words of call scripts, questions, exported calls, documents."""
+"""Lists that have to be complete: crates, commands, scripts, words of scripts, questions, exported calls, documents."""
 import re
 
 import prose
@@ -21,7 +21,7 @@ def differ(where, what, said, true):
 
 
 def crates(tree):
-    """Tables headed `crate`, and the crates of NOTICE, which are those that such a table has from a file of the original."""
+    """Tables headed `crate`, and the crates of NOTICE, which are those that a table has from a file of the original."""
     ported = set()
     for path, text in sorted(tree.files.items()):
         rows = list(tables(text, "crate")) if path.endswith(".md") else []
@@ -47,7 +47,8 @@ def commands(tree):
         if f"`bash {command}" not in said:
             yield f"{command}: no `bash {command}` stands in {' or '.join(p for p in COMMANDS if p in tree.files)}"
     for path in sorted(tree.files):
-        if re.fullmatch(r"examples/\w[\w-]*\.calls", path) and not re.search(rf"{path}|\({path.split('/')[1]}\)", said):
+        name = path.removeprefix("examples/")
+        if re.fullmatch(r"\w[\w-]*\.calls", name) and name != path and path not in said and f"({name})" not in said:
             yield f"{path}: no document among {', '.join(p for p in COMMANDS if p in tree.files)} names it"
 
 
@@ -60,7 +61,7 @@ def differences(tree):
 
 
 def script_words(tree):
-    """The tables of CALL-SCRIPT.md headed `line` have every word, with as many numbers as the table of the code says."""
+    """The tables of CALL-SCRIPT.md headed `line` have every word, with as many numbers as the table of the code."""
     said = {}
     for number, _, cells in tables(tree.files[SCRIPT], "line"):
         for line in re.findall(r"`([^`]+)`", cells[0]):
@@ -102,7 +103,7 @@ def exported(tree):
 
 
 def tested(tree):
-    """The row of the safety manual on our own commands names those of tools/ that try with --test what they refuse."""
+    """The safety manual names the commands of tools/ that try with --test what they refuse."""
     row = re.search(r"^\| commands of this repository .*$", tree.files[MANUAL], re.M)
     said = re.findall(r"`(\w+)`", row[0].partition("`tools/`")[0]) if row else []
     known = [c for c in tree.commands if c.startswith("tools/") and "--test" in tree.files[c]]
@@ -126,7 +127,8 @@ def doors(tree):
 def announced(tree):
     """`Eight more commands:` has so many points behind it."""
     for path, text in tree.files.items():
-        for found in re.finditer(r"\b(\w+) more commands:\n\n((?:- .*\n(?:  .*\n)*)+)", text) if path.endswith(".md") else ():
+        said = re.finditer(r"\b(\w+) more commands:\n\n((?:- .*\n(?:  .*\n)*)+)", text)
+        for found in said if path.endswith(".md") else ():
             count = len(re.findall(r"^- ", found[2], re.M))
             if number_of(found[1]) != count:
                 yield f"{path}:{prose.line_at(text, found.start())}: {found[1]} more commands, and {count} follow"
@@ -135,12 +137,13 @@ def announced(tree):
 def in_gate(tree):
     """What documents say that the gate runs is run there."""
     for path, text in tree.files.items():
-        for found in re.finditer(r"`bash ([\w/.]+)`,\s+which\s+the\s+gate\s+runs", text) if path.endswith(".md") else ():
+        said = re.finditer(r"`bash ([\w/.]+)`,\s+which\s+the\s+gate\s+runs", text)
+        for found in said if path.endswith(".md") else ():
             if found[1] not in tree.files[".ci/run"]:
                 yield f"{path}:{prose.line_at(text, found.start())}: .ci/run does not run {found[1]}"
 
 
 def wrong_lists(tree):
-    parts = crates, original, commands, differences, script_words, questions, exported, tested, doors, announced, in_gate
-    for part in parts:
+    pages = crates, original, commands, differences, tested, doors, announced, in_gate
+    for part in (*pages, script_words, questions, exported):
         yield from part(tree)

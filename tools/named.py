@@ -5,8 +5,8 @@ command     `bash tools/calls --test`, `./play SCRIPT`, `rt check geom`, `compar
 path        `crates/geom/src`, `rules/specs/Group`, `group/Steps`: from the root, from crates/ or from the document's
             folder on; or else the end of a path below a crate or folder that the paragraph names.
 line        `mousedown 190 90 1`: a line of a call script, with as many numbers as its word takes.
-value       `0 MouseDown 54 34 1`, `≤`, `ID X Y`: what a program writes, signs and stand-ins, which name nothing; what the
-            kit prints, options of compilers, names of pixman, and what the original says where it panics.
+value       `0 MouseDown 54 34 1`, `≤`, `ID X Y`: what a program writes, signs and stand-ins, which name nothing; what
+            the kit prints, options of compilers, names of pixman, and what the original says where it panics.
 qualified   `windows::inner::one::show`, `Rect::union`: a word of the files of that crate, module or type.
 member      `Group.start`: a word of a file of that name.
 words       all others: each word is one of the code, or the name of a file or folder.
@@ -34,7 +34,9 @@ PLACE = re.compile(r"((?:\w+/)*\w+\.rs):\d+")
 QUALIFIED = re.compile(r"[\w·]+(?:::[\w·]+)+(?:\(.*\))?")
 MEMBER = re.compile(r"([A-Z]\w*)\.([\w-]+)")
 # A list of names after one noun: crates `a`, `b` and `c`.
-NOUN = re.compile(r"\b(crate|mistake|function|enum|struct|record|lemma|file)s?\s+(?:`[^`]+`(?:,\s+|\s+and\s+|\s+or\s+))*$")
+NOUN = re.compile(
+    r"\b(crate|mistake|function|enum|struct|record|lemma|file)s?\s+(?:`[^`]+`(?:,\s+|\s+and\s+|\s+or\s+))*$"
+)
 DECLARED = {
     "function": (r"\bfn {}\b|^[\w ]+[ *]{}\(|^def {}\(", (".rt", ".rs", ".c", ".h", ".py")),
     "enum": (r"\benum {}\b", (".rt", ".rs")),
@@ -73,7 +75,7 @@ class Names:
         noun = NOUN.search(before)
         return said or (self.of_noun(text, noun[1]) if noun else "")
 
-    # Forms: each gives None of what is another one ---------------------------------------------------------------------
+    # Forms: each gives None of what is another one -----------------------------------------------------------------
 
     def command(self, text, folders, document):
         first, *rest = re.sub(r"^(?:[A-Z_]+=\S+ )+", "", text).split() or [text]

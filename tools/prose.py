@@ -1,5 +1,6 @@
 """A document by its paragraphs: what stands in backticks, links, headings and lines that are too wide."""
 import dataclasses
+import functools
 import posixpath
 import re
 import textwrap
@@ -38,6 +39,7 @@ def target(page, link):
     return posixpath.normpath(posixpath.join(posixpath.dirname(page), link)) if link else page
 
 
+@functools.cache
 def without_blocks(text):
     """Examples of input and output are no prose: fenced and indented blocks become blank lines."""
     blank = lambda found: "\n" * found[0].count("\n")

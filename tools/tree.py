@@ -1,4 +1,4 @@
-"""The files of the repository and what they have: folders, crates, commands, words of the code, lines of call scripts."""
+"""The files of the repository and what they have: folders, crates, commands, words of the code, lines of scripts."""
 import functools
 import os
 import pathlib
@@ -39,6 +39,12 @@ def text_of(path):
 
 
 @functools.cache
+def above(path):
+    """The folders that a file is in, the root as a dot."""
+    return [str(folder) for folder in pathlib.PurePath(path).parents]
+
+
+@functools.cache
 def code_words(text, suffix):
     """The words of a file, each also without the dots at its ends: `lib.Seq.` is brought in by `use`."""
     comment, word = CODE[suffix]
@@ -49,7 +55,7 @@ def code_words(text, suffix):
 class Tree:
     def __init__(self, files):
         self.files = files
-        self.folders = {str(above) for path in files for above in pathlib.PurePath(path).parents}
+        self.folders = {folder for path in files for folder in above(path)}
         self.crates = re.findall(r"^(\w+):", files["crates.txt"], re.M)
         self.commands = {path for path, text in files.items() if text.startswith("#!")}
         self.script = self.script_lines()
