@@ -1,6 +1,7 @@
 """Edits that documents.py has to refuse, and some that it must not, each made on a copy of the files in memory."""
 import sys
 
+import prose
 from documents import Documents
 from figures import FIGURES, stated, wrong_figures
 
@@ -170,6 +171,16 @@ def refused_figures(documents):
     return count
 
 
+def wraps(documents):
+    """Wrapping keeps every word, every paragraph, and the lines that are no prose; it ends where it does not."""
+    for path, text in documents.pages.items():
+        other = prose.wrapped(text, 70)
+        kept = [[line for line in one.split("\n") if line.lstrip().startswith(("|", "#"))] for one in (text, other)]
+        counts = [len(list(prose.paragraphs(one))) for one in (text, other)]
+        if text.split() != other.split() or kept[0] != kept[1] or counts[0] != counts[1]:
+            sys.exit(f"tools/documents: {path} is not the same when it is wrapped")
+
+
 def refused(files, original, names):
     """How many edits are refused; it ends where one is not, or where a harmless one is."""
     for what, sentence, part in SENTENCES:
@@ -182,4 +193,6 @@ def refused(files, original, names):
     for sentence in PASSED:
         for text in Documents(edited(files, [(PAGE, "", f"\n{sentence}\n")]), original, names).wrong():
             sys.exit(f"tools/documents: what is there is refused: {text}")
-    return len(SENTENCES) + len(EDITS) + refused_figures(Documents(files, original, names))
+    documents = Documents(files, original, names)
+    wraps(documents)
+    return len(SENTENCES) + len(EDITS) + refused_figures(documents)

@@ -8,7 +8,7 @@ import textwrap
 SPAN = re.compile(r"(?<!`)`([^`]+)`(?!`)")
 LINK = re.compile(r"\]\(([^)\s]+)\)")
 # Where a paragraph begins although no blank line stands before it: a heading, a row, a point of a list.
-BEGINS = re.compile(r"#+ |\||- |\d+\. |\s+- |```|<!--")
+BEGINS = re.compile(r"#+ |\s*\||\s*- |\d+\. |```|<!--")
 SAID_IN_CODE = re.compile(r"//[/!]? ?(.*)|^ ?/?\*+ ?(.*?)(?:\*/)?$|# (.*)")
 
 
@@ -27,7 +27,7 @@ class Paragraph:
 
     @property
     def is_row(self):
-        return self.text.startswith("|")
+        return self.text.lstrip().startswith("|")
 
 
 def line_at(text, at):
@@ -95,7 +95,7 @@ def anchors(text):
 def wide_lines(text, most):
     """Lines of prose that are longer; rows of tables, pictures and blocks may be."""
     for number, line in enumerate(without_blocks(text).split("\n"), 1):
-        if len(line) > most and not line.startswith(("|", "![", "<")) and " " in line.strip():
+        if len(line) > most and not line.lstrip().startswith(("|", "![", "<")) and " " in line.strip():
             yield number, len(line)
 
 
