@@ -185,6 +185,12 @@ FIGURES = (
         "original's {} files",
         "is its own {} files",
     ),
+    Figure(
+        "commands of compare/ beside its first",
+        lambda tree: sum(command.startswith("compare/") for command in tree.commands) - 1,
+        r"compare/README\.md\) has {} more",
+        "{} more commands:",
+    ),
     Figure("functions that call themselves", lambda tree: len(stack.DEPTHS), "{} functions call themselves"),
     Figure("public calls", lambda tree: len(all_calls(tree)), "{} public calls"),
     Figure("exported calls", lambda tree: sum(call.exported for call in all_calls(tree)), "{} exported calls"),

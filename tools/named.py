@@ -147,9 +147,16 @@ class Names:
             return None
         *_, owner, name = text.partition("(")[0].split("::")
         for path, said in self.tree.files.items():
-            if path.endswith((".rt", ".rs")) and self.is_of(owner, path, said) and name in self.tree.words_of(path):
+            if path.endswith((".rt", ".rs")) and self.is_of(owner, path, said) and self.declares(path, said, name):
                 return ""
         return self.or_original([owner, name]) and f"there is no {name} of {owner}"
+
+    def declares(self, path, said, name):
+        """Whether a file does; a case of an enum is any word with a capital, and a module is also a file or folder."""
+        if name[0].isupper():
+            return name in self.tree.words_of(path)
+        is_module = name in path.split("/") or pathlib.PurePath(path).stem == name
+        return is_module or re.search(rf"\b(?:fn|mod) {name}\b", said)
 
     def is_of(self, owner, path, said):
         """A file of that crate or module, or one that has the methods of that type."""
@@ -161,9 +168,10 @@ class Names:
         if not found:
             return None
         paths = [path for path in self.tree.by_name.get(found[1], ()) if path.endswith(".antt")]
-        if text in self.tree.words or any(found[2] in self.tree.words_of(path) for path in paths):
+        form = re.compile(rf"^\s*(?:(?:pub|abbrev|unfoldable|record|data) )*{re.escape(found[2])} [^=\n]*:", re.M)
+        if text in self.tree.words or any(form.search(self.tree.files[path]) for path in paths):
             return ""
-        return f"no file {found[1]} has {found[2]}" if paths else None
+        return f"no file {found[1]} defines {found[2]}" if paths else None
 
     def words(self, text, folders, document):
         if text in self.tree.words or text in self.tree.by_name or text in self.stand_ins:
