@@ -86,7 +86,7 @@ def links(text):
 def anchors(text):
     """What a link may end in: the headings as a reader's page names them."""
     found = set()
-    for heading in re.findall(r"^#+ (.*)$", text, re.M):
+    for heading in re.findall(r"^#+ (.*)$", without_blocks(text), re.M):
         words = re.sub(r"[^\w\- ]", "", heading.lower())
         found.add(words.replace(" ", "-"))
     return found
