@@ -11,7 +11,7 @@ qualified   `windows::inner::one::show`, `Rect::union`: a word of the files of t
 member      `Group.start`: a word of a file of that name.
 words       all others: each word is one of the code, or the name of a file or folder.
 
-Where a noun stands before the name, as in crate `geom`, it has to be such a thing. A name that the code does not have
+Where a noun stands before the name, as in crate `geom`, it has to be such a thing. In documents on the original a name
 may be the original's.
 """
 import pathlib
@@ -20,6 +20,8 @@ import re
 from prose import paragraphs
 from tree import code_words
 
+# Documents that speak of the original. Only there may a name be the original's.
+OF_ORIGINAL = ("docs/DECISIONS.md", "docs/DIFFERENCES.md")
 # What stands for any name.
 STAND_INS = "CALLS CRATE DIR FUNCTION NAME PIECE PREFIX SCRIPT SEED".split()
 KIT = "check ci dev doc fmt goals mir must-fail prove selftest staticlib try version".split()
@@ -149,7 +151,7 @@ class Names:
         for path, said in self.tree.files.items():
             if path.endswith((".rt", ".rs")) and self.is_of(owner, path, said) and self.declares(path, said, name):
                 return ""
-        return self.or_original([owner, name]) and f"there is no {name} of {owner}"
+        return "" if self.original_has([owner, name], document) else f"there is no {name} of {owner}"
 
     def declares(self, path, said, name):
         """Whether a file does; a case of an enum is any word with a capital, and a module is also a file or folder."""
@@ -178,7 +180,7 @@ class Names:
             return ""
         words = [word.strip(".:") for word in re.findall(r"[^\s(){};,\[\]\"'⌜⌝=<>&|…]+…?|…[\w-]+", text)]
         missing = [word for word in words if not self.is_word(word)]
-        return self.or_original(missing) and f"no code has {', '.join(missing)}"
+        return "" if self.original_has(missing, document) else f"no code has {', '.join(missing)}"
 
     # What there is ---------------------------------------------------------------------------------------------------
 
@@ -236,9 +238,11 @@ class Names:
     def of_original(self, path):
         return any(known.endswith(f"/{path}") for known in self.notice)
 
-    def or_original(self, words):
-        """Whether some word is neither ours nor, as far as it is at hand, the original's."""
-        return bool(words) and (self.original is None or not all(word in self.original for word in words))
+    def original_has(self, words, document):
+        """Whether all words are the original's, in a document that speaks of it; true where it is not at hand."""
+        if not words or document not in OF_ORIGINAL:
+            return not words
+        return self.original is None or all(word in self.original for word in words)
 
     def of_noun(self, name, noun):
         if not re.fullmatch(r"[\w-]+", name):
