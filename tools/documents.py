@@ -61,14 +61,10 @@ NUMBERED = (
 
 
 def newest(text):
-    """The pages of changes without older entries: the newest is at the other end from the base."""
-    starts = [found.start() for found in re.finditer(r"^## ", text, re.M)] + [len(text)]
-    if len(starts) < 2:
-        return text
-    first = not text[starts[0] :].startswith("## The base")
-    begin, end = starts[:2] if first else starts[-2:]
-    blank = lambda part: "\n" * part.count("\n")
-    return text[: starts[0]] + blank(text[starts[0] : begin]) + text[begin:end] + blank(text[end:])
+    """The page of changes with its first entry, which is the newest, and blank lines for the others."""
+    entries = [found.start() for found in re.finditer(r"^## ", text, re.M)]
+    end = entries[1] if len(entries) > 1 else len(text)
+    return text[:end] + "\n" * text[end:].count("\n")
 
 
 class Documents:
