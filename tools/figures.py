@@ -93,10 +93,10 @@ FIGURES = (
         "a queue of {} (?:events|slots)",
         "fewer than {} events wait",
     ),
-    Figure("greatest C", at("crates/windows/src/start.rt", "if {} < c"), "C is 1 to {}"),
+    Figure("greatest C", at("crates/rules/specs/Group.antt", "allowedC c = leb 1 c && leb c {}"), "C is 1 to {}"),
     Figure(
         "greatest coordinate",
-        at("crates/geom/src/inner/small.rt", "MOST: u32 = {}"),
+        at("crates/geom/specs/Questions.antt", "small n = leb n {}"),
         "sizes are at most {}",
         r"its x \+ w and y \+ h are at most {}",
         "height are 1 to {}",
@@ -110,7 +110,7 @@ FIGURES = (
     ),
     Figure(
         "event times",
-        at("crates/busiest/src/lib.rt", r"times\.len\(\) > {}"),
+        at("crates/busiest/specs/Busiest.antt", r"26 is leb \(length run\) {}\)"),
         "run has at most {} times",
         "A run of {} event times",
     ),
