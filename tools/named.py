@@ -26,8 +26,10 @@ OF_ORIGINAL = ("docs/DECISIONS.md", "docs/DIFFERENCES.md")
 STAND_INS = "CALLS CRATE DIR FUNCTION NAME PIECE PREFIX SCRIPT SEED".split()
 KIT = "check ci dev doc fmt goals mir must-fail prove selftest staticlib try version".split()
 OTHERS = ("cargo", "git", "grep", "objdump", "rattle")
-# What is made, the customer's documents beside the checkout, and the kit's own library.
-ELSEWHERE = ("target/", "../shared/", "logic/", "antt/", "thepowersgang/")
+# What is made, the customer's documents beside the checkout, the kit's own library, and folders of a machine.
+ELSEWHERE = ("target/", "../shared/", "logic/", "antt/", "thepowersgang/", "/")
+# What `install` puts in place.
+INSTALLED = ("PREFIX/", "LIBDIR/")
 # `logic-built=trusted`, `pinned=no`: fields of a line that the kit prints.
 OF_OTHERS = re.compile(r"rattle-kit-.*|[\w-]+=[\w,]*|help:|(?:tie\.)?Need-[AB…]|-[a-zA-Z].*|PIXMAN_\w+|pixman_\w+")
 PANIC = re.compile(r"`[\w/]+\.rs:\d+`:\s+$")
@@ -107,7 +109,8 @@ class Names:
         return next((f"{command} takes no {option}" for option in options if option not in said), "")
 
     def wrong_files(self, words):
-        paths = [word for word in words if PATH.fullmatch(word) and "*" not in word and not word.startswith(ELSEWHERE)]
+        """Those that begin with a folder of the repository; another word may be anything."""
+        paths = [word for word in words if PATH.fullmatch(word) and word.split("/")[0] in self.tree.folders]
         return next((f"there is no {path}" for path in paths if not self.is_there(path)), "")
 
     def path(self, text, folders, document):
@@ -115,7 +118,7 @@ class Names:
         text = place[1] if place else text
         if not PATH.fullmatch(text):
             return None
-        if text.startswith("PREFIX/"):
+        if text.startswith(INSTALLED):
             return "" if pathlib.PurePath(text).name in self.tree.files["install"] else f"install puts no {text} there"
         if text.startswith(ELSEWHERE) or self.of_original(text):
             return ""
@@ -191,7 +194,7 @@ class Names:
             return any(known.startswith(word[:-1]) for known in self.tree.words)
         if word.startswith("…"):
             return any(known.endswith(word[1:]) for known in self.tree.words)
-        if not re.search(r"[^\W\d_]", word) or word.startswith((*ELSEWHERE, "PREFIX/")):
+        if not re.search(r"[^\W\d_]", word) or word.startswith((*ELSEWHERE, *INSTALLED)):
             return True
         if word.startswith("--"):
             return self.is_option(word)

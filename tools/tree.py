@@ -14,10 +14,12 @@ CODE = {
     ".c": (r"//[^\n]*|/\*.*?\*/", r"\w+"),
     ".h": (r"//[^\n]*|/\*.*?\*/", r"\w+"),
     ".sh": (r"(?<!\S)#[^\n]*", r"[\w-]+"),
+    ".py": (r"(?<!\S)#[^\n]*", r"[\w-]+"),
     "": (r"(?<!\S)#[^\n]*", r"[\w-]+"),
 }
-# Here names stand that are tried, and names of the documents themselves.
+# Here names stand that are tried, and names of the documents themselves; but play.py is what `./play` runs.
 NO_CODE = ("tools/", "docs/", "mistakes/", "NOTICE", "LICENSE", "crates/replay/std")
+CODE_TOO = {"tools/play.py": ".py", "examples/cpp/CMakeLists.txt": ".sh"}
 
 
 def read_files(root=ROOT):
@@ -65,8 +67,9 @@ class Tree:
         """Those of all code."""
         found = set()
         for path, text in self.files.items():
-            suffix = pathlib.PurePath(path).suffix
-            if suffix in CODE and not path.startswith(NO_CODE):
+            suffix = "no" if path.startswith(NO_CODE) else pathlib.PurePath(path).suffix
+            suffix = CODE_TOO.get(path, suffix)
+            if suffix in CODE:
                 found |= code_words(text, suffix)
         return found
 
