@@ -1,0 +1,72 @@
+/* What the files share that make calls. */
+#ifndef HOSTILE_CALLS_H
+#define HOSTILE_CALLS_H
+
+#include "hostile.h"
+
+enum { LIMIT = 32767 };
+
+/* A question, in a function that gives the answer that is due. */
+#define ASK(question, number) \
+    do {                      \
+        if (!(question))      \
+            return (number);  \
+    } while (0)
+
+static inline bool is_small(RoqRect r) { return r.pos.x <= LIMIT && r.pos.y <= LIMIT && r.dims.w <= LIMIT && r.dims.h <= LIMIT; }
+
+static inline bool same_rect(RoqRect a, RoqRect b) {
+    return a.pos.x == b.pos.x && a.pos.y == b.pos.y && a.dims.w == b.dims.w && a.dims.h == b.dims.h;
+}
+
+/* hostile_windows.c */
+void call_start(void);
+void call_create(void);
+void call_show(void);
+void call_raise(void);
+void call_hide(void);
+void call_drop(void);
+void call_mark(void);
+void call_move(void);
+void call_drag(void);
+void call_set_layer(void);
+void call_add_display(void);
+void call_display_at(void);
+void call_focus(void);
+void call_rect_of(void);
+void call_dim(void);
+void call_route(void);
+void call_pop(void);
+void call_hits(void);
+
+/* hostile_store.c */
+void call_resize(void);
+void call_maximise(void);
+void call_update_dims(void);
+void call_fill(void);
+void call_blit(void);
+void call_redraw(void);
+void call_begin(void);
+void call_portion(void);
+void call_look(void);
+
+/* hostile_visible.c */
+void call_visible(void);
+void call_share(void);
+void call_sheet(void);
+void call_read_sheet(void);
+
+/* hostile_bare.c */
+void call_contains(void);
+void call_contains_rect(void);
+void call_within(void);
+void call_intersect(void);
+void call_union(void);
+void call_not_intersect(void);
+void call_scanline(void);
+void call_fill_scanline(void);
+void call_set_scanline(void);
+void call_region(void);
+void call_busiest(void);
+
+#endif
