@@ -1,5 +1,5 @@
-/* hostile CALLS SEED: random calls with random arguments, each judged beside a model of the session. It prints the seed, how often each call
- * gave each answer, and at last the counts; the first difference ends it. */
+/* hostile CALLS SEED: random calls with random arguments, each judged beside a model of the session. It prints the
+ * seed, how often each call gave each answer, and at last the counts; the first difference ends it. */
 #define _GNU_SOURCE
 #include "hostile_calls.h"
 
@@ -17,17 +17,17 @@ static const struct call {
     uint32_t may_answer[4];
 } calls[] = {
     {"roq_start", 1, call_start, {2}},
-    {"roq_create", 40, call_create, {4}},
-    {"roq_show", 40, call_show, {3}},
+    {"roq_create", 60, call_create, {4}},
+    {"roq_show", 60, call_show, {3}},
     {"roq_raise", 20, call_raise, {3}},
-    {"roq_hide", 10, call_hide, {3}},
-    {"roq_drop", 8, call_drop, {3}},
+    {"roq_hide", 8, call_hide, {3}},
+    {"roq_drop", 4, call_drop, {3}},
     {"roq_mark", 20, call_mark, {3}},
     {"roq_move", 20, call_move, {3, 5}},
     {"roq_drag", 20, call_drag, {3, 5}},
     {"roq_set_layer", 20, call_set_layer, {3, 17}},
-    {"roq_resize", 50, call_resize, {1, 3, 5, 6}},
-    {"roq_add_display", 8, call_add_display, {5, 15, 16}},
+    {"roq_resize", 80, call_resize, {1, 3, 5, 6}},
+    {"roq_add_display", 12, call_add_display, {5, 15, 16}},
     {"roq_display_at", 20, call_display_at, {5}},
     {"roq_maximise", 6, call_maximise, {1, 3, 6}},
     {"roq_update_dims", 4, call_update_dims, {1, 6}},
@@ -150,17 +150,27 @@ static size_t random_call(uint32_t total) {
     return call;
 }
 
-/* How often each call gave each answer that it may give. */
-static void print_counts(void) {
-    for (size_t i = 0; i < CALLS; i++) {
-        printf("%-20s", calls[i].name);
-        for (uint32_t answer = 0; answer < ANSWERS; answer++) {
-            current = i;
-            if (may_answer(answer))
-                printf("  %" PRIu32 ": %" PRIu64, answer, counts[i][answer]);
+/* How often a call gave each answer that it may give; how many of these it never gave. */
+static size_t print_counts(size_t call) {
+    size_t missed = 0;
+    current = call;
+    printf("%-20s", calls[call].name);
+    for (uint32_t answer = 0; answer < ANSWERS; answer++)
+        if (may_answer(answer)) {
+            printf("  %" PRIu32 ": %" PRIu64, answer, counts[call][answer]);
+            missed += counts[call][answer] == 0;
         }
-        printf("\n");
-    }
+    printf("\n");
+    return missed;
+}
+
+static void print_all(void) {
+    size_t missed = 0;
+    for (size_t call = 0; call < CALLS; call++)
+        missed += print_counts(call);
+    if (missed > 0)
+        printf("answers that were never given: %zu\n", missed);
+    printf("%" PRIu64 " calls, %" PRIu64 " refused, 0 differences\n", number, refused);
 }
 
 int main(int count, char **words) {
@@ -177,7 +187,6 @@ int main(int count, char **words) {
     make(0);
     while (number < wanted)
         make(random_call(total));
-    print_counts();
-    printf("%" PRIu64 " calls, %" PRIu64 " refused, 0 differences\n", number, refused);
+    print_all();
     return 0;
 }

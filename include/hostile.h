@@ -1,4 +1,5 @@
-/* What the files of include/hostile share: random numbers, lent memory, the model of a session, and how a call is judged. */
+/* What the files of include/hostile share: random numbers, lent memory, the model of a session, and how a call is
+ * judged. */
 #ifndef HOSTILE_H
 #define HOSTILE_H
 
@@ -34,8 +35,8 @@ void map_places(void);
 size_t room_of(enum place place);
 /* Begins a call: nothing is lent yet, and the session may have moved. */
 void lend_nothing(void);
-/* Lends an array, one of a place in a call: at its end, at its beginning or between; of length 0 also null. Contents are copied into it, or it
- * keeps what it has. */
+/* Lends an array, one of a place in a call: at its end, at its beginning or between; of length 0 also null. Contents
+ * are copied into it, or it keeps what it has. */
 uint32_t *lend(enum place place, size_t len);
 const uint32_t *lend_to_read(enum place place, size_t len, const uint32_t *contents);
 uint8_t *lend_bytes(enum place place, size_t len);
@@ -43,9 +44,11 @@ const uint8_t *lend_bytes_to_read(enum place place, size_t len, const uint8_t *c
 /* The session, to be written and only to be read. */
 RoqSession *session(void);
 const RoqSession *session_to_read(void);
-/* What the array of a place holds now, also where null was lent. */
+/* What the array of a place holds now, also where null was lent, and what it held before the call. */
 const void *lent_now(enum place place);
-/* Whether memory is as before the call: what was lent and around it; around it; an array behind its first bytes, or outside a part of it. */
+const void *lent_before(enum place place);
+/* Whether memory is as before the call: what was lent and around it; around it; an array behind its first bytes, or
+ * outside a part of it. */
 bool all_kept(void);
 bool surroundings_kept(void);
 bool kept_from(enum place place, size_t bytes);
@@ -115,7 +118,8 @@ void given(const uint64_t *arguments, size_t count);
 #define GIVEN(...) given((const uint64_t[]){__VA_ARGS__}, sizeof((const uint64_t[]){__VA_ARGS__}) / sizeof(uint64_t))
 /* Compares an answer with the one that is due. */
 void answered(uint32_t answer, uint32_t due);
-/* The same, and sees that a refused call changed nothing, and another nothing beside what was lent; whether it was accepted. */
+/* The same, and sees that a refused call changed nothing, and another nothing beside what was lent; whether it was
+ * accepted. */
 bool accepted(uint32_t answer, uint32_t due);
 /* Ends the program where something that this call promises is not so. */
 void expect(bool so, const char *what);

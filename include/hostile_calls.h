@@ -7,13 +7,17 @@
 enum { LIMIT = 32767 };
 
 /* A question, in a function that gives the answer that is due. */
-#define ASK(question, number) \
-    do {                      \
-        if (!(question))      \
-            return (number);  \
+#define ASK(question, number)                                                                                          \
+    do {                                                                                                               \
+        if (!(question))                                                                                               \
+            return (number);                                                                                           \
     } while (0)
 
-static inline bool is_small(RoqRect r) { return r.pos.x <= LIMIT && r.pos.y <= LIMIT && r.dims.w <= LIMIT && r.dims.h <= LIMIT; }
+static inline uint32_t least(uint32_t a, uint32_t b) { return a < b ? a : b; }
+
+static inline bool is_small(RoqRect r) {
+    return r.pos.x <= LIMIT && r.pos.y <= LIMIT && r.dims.w <= LIMIT && r.dims.h <= LIMIT;
+}
 
 static inline bool same_rect(RoqRect a, RoqRect b) {
     return a.pos.x == b.pos.x && a.pos.y == b.pos.y && a.dims.w == b.dims.w && a.dims.h == b.dims.h;
@@ -35,6 +39,8 @@ void call_display_at(void);
 void call_focus(void);
 void call_rect_of(void);
 void call_dim(void);
+
+/* hostile_events.c */
 void call_route(void);
 void call_pop(void);
 void call_hits(void);
@@ -45,9 +51,20 @@ void call_maximise(void);
 void call_update_dims(void);
 void call_fill(void);
 void call_blit(void);
+/* The length of a store, mostly the right one; whether it is right. */
+size_t store_length(void);
+bool store_fits(size_t len);
+uint64_t pixels_of(RoqDims dims);
+
+/* hostile_redraw.c */
 void call_redraw(void);
 void call_begin(void);
 void call_portion(void);
+/* The size of a screen or target, and whether this one may be lent with this length. */
+RoqDims screen_dims(void);
+bool screen_fits(RoqDims dims, size_t len);
+
+/* hostile_look.c */
 void call_look(void);
 
 /* hostile_visible.c */
@@ -56,17 +73,21 @@ void call_share(void);
 void call_sheet(void);
 void call_read_sheet(void);
 
-/* hostile_bare.c */
+/* hostile_rects.c */
 void call_contains(void);
 void call_contains_rect(void);
 void call_within(void);
 void call_intersect(void);
 void call_union(void);
 void call_not_intersect(void);
+
+/* hostile_pixels.c */
 void call_scanline(void);
 void call_fill_scanline(void);
 void call_set_scanline(void);
 void call_region(void);
+
+/* hostile_times.c */
 void call_busiest(void);
 
 #endif

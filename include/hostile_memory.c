@@ -1,5 +1,6 @@
-/* Memory that is lent to calls: each place lies between two pages that cannot be touched, and is seen twice, so that an array that a call
- * only reads is lent where it cannot be written. Before a call everything lent is copied, with what lies around it. */
+/* Memory that is lent to calls: each place lies between two pages that cannot be touched, and is seen twice, so that an
+ * array that a call only reads is lent where it cannot be written. Before a call everything lent is copied, with what
+ * lies around it. */
 #define _GNU_SOURCE
 #include "hostile.h"
 
@@ -82,7 +83,8 @@ static size_t beginning(enum place place, size_t bytes, size_t align) {
     case 1: return last;
     case 2:
     case 3: return 0;
-    default: return last > 4 * PAGE ? last - below(4 * PAGE) / align * align : below((uint32_t)last + 1) / align * align;
+    default:
+        return last > 4 * PAGE ? last - below(4 * PAGE) / align * align : below((uint32_t)last + 1) / align * align;
     }
 }
 
@@ -143,6 +145,8 @@ bool kept_from(enum place place, size_t bytes) {
 }
 
 const void *lent_now(enum place place) { return writable[place] + lent_of(place).from; }
+
+const void *lent_before(enum place place) { return copies[place] + lent_of(place).from; }
 
 size_t altered_in(enum place place) {
     struct lent l = lent_of(place);

@@ -1,5 +1,5 @@
-/* Random arguments: mostly such that a call is accepted, often at a limit, sometimes anything. In a rough call half of the arguments are anything,
- * so that several questions are to be answered with a no, and the first of them counts. */
+/* Random arguments: mostly such that a call is accepted, often at a limit, sometimes anything. In a rough call half of
+ * the arguments are anything, so that several questions are to be answered with a no, and the first of them counts. */
 #include "hostile.h"
 
 static uint64_t state;
@@ -24,8 +24,26 @@ void begin_random_call(void) { rough = one_in(12); }
 bool odd_one_in(uint32_t bound) { return one_in(rough ? 2 : bound); }
 
 uint32_t wild(void) {
-    static const uint32_t limits[] = {0, 1, 15, 16, 17, 32, 255, 256, 4096, 32766, 32767, 32768, 65535, 65536, 1048576, 1048577,
-                                      INT32_MAX, UINT32_C(1) << 31, UINT32_MAX - 1, UINT32_MAX};
+    static const uint32_t limits[] = {0,
+                                      1,
+                                      15,
+                                      16,
+                                      17,
+                                      32,
+                                      255,
+                                      256,
+                                      4096,
+                                      32766,
+                                      32767,
+                                      32768,
+                                      65535,
+                                      65536,
+                                      1048576,
+                                      1048577,
+                                      INT32_MAX,
+                                      UINT32_C(1) << 31,
+                                      UINT32_MAX - 1,
+                                      UINT32_MAX};
     uint32_t kind = below(4);
     if (kind == 0)
         return below(64);

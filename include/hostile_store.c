@@ -1,13 +1,11 @@
-/* Calls that are lent a store, or a screen beside it, and walks. */
+/* Calls that are lent a store, and write it. */
 #include "hostile_calls.h"
 
-#include <math.h>
+size_t store_length(void) { return length_near(16 * (uint64_t)model.c, room_of(STORE)); }
 
-static size_t store_length(void) { return length_near(16 * (uint64_t)model.c, room_of(STORE)); }
+bool store_fits(size_t len) { return len == 16 * (uint64_t)model.c; }
 
-static bool store_fits(size_t len) { return len == 16 * (uint64_t)model.c; }
-
-static uint64_t pixels_of(RoqDims dims) { return (uint64_t)dims.w * dims.h; }
+uint64_t pixels_of(RoqDims dims) { return (uint64_t)dims.w * dims.h; }
 
 /* Whether the store is as before outside the first pixels of a window. */
 static bool others_kept(uint32_t id, uint64_t pixels) {
@@ -85,7 +83,7 @@ static void judge_write(RoqAltered got, uint32_t due, uint32_t id) {
 }
 
 void call_fill(void) {
-    uint32_t id = id_of_window(), colour = below(4);
+    uint32_t id = id_of_window(), colour = one_in(2) ? below(4) : (uint32_t)random_bits();
     RoqRect r = area();
     size_t len = store_length();
     GIVEN(id, r.pos.x, r.pos.y, r.dims.w, r.dims.h, colour, len);
@@ -101,106 +99,10 @@ static uint32_t due_blit(uint32_t id, RoqRect r, size_t stride, size_t store_len
 void call_blit(void) {
     uint32_t id = id_of_window();
     RoqRect r = area();
-    size_t stride = odd_one_in(16) ? (size_t)random_bits() >> below(64) : below(20), data_len = one_in(8) ? 0 : below(200), len = store_length();
+    size_t stride = odd_one_in(16) ? (size_t)random_bits() >> below(64) : below(20),
+           data_len = one_in(8) ? 0 : below(200), len = store_length();
     GIVEN(id, r.pos.x, r.pos.y, r.dims.w, r.dims.h, stride, data_len, len);
     const uint32_t *data = lend_to_read(DATA, data_len, NULL);
-    judge_write(roq_blit(session(), id, r, stride, data, data_len, lend(STORE, len), len), due_blit(id, r, stride, len), id);
-}
-
-/* ---- Screens ---- */
-
-static bool screen_fits(RoqDims dims, size_t len) {
-    return dims.w >= 1 && dims.h >= 1 && dims.w <= LIMIT && dims.h <= LIMIT && len == pixels_of(dims);
-}
-
-/* The size of a screen or target: mostly small, sometimes as wide or as high as can be. */
-static RoqDims screen_dims(void) {
-    RoqDims dims = {1 + below(28), 1 + below(28)};
-    if (odd_one_in(40))
-        *(one_in(2) ? &dims.w : &dims.h) = wild();
-    else if (one_in(200))
-        dims.w = LIMIT;
-    return dims;
-}
-
-static uint32_t due_redraw(RoqDims dims, size_t store_len, size_t screen_len) {
-    ASK(store_fits(store_len), 1);
-    ASK(screen_fits(dims, screen_len), 8);
-    return 0;
-}
-
-void call_redraw(void) {
-    bool forced = one_in(2);
-    RoqDims dims = screen_dims();
-    size_t len = store_length(), screen_len = length_near(pixels_of(dims), room_of(SCREEN));
-    GIVEN(forced, dims.w, dims.h, len, screen_len);
-    const uint32_t *store = lend_to_read(STORE, len, NULL);
-    uint32_t answer = roq_redraw(session(), forced, dims.w, dims.h, store, len, lend(SCREEN, screen_len), screen_len);
-    if (accepted(answer, due_redraw(dims, len, screen_len)))
-        model.walking = false;
-}
-
-void call_begin(void) {
-    bool forced = one_in(2);
-    GIVEN(forced);
-    if (accepted(roq_begin(session(), forced), 0))
-        model_begin();
-}
-
-void call_portion(void) {
-    RoqDims dims = screen_dims();
-    size_t len = store_length(), screen_len = length_near(pixels_of(dims), room_of(SCREEN));
-    GIVEN(dims.w, dims.h, len, screen_len);
-    const uint32_t *store = lend_to_read(STORE, len, NULL);
-    uint32_t answer = roq_portion(session(), dims.w, dims.h, store, len, lend(SCREEN, screen_len), screen_len);
-    uint32_t due = due_redraw(dims, len, screen_len);
-    if (accepted(answer, due != 0 ? due : model.walking ? 0 : 20))
-        model_portion();
-}
-
-/* ---- Looks ---- */
-
-/* Any double: quarters, numbers beside them, and those that no corner can be. */
-static double corner(void) {
-    static const double odd[] = {-0.0, 32767, 32767.25, 32766.75, 0.1, -0.25, 1e-310, 1e308, -1, 4294967296.0, 1 / 3.0};
-    union {
-        uint64_t bits;
-        double number;
-    } any = {random_bits()};
-    if (odd_one_in(40))
-        return any.number;
-    if (odd_one_in(64))
-        return one_in(2) ? INFINITY : NAN;
-    return one_in(16) ? odd[below(sizeof odd / sizeof odd[0])] : below(80) / 4.0;
-}
-
-static double factor(void) {
-    static const double right[] = {0.25, 0.5, 1, 2, 4};
-    return one_in(12) ? corner() : right[below(5)];
-}
-
-static bool in_quarters(double at) { return at >= 0 && at <= LIMIT && (double)(uint32_t)(4 * at) == 4 * at; }
-
-static bool look_is_right(RoqLook l) {
-    bool factor_is_right = l.factor == 0.25 || l.factor == 0.5 || l.factor == 1 || l.factor == 2 || l.factor == 4;
-    return l.fit || (factor_is_right && in_quarters(l.x) && in_quarters(l.y));
-}
-
-static uint32_t due_look(uint32_t id, RoqLook look, RoqDims dims, size_t store_len, size_t target_len) {
-    ASK(store_fits(store_len), 1);
-    ASK(in_use(id), 3);
-    ASK(look_is_right(look), 22);
-    ASK(screen_fits(dims, target_len), 23);
-    return 0;
-}
-
-void call_look(void) {
-    uint32_t id = id_of_window();
-    RoqLook look = {corner(), corner(), factor(), one_in(4)};
-    RoqDims dims = screen_dims();
-    size_t len = store_length(), target_len = length_near(pixels_of(dims), room_of(SCREEN));
-    GIVEN(id, look.fit, dims.w, dims.h, len, target_len);
-    const uint32_t *store = lend_to_read(STORE, len, NULL);
-    uint32_t *target = lend(SCREEN, target_len);
-    accepted(roq_look(session_to_read(), id, look, dims.w, dims.h, store, len, target, target_len), due_look(id, look, dims, len, target_len));
+    judge_write(roq_blit(session(), id, r, stride, data, data_len, lend(STORE, len), len), due_blit(id, r, stride, len),
+                id);
 }

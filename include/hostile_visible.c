@@ -1,4 +1,5 @@
-/* What is seen of a window, as list, share and sheet. How many rectangles or bytes there are is taken from a call that is lent room enough. */
+/* What is seen of a window, as list, share and sheet. How many rectangles or bytes there are is taken from a call that
+ * is lent room enough. */
 #include "hostile_calls.h"
 
 #include <string.h>
@@ -7,14 +8,20 @@ enum { LIST_ROOM = 1984, SHEET_ROOM = 2048, READ_ROOM = 7812 };
 static uint32_t whole_list[LIST_ROOM];
 static uint8_t whole_sheet[SHEET_ROOM];
 
-/* The count of a window's visible rectangles, and their pixels. */
+static uint64_t pixels_in(const uint32_t *list, size_t count) {
+    uint64_t pixels = 0;
+    for (size_t i = 0; i < count; i++)
+        pixels += (uint64_t)list[4 * i + 2] * list[4 * i + 3];
+    return pixels;
+}
+
+/* The count of a window's visible rectangles, and their pixels, of which a hidden window has none. */
 static size_t seen_of(uint32_t id, uint64_t *pixels) {
     RoqListing seen = roq_visible(session_to_read(), id, whole_list, LIST_ROOM);
-    *pixels = 0;
     expect(seen.answer == (in_use(id) ? 0u : 3u) && seen.count <= LIST_ROOM / 4, "no list with room enough");
-    for (size_t i = 0; i < seen.count; i++)
-        *pixels += (uint64_t)whole_list[4 * i + 2] * whole_list[4 * i + 3];
-    expect(in_use(id) && is_shown(id) ? *pixels <= (uint64_t)model.windows[id].rect.dims.w * model.windows[id].rect.dims.h : seen.count == 0,
+    *pixels = pixels_in(whole_list, seen.count);
+    uint64_t most = in_use(id) && is_shown(id) ? pixels_of(model.windows[id].rect.dims) : 0;
+    expect(*pixels <= most && (most > 0 || seen.count == 0 || pixels_of(model.windows[id].rect.dims) == 0),
            "more is seen than there is");
     return seen.count;
 }
@@ -37,7 +44,7 @@ void call_share(void) {
     GIVEN(id);
     seen_of(id, &seen);
     if (in_use(id))
-        all = (uint64_t)model.windows[id].rect.dims.w * model.windows[id].rect.dims.h;
+        all = pixels_of(model.windows[id].rect.dims);
     RoqShare share = roq_share(session_to_read(), id);
     if (accepted(share.answer, !in_use(id) ? 3 : !is_shown(id) || all == 0 ? 24 : 0))
         expect(100 * seen == share.percent * all + share.remainder && share.remainder < all, "it is another share");
@@ -64,7 +71,8 @@ void call_sheet(void) {
         return;
     expect(memcmp(lent_now(LIST), whole_sheet, count) == 0 && kept_from(LIST, count), "the sheet has other bytes");
     seen_of(id, &seen);
-    expect(rectangles_of_sheet(whole_sheet, count, &written) >= 0 && written == seen, "the sheet is not of what is seen");
+    expect(rectangles_of_sheet(whole_sheet, count, &written) >= 0 && written == seen,
+           "the sheet is not of what is seen");
 }
 
 /* Bytes to read: a window's sheet, often with a bit changed, cut or made longer; or anything. */
@@ -83,11 +91,13 @@ void call_read_sheet(void) {
     uint64_t pixels;
     size_t len = random_sheet();
     long count = rectangles_of_sheet(whole_sheet, len, &pixels);
-    size_t rects = count < 0 ? 0 : (size_t)count, list_len = length_near(4 * rects + below(2) * below(9), room_of(LIST));
+    size_t rects = count < 0 ? 0 : (size_t)count,
+           list_len = length_near(4 * rects + below(2) * below(9), room_of(LIST));
     GIVEN(len, list_len);
     const uint8_t *bytes = lend_bytes_to_read(DATA, len, whole_sheet);
     RoqListing read = roq_read_sheet(bytes, len, lend(LIST, list_len), list_len);
     bool is = accepted(read.answer, count < 0 ? 18 : list_len < 4 * rects ? 19 : 0);
     expect(read.count == (is ? rects : 0), "another count of rectangles is read");
+    expect(!is || pixels_in(lent_now(LIST), rects) == pixels, "other rectangles are read");
     expect(!is || kept_from(LIST, 16 * rects), "the rest of the list was written");
 }

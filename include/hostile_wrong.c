@@ -1,34 +1,36 @@
-/* Wrong libraries, each with one mistake: bash include/hostile --test links it by the linker's --wrap and names the mistake in
- * HOSTILE_MISTAKE. A mistake is a line of MISTAKES: the call, and what is wrong. */
+/* Wrong libraries, each with one mistake: bash include/hostile --test links it by the linker's --wrap and names the
+ * mistake in HOSTILE_MISTAKE. A mistake is a line of MISTAKES: the call, and what is wrong. */
 #include "roqshyn.h"
 
 #include <stdlib.h>
 #include <string.h>
 
-#define MISTAKES                                                                \
-    MISTAKE(move_session, "a refused move changes a byte of the session")       \
-    MISTAKE(move_answer, "a move answers 3 where 5 is due")                     \
-    MISTAKE(fill_store, "a refused fill writes a pixel")                        \
-    MISTAKE(fill_count, "a fill counts a pixel too many")                       \
-    MISTAKE(redraw_screen, "a refused redraw writes a pixel of the screen")     \
-    MISTAKE(redraw_behind, "a redraw reads the pixel behind the store")         \
-    MISTAKE(redraw_before, "a redraw reads the pixel before the store")         \
-    MISTAKE(blit_data, "a blit writes its data")                                \
-    MISTAKE(resize_next, "a resize writes a pixel of the next window")          \
-    MISTAKE(visible_behind, "a list is written past its length")                \
-    MISTAKE(hits_rest, "the rest of a list of hits is written")                 \
-    MISTAKE(hits_points, "an x without its y is passed over")                   \
-    MISTAKE(look_target, "a refused look writes a pixel of the target")         \
-    MISTAKE(sheet_rest, "the rest of a sheet's buffer is written")              \
-    MISTAKE(rect_session, "a query writes the session")                         \
-    MISTAKE(focus_late, "the focus is that of the call before")                 \
-    MISTAKE(pop_button, "an event loses its button")                            \
-    MISTAKE(route_order, "a point is asked before the kind of an event")        \
-    MISTAKE(portion_over, "a portion is accepted after the walk is over")       \
-    MISTAKE(maximise_order, "an id is asked before the store")                  \
-    MISTAKE(read_longer, "a sheet may have a byte too many")                    \
-    MISTAKE(set_nothing, "data of length 0 is read")                            \
-    MISTAKE(start_refused, "a refused start keeps the session")                 \
+#define MISTAKES                                                                                                       \
+    MISTAKE(move_session, "a refused move changes a byte of the session")                                              \
+    MISTAKE(move_answer, "a move answers 3 where 5 is due")                                                            \
+    MISTAKE(fill_store, "a refused fill writes a pixel")                                                               \
+    MISTAKE(fill_count, "a fill counts a pixel too many")                                                              \
+    MISTAKE(redraw_screen, "a refused redraw writes a pixel of the screen")                                            \
+    MISTAKE(redraw_behind, "a redraw reads the pixel behind the store")                                                \
+    MISTAKE(redraw_before, "a redraw reads the pixel before the store")                                                \
+    MISTAKE(redraw_pixel, "a forced redraw leaves the last pixel out")                                                 \
+    MISTAKE(blit_data, "a blit writes its data")                                                                       \
+    MISTAKE(resize_next, "a resize writes a pixel of the next window")                                                 \
+    MISTAKE(visible_behind, "a list is written past its length")                                                       \
+    MISTAKE(hits_rest, "the rest of a list of hits is written")                                                        \
+    MISTAKE(hits_points, "an x without its y is passed over")                                                          \
+    MISTAKE(look_target, "a refused look writes a pixel of the target")                                                \
+    MISTAKE(look_pixel, "a look leaves the last pixel of the target out")                                              \
+    MISTAKE(sheet_rest, "the rest of a sheet's buffer is written")                                                     \
+    MISTAKE(rect_session, "a query writes the session")                                                                \
+    MISTAKE(focus_late, "the focus is that of the call before")                                                        \
+    MISTAKE(pop_button, "an event loses its button")                                                                   \
+    MISTAKE(route_order, "a point is asked before the kind of an event")                                               \
+    MISTAKE(portion_over, "a portion is accepted after the walk is over")                                              \
+    MISTAKE(maximise_order, "an id is asked before the store")                                                         \
+    MISTAKE(read_longer, "a sheet may have a byte too many")                                                           \
+    MISTAKE(set_nothing, "data of length 0 is read")                                                                   \
+    MISTAKE(start_refused, "a refused start keeps the session")                                                        \
     MISTAKE(busiest_behind, "the time behind a run is read")
 
 enum mistake {
@@ -51,9 +53,9 @@ static bool is(enum mistake m) {
 
 static void read_at(const uint32_t *at) { (void)*(const volatile uint32_t *)at; }
 
-#define WRAP(result, call, ...)         \
-    result __real_roq_##call(__VA_ARGS__); \
-    result __wrap_roq_##call(__VA_ARGS__); \
+#define WRAP(result, call, ...)                                                                                        \
+    result __real_roq_##call(__VA_ARGS__);                                                                             \
+    result __wrap_roq_##call(__VA_ARGS__);                                                                             \
     result __wrap_roq_##call(__VA_ARGS__)
 
 WRAP(uint32_t, start, RoqSession *s, uint32_t c) {
@@ -77,9 +79,12 @@ WRAP(RoqAltered, fill, RoqSession *s, uint32_t id, RoqRect area, uint32_t colour
     return got;
 }
 
-WRAP(uint32_t, redraw, RoqSession *s, bool forced, uint32_t width, uint32_t height, const uint32_t *store, size_t store_len, uint32_t *screen,
-     size_t screen_len) {
+WRAP(uint32_t, redraw, RoqSession *s, bool forced, uint32_t width, uint32_t height, const uint32_t *store,
+     size_t store_len, uint32_t *screen, size_t screen_len) {
+    uint32_t last = screen_len > 0 ? screen[screen_len - 1] : 0;
     uint32_t answer = __real_roq_redraw(s, forced, width, height, store, store_len, screen, screen_len);
+    if (is(redraw_pixel) && answer == 0)
+        screen[screen_len - 1] = last;
     if (is(redraw_behind))
         read_at(store + store_len);
     if (is(redraw_before) && store_len > 0)
@@ -89,8 +94,8 @@ WRAP(uint32_t, redraw, RoqSession *s, bool forced, uint32_t width, uint32_t heig
     return answer;
 }
 
-WRAP(RoqAltered, blit, RoqSession *s, uint32_t id, RoqRect area, size_t stride, const uint32_t *data, size_t data_len, uint32_t *store,
-     size_t store_len) {
+WRAP(RoqAltered, blit, RoqSession *s, uint32_t id, RoqRect area, size_t stride, const uint32_t *data, size_t data_len,
+     uint32_t *store, size_t store_len) {
     union {
         const uint32_t *read;
         uint32_t *written;
@@ -114,7 +119,8 @@ WRAP(RoqListing, visible, const RoqSession *s, uint32_t id, uint32_t *list, size
     return got;
 }
 
-WRAP(uint32_t, hits, const RoqSession *s, const uint32_t *points, size_t points_len, uint32_t *answers, size_t answers_len) {
+WRAP(uint32_t, hits, const RoqSession *s, const uint32_t *points, size_t points_len, uint32_t *answers,
+     size_t answers_len) {
     if (is(hits_points))
         points_len -= points_len % 2;
     uint32_t answer = __real_roq_hits(s, points, points_len, answers, answers_len);
@@ -123,9 +129,12 @@ WRAP(uint32_t, hits, const RoqSession *s, const uint32_t *points, size_t points_
     return answer;
 }
 
-WRAP(uint32_t, look, const RoqSession *s, uint32_t id, RoqLook look, uint32_t tw, uint32_t th, const uint32_t *store, size_t store_len,
-     uint32_t *target, size_t target_len) {
+WRAP(uint32_t, look, const RoqSession *s, uint32_t id, RoqLook look, uint32_t tw, uint32_t th, const uint32_t *store,
+     size_t store_len, uint32_t *target, size_t target_len) {
+    uint32_t last = target_len > 0 ? target[target_len - 1] : 0;
     uint32_t answer = __real_roq_look(s, id, look, tw, th, store, store_len, target, target_len);
+    if (is(look_pixel) && answer == 0)
+        target[target_len - 1] = last;
     if (is(look_target) && answer == 22 && target_len > 0)
         target[0]++;
     return answer;
@@ -169,8 +178,8 @@ WRAP(uint32_t, route, RoqSession *s, RoqEvent e) {
     return __real_roq_route(s, e);
 }
 
-WRAP(uint32_t, portion, RoqSession *s, uint32_t width, uint32_t height, const uint32_t *store, size_t store_len, uint32_t *screen,
-     size_t screen_len) {
+WRAP(uint32_t, portion, RoqSession *s, uint32_t width, uint32_t height, const uint32_t *store, size_t store_len,
+     uint32_t *screen, size_t screen_len) {
     uint32_t answer = __real_roq_portion(s, width, height, store, store_len, screen, screen_len);
     return is(portion_over) && answer == 20 ? 0 : answer;
 }
@@ -188,8 +197,8 @@ WRAP(RoqListing, read_sheet, const uint8_t *bytes, size_t bytes_len, uint32_t *l
     return got;
 }
 
-WRAP(RoqAltered, set_scanline, uint32_t *pixels, size_t pixels_len, uint32_t width, uint32_t height, uint32_t line, uint32_t ofs, uint32_t len,
-     const uint32_t *data, size_t data_len) {
+WRAP(RoqAltered, set_scanline, uint32_t *pixels, size_t pixels_len, uint32_t width, uint32_t height, uint32_t line,
+     uint32_t ofs, uint32_t len, const uint32_t *data, size_t data_len) {
     if (is(set_nothing))
         read_at(data);
     return __real_roq_set_scanline(pixels, pixels_len, width, height, line, ofs, len, data, data_len);
