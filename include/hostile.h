@@ -5,20 +5,26 @@
 
 #include "roqshyn.h"
 
-/* ---- Random numbers: hostile_random.c ---- */
+/* ---- Random numbers: hostile_random.c ----
+ * No expression asks for two of them where C leaves their order open, so that a seed gives the same calls with every
+ * compiler. */
 
 void seed_with(uint64_t seed);
 uint64_t random_bits(void);
 uint32_t below(uint32_t bound);
 bool one_in(uint32_t bound);
+uint32_t often_0(uint32_t bound);
 /* Before each call. Some are rough: then an argument is odd one time in two, else one time in `bound`. */
 void begin_random_call(void);
 bool odd_one_in(uint32_t bound);
 /* Any number: a small one, one beside a limit of the header, or 32 random bits. */
 uint32_t wild(void);
+size_t wild_stride(void);
 uint32_t id_of_window(void);
 uint32_t coordinate(void);
+RoqPos position(void);
 uint32_t side(void);
+RoqDims sides(void);
 RoqRect area(void);
 /* A rectangle for bare geometry, whose sums may pass 32 bits. */
 RoqRect bare_rect(void);

@@ -14,7 +14,8 @@ static uint32_t due_route(RoqEvent e) {
 
 static RoqEvent random_event(void) {
     uint64_t bits = random_bits();
-    RoqEvent e = {.x = coordinate(), .y = coordinate(), .value = (uint32_t)bits};
+    RoqPos at = position();
+    RoqEvent e = {.x = at.x, .y = at.y, .value = (uint32_t)bits};
     e.dx = (int16_t)(uint16_t)(bits >> 32);
     e.dy = (int16_t)(uint16_t)(bits >> 48);
     e.button = (uint8_t)(bits >> 40);
@@ -70,7 +71,7 @@ void call_hits(void) {
     bool calm = !odd_one_in(12);
     for (size_t i = 0; i < len; i++)
         points[i] = calm ? below(32) : coordinate();
-    size_t answers_len = length_near(len / 2 * 3 + below(2) * below(9), 200);
+    size_t answers_len = length_near(len / 2 * 3 + often_0(9), 200);
     GIVEN(len, answers_len);
     const uint32_t *lent = lend_to_read(DATA, len, points);
     uint32_t answer = roq_hits(session_to_read(), lent, len, lend(LIST, answers_len), answers_len);

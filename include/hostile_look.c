@@ -62,9 +62,18 @@ static bool is_shown_by(RoqLook look, uint32_t id, RoqDims target) {
     return true;
 }
 
+static RoqLook random_look(void) {
+    RoqLook look;
+    look.x = corner();
+    look.y = corner();
+    look.factor = factor();
+    look.fit = one_in(4);
+    return look;
+}
+
 void call_look(void) {
     uint32_t id = id_of_window();
-    RoqLook look = {corner(), corner(), factor(), one_in(4)};
+    RoqLook look = random_look();
     RoqDims dims = screen_dims();
     size_t len = store_length(), target_len = length_near(pixels_of(dims), room_of(SCREEN));
     GIVEN(id, look.fit, dims.w, dims.h, len, target_len);

@@ -8,7 +8,10 @@ struct line {
 };
 
 static struct line random_line(void) {
-    struct line l = {side(), side(), 0, 0, side(), 0};
+    struct line l;
+    l.width = side();
+    l.height = side();
+    l.len = side();
     l.line = odd_one_in(12) ? side() : below(least(l.height, 64));
     l.ofs = odd_one_in(12) ? side() : below(least(l.width, 64));
     if (one_in(100))
@@ -86,8 +89,11 @@ static uint32_t due_region(RoqRect r, size_t stride, size_t pixels) {
 }
 
 void call_region(void) {
-    RoqRect r = {{odd_one_in(16) ? side() : below(8), odd_one_in(16) ? side() : below(8)}, {side(), side()}};
-    size_t stride = one_in(8) ? (size_t)random_bits() >> below(64) : 8 + below(20),
+    RoqRect r;
+    r.pos.x = odd_one_in(16) ? side() : below(8);
+    r.pos.y = odd_one_in(16) ? side() : below(8);
+    r.dims = sides();
+    size_t stride = one_in(8) ? wild_stride() : 8 + below(20),
            pixels = length_near(stride % 4096 * 12, room_of(SCREEN));
     GIVEN(r.pos.x, r.pos.y, r.dims.w, r.dims.h, stride, pixels);
     RoqPart part = roq_region(lend_to_read(SCREEN, pixels, NULL), pixels, stride, r.pos.x, r.pos.y, r.dims.w, r.dims.h);

@@ -23,6 +23,13 @@ void begin_random_call(void) { rough = one_in(12); }
 
 bool odd_one_in(uint32_t bound) { return one_in(rough ? 2 : bound); }
 
+uint32_t often_0(uint32_t bound) { return one_in(2) ? 0 : below(bound); }
+
+size_t wild_stride(void) {
+    size_t bits = (size_t)random_bits();
+    return bits >> below(64);
+}
+
 uint32_t wild(void) {
     static const uint32_t limits[] = {0,
                                       1,
@@ -72,15 +79,35 @@ uint32_t side(void) {
     return one_in(16) ? 0 : 1 + below(15);
 }
 
+RoqPos position(void) {
+    RoqPos at;
+    at.x = coordinate();
+    at.y = coordinate();
+    return at;
+}
+
+RoqDims sides(void) {
+    RoqDims dims;
+    dims.w = side();
+    dims.h = side();
+    return dims;
+}
+
 RoqRect area(void) {
-    RoqRect r = {{coordinate(), coordinate()}, {side(), side()}};
+    RoqRect r;
+    r.pos = position();
+    r.dims = sides();
     return r;
 }
 
 RoqRect bare_rect(void) {
     if (!one_in(3))
         return area();
-    RoqRect r = {{wild(), wild()}, {wild(), wild()}};
+    RoqRect r;
+    r.pos.x = wild();
+    r.pos.y = wild();
+    r.dims.w = wild();
+    r.dims.h = wild();
     if (one_in(2))
         r.dims.w = UINT32_MAX - r.pos.x + below(2);
     return r;
@@ -91,6 +118,6 @@ size_t length_near(uint64_t exact, size_t most) {
     if (odd_one_in(40))
         len = exact - 1 + below(3);
     else if (odd_one_in(60))
-        len = below(2) * below(4096);
+        len = often_0(4096);
     return len <= most ? (size_t)len : below(64);
 }

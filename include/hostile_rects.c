@@ -34,7 +34,9 @@ static uint32_t two_rects(RoqRect *a, RoqRect *b) {
 
 void call_contains(void) {
     RoqRect r = bare_rect();
-    RoqPos at = {one_in(4) ? wild() : coordinate(), coordinate()};
+    RoqPos at = position();
+    if (one_in(4))
+        at.x = wild();
     GIVEN(r.pos.x, r.pos.y, r.dims.w, r.dims.h, at.x, at.y);
     RoqTested tested = roq_contains(r, at);
     bool is = accepted(tested.answer, ends(r) ? 0 : 14);
@@ -54,7 +56,9 @@ void call_contains_rect(void) {
 
 void call_within(void) {
     RoqRect r = bare_rect(), common;
-    RoqDims dims = {one_in(4) ? wild() : below(40), one_in(4) ? wild() : below(40)};
+    RoqDims dims;
+    dims.w = one_in(4) ? wild() : below(40);
+    dims.h = one_in(4) ? wild() : below(40);
     RoqRect whole = {{0, 0}, dims};
     GIVEN(r.pos.x, r.pos.y, r.dims.w, r.dims.h, dims.w, dims.h);
     RoqTested tested = roq_within(r, dims.w, dims.h);

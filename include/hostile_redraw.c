@@ -7,10 +7,10 @@ bool screen_fits(RoqDims dims, size_t len) {
 
 /* The size of a screen or target: mostly small, sometimes as wide or as high as can be. */
 RoqDims screen_dims(void) {
-    RoqDims dims = {1 + below(28), 1 + below(28)};
-    if (odd_one_in(40))
-        *(one_in(2) ? &dims.w : &dims.h) = wild();
-    else if (one_in(200))
+    RoqDims dims;
+    dims.w = odd_one_in(80) ? wild() : 1 + below(28);
+    dims.h = odd_one_in(80) ? wild() : 1 + below(28);
+    if (one_in(200))
         dims.w = LIMIT;
     return dims;
 }

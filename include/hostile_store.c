@@ -22,7 +22,7 @@ static uint32_t due_resize(uint32_t id, RoqDims dims, size_t store_len) {
 
 void call_resize(void) {
     uint32_t id = id_of_window();
-    RoqDims dims = {side(), side()};
+    RoqDims dims = sides();
     size_t len = store_length();
     GIVEN(id, dims.w, dims.h, len);
     if (!accepted(roq_resize(session(), id, dims.w, dims.h, lend(STORE, len), len), due_resize(id, dims, len)))
@@ -99,8 +99,8 @@ static uint32_t due_blit(uint32_t id, RoqRect r, size_t stride, size_t store_len
 void call_blit(void) {
     uint32_t id = id_of_window();
     RoqRect r = area();
-    size_t stride = odd_one_in(16) ? (size_t)random_bits() >> below(64) : below(20),
-           data_len = one_in(8) ? 0 : below(200), len = store_length();
+    size_t stride = odd_one_in(16) ? wild_stride() : below(20), data_len = one_in(8) ? 0 : below(200),
+           len = store_length();
     GIVEN(id, r.pos.x, r.pos.y, r.dims.w, r.dims.h, stride, data_len, len);
     const uint32_t *data = lend_to_read(DATA, data_len, NULL);
     judge_write(roq_blit(session(), id, r, stride, data, data_len, lend(STORE, len), len), due_blit(id, r, stride, len),

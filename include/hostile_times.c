@@ -10,9 +10,10 @@ static size_t random_times(void) {
     uint32_t step = one_in(4) ? 1 : below(400) + 1;
     times[0] = one_in(16) ? UINT32_MAX - below(2000) : below(100);
     for (size_t i = 1; i < count; i++)
-        times[i] = least(times[i - 1], UINT32_MAX - 400) + below(step);
+        times[i] = times[i - 1] + least(below(step), UINT32_MAX - times[i - 1]);
+    size_t odd = below((uint32_t)count);
     if (one_in(16) && count > 0)
-        times[below((uint32_t)count)] = wild();
+        times[odd] = wild();
     return count;
 }
 

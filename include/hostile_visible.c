@@ -29,7 +29,7 @@ static size_t seen_of(uint32_t id, uint64_t *pixels) {
 void call_visible(void) {
     uint32_t id = id_of_window();
     uint64_t pixels;
-    size_t count = seen_of(id, &pixels), len = length_near(4 * count + below(2) * below(9), room_of(LIST));
+    size_t count = seen_of(id, &pixels), len = length_near(4 * count + often_0(9), room_of(LIST));
     GIVEN(id, len);
     RoqListing seen = roq_visible(session_to_read(), id, lend(LIST, len), len);
     bool is = accepted(seen.answer, !in_use(id) ? 3 : len < 4 * count ? 9 : 0);
@@ -62,7 +62,7 @@ static size_t sheet_of(uint32_t id) {
 void call_sheet(void) {
     uint32_t id = id_of_window();
     uint64_t seen, written;
-    size_t count = sheet_of(id), len = length_near(count + below(2) * below(9), 4 * room_of(LIST));
+    size_t count = sheet_of(id), len = length_near(count + often_0(9), 4 * room_of(LIST));
     GIVEN(id, len);
     RoqListing sheet = roq_sheet(session_to_read(), id, lend_bytes(LIST, len), len);
     bool is = accepted(sheet.answer, !in_use(id) ? 3 : len < count ? 19 : 0);
@@ -75,11 +75,13 @@ void call_sheet(void) {
            "the sheet is not of what is seen");
 }
 
+static void flip_bit(uint32_t bit) { whole_sheet[bit / 8] ^= (uint8_t)(1u << bit % 8); }
+
 /* Bytes to read: a window's sheet, often with a bit changed, cut or made longer; or anything. */
 static size_t random_sheet(void) {
     size_t len = one_in(8) ? below(40) : sheet_of(id_of_window());
     if (one_in(4) && len > 0)
-        whole_sheet[below((uint32_t)len)] ^= (uint8_t)(1u << below(8));
+        flip_bit(below(8 * (uint32_t)len));
     if (one_in(16) && len < SHEET_ROOM)
         whole_sheet[len++] = (uint8_t)below(2);
     if (one_in(16) && len > 0)
@@ -91,8 +93,7 @@ void call_read_sheet(void) {
     uint64_t pixels;
     size_t len = random_sheet();
     long count = rectangles_of_sheet(whole_sheet, len, &pixels);
-    size_t rects = count < 0 ? 0 : (size_t)count,
-           list_len = length_near(4 * rects + below(2) * below(9), room_of(LIST));
+    size_t rects = count < 0 ? 0 : (size_t)count, list_len = length_near(4 * rects + often_0(9), room_of(LIST));
     GIVEN(len, list_len);
     const uint8_t *bytes = lend_bytes_to_read(DATA, len, whole_sheet);
     RoqListing read = roq_read_sheet(bytes, len, lend(LIST, list_len), list_len);
