@@ -2,9 +2,13 @@
  * questions in their order, and what the model does. */
 #include "hostile_calls.h"
 
+#include <string.h>
+
 void call_start(void) {
-    uint32_t c = one_in(6) ? wild() : one_in(6) ? 1 + below(20) : 60 + below(400);
+    uint32_t c = one_in(8) ? wild() : one_in(10) ? 1 + below(20) : 60 + below(400);
     GIVEN(c);
+    if (one_in(4))
+        memset(session(), 0, sizeof(RoqSession));
     uint32_t due = c >= 1 && c <= 1048576 ? 0 : 2;
     answered(roq_start(session(), c), due);
     expect(surroundings_kept(), "memory beside the session was written");
