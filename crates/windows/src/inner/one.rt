@@ -70,40 +70,39 @@ pub fn free_slot(s: Session) -> FreeSlot
 }
 
 // A window of layer 0 that is not shown, not maximised and has no pixels, if the place of this id is free. Only the
-// fields of a new window are written: past the entries of its damage and queue the arrays stay as they were.
+// fields of a new window are written: past the entries of its damage and queue the arrays stay as they were. There is one
+// way out, so that the window is copied once.
 pub fn create(mut win: Window, mut shared: Shared, id: WinId) -> CreatedOne
     requires { ⌜ id .0 < 16 ⌝ }
     ensures { λ r. ⌜ CreatesAt (id .0) win shared r ⌝ }
 {
-    if win.used {
-        return CreatedOne {
-            window: win,
-            shared,
-            answer: NO_FREE_ID,
-            id: NewId::Absent,
+    let mut answer: u32 = NO_FREE_ID;
+    let mut new = NewId::Absent;
+    if !win.used {
+        let origin = Rect16 {
+            x: 0,
+            y: 0,
+            w: 0,
+            h: 0,
         };
+        let cursor = CursorPos::new();
+        win.queue.len = 0;
+        win.damage.len = 0;
+        win.at = origin;
+        win.cursor = cursor;
+        win.used = true;
+        win.marked = false;
+        let at = id.0 as usize;
+        shared.layers[at] = 0;
+        shared.maximised[at] = false;
+        answer = OK;
+        new = NewId::Id(id);
     }
-    let origin = Rect16 {
-        x: 0,
-        y: 0,
-        w: 0,
-        h: 0,
-    };
-    let cursor = CursorPos::new();
-    win.queue.len = 0;
-    win.damage.len = 0;
-    win.at = origin;
-    win.cursor = cursor;
-    win.used = true;
-    win.marked = false;
-    let at = id.0 as usize;
-    shared.layers[at] = 0;
-    shared.maximised[at] = false;
     CreatedOne {
         window: win,
         shared,
-        answer: OK,
-        id: NewId::Id(id),
+        answer,
+        id: new,
     }
 }
 

@@ -3,6 +3,7 @@ use Prim.Native.Nat.{ℕ}
 use mathlib.Core.Path.{refl, sym, ap, subst, _∙_}
 use mathlib.Core.Bool.{false}
 use lib.ListN.{set}
+use borrow.Author.Tests.{not-true, not-false}
 use Rattle.window.specs.declared.Window.{Window}
 use Rattle.window.specs.Represents.{RepWindow}
 use Rattle.rules.specs.Calls.{Create}
@@ -18,12 +19,6 @@ use borrow.Author.Needs.{needs}
 use Rattle.windows.proofs.inner.one.create.Statement.{statement}
 use Rattle.windows.proofs.inner.one.create.Tie as tie
 
-returns : tie.Need-returns
-returns c s f h q id is same =
-    subst (λ (t : Session). MeetsId Create s (record { session = t; answer = 4; id = Absent }))
-    (sym (put-back s (f .at) is same))
-    (full s h (q .full (ap (λ (w : Window). w .used) is ∙ c .if1 .taken)))
-
 new-requires : tie.Need-new-requires
 new-requires c κs = search needs
 
@@ -36,11 +31,11 @@ element-write-shared c = search needs
 element-write-shared-2 : tie.Need-element-write-shared-2
 element-write-shared-2 c = search needs
 
-returns-2 : tie.Need-returns-2
-returns-2 c s f h q id is same =
+returns : tie.Need-returns
+returns c s f h q id is same =
     let n = c .before .before .before in
     let t = n .before in
-    let a = t .before .args in
+    let a = t .before .before .args in
     let v = renewed (a .win) in
     rw (n .new .ensures)
     (subst (λ (n : ℕ). MeetsId Create s (record {
@@ -53,9 +48,15 @@ returns-2 c s f h q id is same =
       answer = 0;
       id = Id (record { 0 = f .at });
     })) same
-    (created s v (f .at) h (q .free (ap (λ (w : Window). w .used) is ∙ t .if1 .left)) refl refl
+    (created s v (f .at) h (q .free (ap (λ (w : Window). w .used) is ∙ not-true _ (t .if1 .taken))) refl refl
     (renewed-rep (subst RepWindow is (h .rep .each (f .at) (q .inside)))))))
+
+returns-2 : tie.Need-returns-2
+returns-2 c s f h q id is same =
+    subst (λ (t : Session). MeetsId Create s (record { session = t; answer = 4; id = Absent }))
+    (sym (put-back s (f .at) is same))
+    (full s h (q .full (ap (λ (w : Window). w .used) is ∙ not-false _ (c .if1 .left))))
 
 pub create-spec : {M : Type 1} → statement M
 create-spec =
-    tie.close (tie.spec returns new-requires cast-at element-write-shared element-write-shared-2 returns-2)
+    tie.close (tie.spec new-requires cast-at element-write-shared element-write-shared-2 returns returns-2)
