@@ -49,41 +49,7 @@ module _ (P : Plain) (Found : Of P → ℕ → Type 0) where
     ready : Given 𝓤 H A → (p : Of P) → Is (row P) p (P .val p ∷ []) → ent 𝓤 (sem 𝓤 H A ftrue) (Find .pre (to p))
     ready W p p-is = qed W (‵ ftrue ∷ []) ∵ nothing ! $ nothing ! $ has ! P p p-is $ fjoin ! $ move ! (1 ∷ 0 ∷ []) $ join ! $ frame ! $ done !
 
-  -- `let j = f(i)`
-  pub finds : {M : Type 1} {𝓤 : URA M} {H : Heap 𝓤} {A : Atoms 𝓤} {Kg : Type 0} {W : Given 𝓤 H A} → Kg
-      → {C : Calls 𝓤 H} {Λ : Loops 𝓤 H} {z : Post 𝓤 H} {N : Env 𝓤 H} {Γ : List (Item 𝓤)}
-      {rest : Body} {i j lᵢ lⱼ : ℕ} → FmC 𝓤 H (W .laws) C → (f : Name) → Triple 𝓤 (C f) (Find 𝓤 H A) → (p : Of P) → Is (row P) p (P .val p ∷ [])
-      → getD N i (noLocal 𝓤 H) ≡ (P .ty, lᵢ) → getD N j (noLocal 𝓤 H) ≡ (tyInt w64, lⱼ)
-      → ((k : ℕ) → Found p k → Seq Kg W (cell (P .ty) lᵢ (P .val p) ∷ cell (tyInt w64) lⱼ (vint w64 k) ∷ Γ) (runs C Λ N rest z))
-      → Seq Kg W (cell (P .ty) lᵢ (P .val p) ∷ room (tyInt w64) lⱼ ∷ Γ) (runs C Λ N (seq (call f (copy (place i []) ∷ []) (place j [])) rest) z)
-  finds {𝓤 = 𝓤} {H = H} {A = A} {W = W} t {lⱼ = lⱼ} fm f known p p-is atᵢ atⱼ next =
-      nothing t $ use1 W (raw (Find 𝓤 H A .pre (to 𝓤 H A p))) (ready 𝓤 H A W p p-is) $
-      calls-at t fm (Find 𝓤 H A) known (to 𝓤 H A p) (and-then t (load t (sits t atᵢ (stop t)) (look t 1 refl)) (no-more t)) (λ v.
-      answers W t tt ended tt (p, tt) v (‵ ftrue) (λ k ws. Found p k)
-      (λ k ws k-is found. drop t $ drop t $
-      land t (sits t atⱼ (stop t)) (init t 1 refl (typed-at index 𝓤 H A W k v k-is)) $ rewrite t 1 (cell (tyInt w64) lⱼ) (ap only (index .tells k (v
-      ∷ []) k-is)) refl $ next k found))
-
-  -- the same, of locals that are one entry
-  pub finds-in : {M : Type 1} {𝓤 : URA M} {H : Heap 𝓤} {A : Atoms 𝓤} {Kg : Type 0} {W : Given 𝓤 H A} → Kg
-      → (T : Table 𝓤 H) (σ : List (Option Val)) {C : Calls 𝓤 H} {Λ : Loops 𝓤 H} {z : Post 𝓤 H} {Γ : List (Item 𝓤)}
-      {rest : Body} (i j : ℕ) → FmC 𝓤 H (W .laws) C → (f : Name) → Triple 𝓤 (C f) (Find 𝓤 H A) → (p : Of P)
-      → Is (row P) p (P .val p ∷ []) → Has T i (P .ty) × Has T j (tyInt w64) × Holds 𝓤 H σ i (P .val p)
-      → ((k : ℕ) → Found p k
-      → Seq Kg W (vars 𝓤 H A (T .locals) (set σ j (vint w64 k)) ∷ Γ) (runs C Λ (T .env) rest z))
-      → Seq Kg W (vars 𝓤 H A (T .locals) σ ∷ Γ)
-      (runs C Λ (T .env) (seq (call f (copy (place (no T i) []) ∷ []) (place (no T j) [])) rest) z)
-  finds-in {𝓤 = 𝓤} {H = H} {A = A} {W = W} t T σ i j fm f known p p-is h next =
-      nothing t $ use1 W (raw (Find 𝓤 H A .pre (to 𝓤 H A p))) (ready 𝓤 H A W p p-is) $
-      calls-at t fm (Find 𝓤 H A) known (to 𝓤 H A p)
-      (and-then t (load t (at T t i (h .0) (stop t)) (look-in t 1 (var T t σ i (h .0) (h .2)))) (no-more t)) (λ v.
-      answers W t tt ended tt (p, tt) v (‵ ftrue) (λ k ws. Found p k)
-      (λ k ws k-is found. drop t $ drop t $
-      land t (at T t j (h .1) (stop t)) (into T t σ j (h .1) (typed-at index 𝓤 H A W k v k-is)) $
-      rewrite t 0 (λ (u : Val). vars 𝓤 H A (T .locals) (set σ j u)) (ap only (index .tells k (v ∷ []) k-is)) refl $
-      next k found))
-
-  -- the same of an argument of the call, which is the first of the entries that are one behind the session
+  -- `let j = f(i)`, i being an argument of the call, the first of the entries that are one behind the session
   pub finds-first : {M : Type 1} {𝓤 : URA M} {H : Heap 𝓤} {A : Atoms 𝓤} {Kg : Type 0} {W : Given 𝓤 H A} → Kg
       → (T : Table 𝓤 H) (σ : List (Option Val)) {C : Calls 𝓤 H} {Λ : Loops 𝓤 H} {z : Post 𝓤 H} {Γ : List (Item 𝓤)}
       (Δ : List (Item 𝓤)) {m : Item 𝓤} {rest : Body} {i l : ℕ} (j : ℕ) → FmC 𝓤 H (W .laws) C → (f : Name) → Triple 𝓤 (C f) (Find 𝓤 H A)

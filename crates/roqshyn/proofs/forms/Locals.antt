@@ -165,15 +165,3 @@ module _ {M : Type 1} {𝓤 : URA M} {H : Heap 𝓤} {A : Atoms 𝓤} {K : Type 
         (monoR 𝓤 (⋆ 𝓤 H A X) (via 𝓤 (sep 𝓤 (⋆ 𝓤 H A Y) (⋆ 𝓤 H A Γ)) (pop 𝓤 H A (raw (⋆ 𝓤 H A Y)) Γ) (++⊢ 𝓤 H A Y Γ)))
         (via 𝓤 (⋆ 𝓤 H A (X ++ (Y ++ Γ))) (++⊢ 𝓤 H A X (Y ++ Γ)) (free-first t Γ E E′ G vs s .prf));
   }
-
-  -- the last of them, and what is left gives P
-  pub free-last : K → {P : SProp 𝓤} (E : Env 𝓤 H) (vs : Filled 𝓤 H E) (Δ Γ : List (Item 𝓤)) → ent 𝓤 (⋆ 𝓤 H A (Δ ++ Γ)) P
-      → Seq K W (Δ ++ (held 𝓤 H E vs ++ (dying 𝓤 H E ++ Γ))) (frees (E ++ []) (prop P))
-  free-last t {P} E vs Δ Γ left = record {
-    prf =
-        let X : List (Item 𝓤) = held 𝓤 H E vs in
-        let Y : List (Item 𝓤) = dying 𝓤 H E in
-        via 𝓤 (⋆ 𝓤 H A (X ++ (Δ ++ (Y ++ Γ)))) (exchange 𝓤 H A Δ X (Y ++ Γ))
-        (via 𝓤 (⋆ 𝓤 H A (X ++ (Y ++ (Δ ++ Γ)))) (under 𝓤 H A X (Δ ++ (Y ++ Γ)) (Y ++ (Δ ++ Γ)) (exchange 𝓤 H A Δ Y Γ))
-        (free-first t (Δ ++ Γ) E [] (prop P) vs (free0 t $ record { prf = left }) .prf));
-  }

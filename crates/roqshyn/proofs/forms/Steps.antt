@@ -1,5 +1,5 @@
--- Steps of a run: what lies behind a `&mut` is opened and closed; what a callee promised is heard, and the struct of two that it handed back is
--- stored; a callee or a caller that asks nothing.
+-- Steps of a run: what lies behind a `&mut` is opened and closed; what a callee promised is heard; a callee or a
+-- caller that asks nothing.
 use mathlib.Core.Path.{_≡_, refl, ap}
 use Prim.Native.Nat.{ℕ}
 use mathlib.Core.List.{List, [], _∷_}
@@ -65,21 +65,6 @@ answers {𝓤 = 𝓤} {H = H} {A = A} W t soaks T κs a v P φ k =
     (id⊢ 𝓤 _) $ await t soaks $ pick t (λ r. split t $ move t (1 ∷ []) $ pick t (λ ws. split t $ move t (1 ∷ []) $ heard t (φ r ws) (λ e. move t (1
     ∷ []) $
     split t $ move t (1 ∷ []) $ peeks t R (Is R) (shows 𝓤 H A R) r (v ∷ []) (λ is. drop t $ k r ws is e))))
-
--- `let d = ..; let x = d.fst;`, v being the machine value that the callee handed back
-pub splits : {X Y : Plain} (D : Pair X Y) (d : D .type .Denot) (v : Val) → Is (D .type) d (v ∷ [])
-    → {M : Type 1} {𝓤 : URA M} {H : Heap 𝓤} {A : Atoms 𝓤} {Kg : Type 0} {W : Given 𝓤 H A} → Kg
-    → {C : Calls 𝓤 H} {Λ : Loops 𝓤 H} {z : Post 𝓤 H} {N : Env 𝓤 H} {Γ : List (Item 𝓤)} {rest : Code} {i j lᵢ lⱼ : ℕ}
-    → getD N i (noLocal 𝓤 H) ≡ (pairTy D, lᵢ) → getD N j (noLocal 𝓤 H) ≡ (X .ty, lⱼ)
-    → Step Kg W (cell (pairTy D) lᵢ (vstruct (vcons (X .val (D .fst d)) (vcons (Y .val (D .snd d)) vnil))) ∷ cell (X .ty) lⱼ (X .val (D .fst d)) ∷ Γ)
-    (runs C Λ N rest z)
-    (room (pairTy D) lᵢ ∷ room (X .ty) lⱼ ∷ Γ)
-    (lands C Λ N (place i []) v (seq (assign (place j []) (rvOpd (copy (place i (field 0 ∷ []))))) rest) z)
-splits {X} D d v is {𝓤 = 𝓤} {H = H} {A = A} {W = W} t {lᵢ = lᵢ} atᵢ atⱼ = step (λ next.
-    land t (sits t atᵢ (stop t)) (init t 0 refl (D .typed 𝓤 H A W d v is)) $
-    rewrite t 0 (cell (pairTy D) lᵢ) (ap only (D .tells d (v ∷ []) is)) refl $
-    assigns t (of-opd t (load t (sits t atᵢ (fld t refl (stop t))) (look-in t 0 (sub t 0 refl (whole t))))) (sits t atⱼ (stop t))
-    (init t 1 refl (X .typed 𝓤 H A W (D .fst d) (D .owed d v is .0))) $ next)
 
 -- a callee that asks nothing meets the contract that asks for `Unit`, as a form states it
 pub asks-nothing : {M : Type 1} (𝓤 : URA M) (H : Heap 𝓤) (A : Atoms 𝓤) (S : Signature) (run : Fun 𝓤) (c : Spec 𝓤 S)
