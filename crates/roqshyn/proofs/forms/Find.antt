@@ -9,12 +9,11 @@ use mir.Syntax.{Name, Body, tyInt, w64, place, copy, seq, call}
 use mir.Val.{Val, vint}
 use base.Logic.{ent, emp}
 use base.Fml.{ftrue}
-use prog.Wp.{Heap, Env, Calls, Loops, noLocal}
+use prog.Wp.{Heap, Calls, Loops, noLocal}
 use ghost.Atoms.{Atoms, sem}
 use contract.Monad.{fact}
 use types.Kit.{Given, Item, ‵, raw, ⋆, Post, runs, Seq, _$_, _∵_, !, qed, move, drop, use1, join, fjoin, rewrite, frame, done}
-use types.Run.{look, init, stop, load, and-then, no-more, land}
-use types.Part.{look-in}
+use types.Run.{look, stop, load, and-then, no-more, land}
 use sound.WpLaws.{FmC}
 use denote.Laws.{Is}
 use denote.Signature.{Signature, plain}
@@ -25,8 +24,8 @@ use denote.Triple.Spec.{tripleOf}
 use denote.Triple.Clauses.{Ended, Clauses, closing}
 use denote.Exit.{yes}
 use Rattle.roqshyn.proofs.forms.Types.{Plain, row, Of, has, typed-at, index}
-use Rattle.roqshyn.proofs.forms.Locals.{cell, room, sits, apart, together}
-use Rattle.roqshyn.proofs.forms.Vars.{set, vars, Holds, Table, no, Has, var, into, at}
+use Rattle.roqshyn.proofs.forms.Locals.{cell, sits, apart, together}
+use Rattle.roqshyn.proofs.forms.Vars.{set, vars, Table, no, Has, into, at}
 use Rattle.roqshyn.proofs.forms.Steps.{answers}
 
 module _ (P : Plain) (Found : Of P → ℕ → Type 0) where

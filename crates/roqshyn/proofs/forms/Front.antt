@@ -42,7 +42,6 @@ use Rattle.roqshyn.proofs.forms.Vars.{set, into}
 use Rattle.roqshyn.proofs.forms.Inside.{Way, Row, elements, here, itself}
 use Rattle.roqshyn.proofs.forms.Touch.{Address, points-by, loads-by, stores-by, aimed, fetched, aims, fetch-by}
 use Rattle.roqshyn.proofs.forms.Touch.{restore, restore-again, of-local, of-field}
-use Rattle.roqshyn.proofs.forms.Passing.{cells}
 use Rattle.roqshyn.proofs.forms.Find.{Find, finds-first}
 use Rattle.roqshyn.proofs.forms.Ask as ask
 use Rattle.roqshyn.proofs.forms.Ask.{Tuple, ofPlain, ofTuple, Passing, Asked, asks}

@@ -11,8 +11,8 @@ use base.Logic.{SProp, ent, sep, via, comm∗, assoc∗, assoc′, monoL, monoR}
 use base.Fml.{fat, froom, fdies}
 use prog.Wp.{Heap, Env, Spot, noLocal, tyOf}
 use ghost.Atoms.{Atoms}
-use types.Kit.{Given, Item, ‵, raw, cut, ⋆, push, pop, ++⊢, ⊢++, Goal, prop, allocs, frees, Seq, Step, _$_}
-use types.Run.{Walks as Follows, Finds, from, forget, alloc1, free1, free0}
+use types.Kit.{Given, Item, ‵, raw, cut, ⋆, push, pop, ++⊢, ⊢++, Goal, allocs, frees, Seq, Step, _$_}
+use types.Run.{Walks as Follows, Finds, from, forget, alloc1, free1}
 
 -- a value in memory, and the cell of a local and the room for one
 module _ {M : Type 1} {𝓤 : URA M} where

@@ -4,7 +4,7 @@ use Prim.Native.Nat.{_+_}
 use mathlib.Core.List.{[], _∷_}
 use mir.Syntax.{field, tyInt, w8}
 use mir.Val.{vstruct}
-use mir.Fields.{getV, setV}
+use mir.Fields.{setV}
 use prog.Memory.{fieldOf}
 use types.Run.{stop, fld}
 use types.Part.{sub}
