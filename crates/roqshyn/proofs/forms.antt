@@ -1,8 +1,9 @@
--- A call with the session behind a pointer: one run through MIR for each shape, over any plain types. A call's own
--- proof names the shape, the types and the promise. `Place`, `Seek` and `Turn` change one window and what the windows
--- share in place; `Fields`, `Front` and `Back` touch single fields of them; `Field` changes one other field alone.
--- `Turns` goes through windows in a loop and puts each back whole; `Each` does so and touches two places of each
--- (`Spot`), with the slices lent again in each turn (`Relend`). `One` puts another session there; `Read` reads it.
+-- A call with the session behind a pointer: one run through its compiled code for each form, over any plain types. A
+-- call's own proof names the form, the types and the promise. `Place`, `Seek` and `Turn` change one window and what the
+-- windows share in place (`Both`); `Fields`, `Front` and `Back` touch single fields of them; `Field` changes one other
+-- field alone, or the whole session. `Turns` goes through windows in a loop and puts each back whole. All of these are
+-- steps between the beginning and the end of `Run`. `Each` goes through windows and touches two places of each (`Spot`),
+-- with the slices lent again in each turn (`Relend`). `Read` reads the session.
 pub mod Types
 pub mod Item
 pub mod Slots

@@ -11,7 +11,7 @@ use Rattle.roqshyn.proofs.forms.Slots.{Slots}
 use Rattle.roqshyn.proofs.forms.Args.{Arg}
 use Rattle.roqshyn.proofs.forms.Inside.{here}
 use Rattle.roqshyn.proofs.forms.Touch.{loads}
-use Rattle.roqshyn.proofs.forms.Both.{Places, pointer, reads-both, writes-both}
+use Rattle.roqshyn.proofs.forms.Both.{Places, answer, pointer, reads-both, writes-both}
 use Rattle.roqshyn.proofs.forms.Run as run
 use Rattle.roqshyn.proofs.forms.Run.{Shape}
 
@@ -28,6 +28,7 @@ at = record {
   handed = 4;
   new-element = 5;
   new-shared = 6;
+  result = answer;
   reading = record { offset = 8; array = 9; at = 10 };
   element = 11;
   shared = 12;

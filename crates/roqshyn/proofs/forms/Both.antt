@@ -28,10 +28,11 @@ use Rattle.roqshyn.proofs.forms.Ask.{ofTrio}
 pub record Places : Type 0 where
   -- the index of the element
   pub index : ℕ
-  -- what the function handed back, and the two parts of it that are put back
+  -- what the function handed back, the two parts of it that are put back, and where the third one goes
   pub handed : ℕ
   pub new-element : ℕ
   pub new-shared : ℕ
+  pub result : ℕ
   -- how the element is reached to be read; and what is read
   pub reading : Address
   pub element : ℕ
@@ -56,14 +57,14 @@ module _ {E K O R : Plain} (L : Slots E K O) (D : Trio E K R) (N : Places) where
       loads-by (elements L) (here E) no pointer (N .index) (N .reading) (N .element)
       (loads (shared L) (no pointer) (no (N .shared)) rest)
 
-  -- `let w = handed.0; (*s).items[index] = w; let k = handed.1; (*s).shared = k; handed.2`
+  -- `let w = handed.0; (*s).items[index] = w; let k = handed.1; (*s).shared = k; result = handed.2`
   abbrev pub writes-both : (ℕ → ℕ) → Body → Body
   writes-both no rest =
       seq (assign (place (no (N .new-element)) []) (rvOpd (copy (place (no (N .handed)) (field 0 ∷ [])))))
       (stores-by (elements L) (here E) no pointer (N .index) (N .writing) (copy (place (no (N .new-element)) []))
       (seq (assign (place (no (N .new-shared)) []) (rvOpd (copy (place (no (N .handed)) (field 1 ∷ [])))))
       (stores (shared L) (no pointer) (copy (place (no (N .new-shared)) []))
-      (seq (assign (place (no answer) []) (rvOpd (copy (place (no (N .handed)) (field 2 ∷ [])))))
+      (seq (assign (place (no (N .result)) []) (rvOpd (copy (place (no (N .handed)) (field 2 ∷ [])))))
       rest))))
 
   module _ (b o : ℕ) (s : Of S) (k : ℕ) where
@@ -90,7 +91,7 @@ module _ {E K O R : Plain} (L : Slots E K O) (D : Trio E K R) (N : Places) where
       split-twice σ = set (aimed-again σ) (N .new-shared) (K .val (D .snd d))
 
       abbrev pub both-written : List (Option Val) → List (Option Val)
-      both-written σ = set (split-twice σ) answer (R .val (D .trd d))
+      both-written σ = set (split-twice σ) (N .result) (R .val (D .trd d))
 
     -- the locals are there, and they hold what is read: by `refl` where the places are known
     module _ {M : Type 1} (𝓤 : URA M) (H : Heap 𝓤) (T : Table 𝓤 H) (σ : List (Option Val)) where
@@ -102,7 +103,7 @@ module _ {E K O R : Plain} (L : Slots E K O) (D : Trio E K R) (N : Places) where
 
       abbrev pub Writable : D .type .Denot → Type 0
       Writable d =
-          (Has T (N .handed) (trioTy D) × Has T (N .new-element) (E .ty) × Has T (N .new-shared) (K .ty) × Has T answer (R .ty))
+          (Has T (N .handed) (trioTy D) × Has T (N .new-element) (E .ty) × Has T (N .new-shared) (K .ty) × Has T (N .result) (R .ty))
           × Holds 𝓤 H σ (N .handed) (ofTrio D .val d)
           × Aims (elements L) b o k 𝓤 H T pointer (N .index) (N .writing) (split-once d σ)
           × (There T (N .writing .at) × Holds 𝓤 H (aimed-again d σ) (N .writing .at) (vptr b element-at))
@@ -160,5 +161,5 @@ module _ {E K O R : Plain} (L : Slots E K O) (D : Trio E K R) (N : Places) where
         (reads-local T t σ₂ (N .new-shared) (K .ty) (has .2) (h .7)) $
         rewrite t 1 (λ (u : Of S). at-cell (S .ty) b o (S .val u)) (put-both s k w g) refl $
         assigns t (of-opd t (load t (at T t (N .handed) (has .0) (fld t refl (stop t)))
-        (look-in t 0 (sub t 2 refl (var T t σ₂ (N .handed) (has .0) (h .8)))))) (at T t answer (has .3) (stop t))
-        (into T t σ₂ answer (has .3) (R .typed 𝓤 H A W (D .trd d) (owed .2))) $ next)
+        (look-in t 0 (sub t 2 refl (var T t σ₂ (N .handed) (has .0) (h .8)))))) (at T t (N .result) (has .3) (stop t))
+        (into T t σ₂ (N .result) (has .3) (R .typed 𝓤 H A W (D .trd d) (owed .2))) $ next)

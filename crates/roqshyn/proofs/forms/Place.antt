@@ -43,7 +43,7 @@ use Rattle.roqshyn.proofs.forms.Touch.{of-local}
 use Rattle.roqshyn.proofs.forms.Find.{Find, finds-first}
 use Rattle.roqshyn.proofs.forms.Ask as ask
 use Rattle.roqshyn.proofs.forms.Ask.{ofTrio, Passing}
-use Rattle.roqshyn.proofs.forms.Both.{Places, reads-both, writes-both, both-read, both-written, fetch-both, restore-both}
+use Rattle.roqshyn.proofs.forms.Both.{Places, answer, reads-both, writes-both, both-read, both-written, fetch-both, restore-both}
 use Rattle.roqshyn.proofs.forms.Run as run
 use Rattle.roqshyn.proofs.forms.Run.{Shape, Promise, Entry}
 
@@ -75,6 +75,7 @@ module _ (E K O P R : Plain) (n : ℕ) (ps : List (Arg n)) (L : Slots E K O) (D 
     handed = 3;
     new-element = 4;
     new-shared = 5;
+    result = answer;
     reading = record { offset = 6; array = 7; at = 8 };
     element = 9;
     shared = 10;
