@@ -74,7 +74,7 @@ redraw c = λ i. Redraw false 3 2 (coloured (at-fill c) i) (replicate 6 5)
 redrawn : (c : tie.After-redraw) → Next calls.marked calls.redraw (c .redraw .result)
 redrawn c = next calls.marked calls.redraw (redraw c) (marked (c .before .before .before) .ran) (by-screen (c .redraw .ensures))
 
-screen : (c : tie.After-redraw) → c .redraw .last .1 .1 .1 .0 ≡ picture
+screen : (c : tie.After-redraw) → c .redraw .last .1 .1 .1 .1 .1 .0 ≡ picture
 screen c = drawn calls.marked calls.redraw (redraw c) (marked (c .before .before .before) .ran) (c .redraw .ensures) ∙ computed .redraw-screen
 
 pressed : (c : tie.After-route) → Next calls.redrawn calls.press (c .route .result)
