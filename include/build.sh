@@ -2,6 +2,6 @@
 # older than a file that it may come from.
 . tools/prove.sh
 archive=target/staticlib/libroqshyn.a
-if [ ! -f "$archive" ] || [ -n "$(find crates crates.txt -newer "$archive" -print -quit)" ]; then
+if stale "$archive"; then
   prove staticlib roqshyn
 fi

@@ -1,11 +1,25 @@
-# Read by every command, from the repository's root: what it needs, and the one sentence that it ends with where a tool is missing or a word is
-# wrong.
+# Read by every command, from the repository's root, after its one `cd`: its help, what it needs, and the one sentence that it ends with where a
+# tool is missing or a word is wrong.
 
 # stop SENTENCE: ends the command.
 stop() {
   printf '%s: %s\n' "${0#./}" "$*" >&2
   exit 2
 }
+
+# helps "$@": where a word is --help, prints the command's own head comment and ends it.
+helps() {
+  local word
+  for word in "$@"; do
+    case $word in
+      -h | --help)
+        (cd "$OLDPWD" && sed -n '2,${/^#/!q;s/^# \{0,1\}//p}' "$0")
+        exit
+        ;;
+    esac
+  done
+}
+helps "$@"
 
 # Where a tool comes from.
 origin() {
@@ -16,7 +30,7 @@ origin() {
     objdump) printf 'Debian package binutils' ;;
     sdl2-config) printf 'Debian package libsdl2-dev' ;;
     Xvfb) printf 'Debian package xvfb' ;;
-    cargo | pkg-config | python3 | rustc | valgrind | xdotool) printf 'Debian package %s' "$1" ;;
+    cargo | cmake | pkg-config | python3 | rustc | valgrind | xdotool) printf 'Debian package %s' "$1" ;;
     *) printf 'named by CC or CXX' ;;
   esac
 }
@@ -31,17 +45,28 @@ missing() {
   done
 }
 
-# needs TOOL…: all of them are on the PATH.
+# needs TOOL…: all of them are on the PATH; and for `rt`, target/ can be written.
 needs() {
   local names
   names=$(missing "$@")
   [ -z "$names" ] || stop "needs what is not installed here: $names"
+  [[ " $* " != *' rt '* ]] || needs_target
+}
+
+# needs_target: what is proved and built can be written to target/.
+needs_target() {
+  mkdir -p target 2>/dev/null && [ -z "$(find target -maxdepth 1 -type d ! -writable -print -quit)" ] ||
+    stop "$PWD/target cannot be written, where what is proved and built goes: clone the repository into a folder of your own"
 }
 
 # needs_original: sets ROQSHYN_ORIGINAL, where the original's files are: as it was set, or else ../shared/docs/src beside the checkout.
 needs_original() {
+  local from
   export ROQSHYN_ORIGINAL="${ROQSHYN_ORIGINAL:-$PWD/../shared/docs/src}"
-  [ -d "$ROQSHYN_ORIGINAL/Kernel" ] || stop "no files of the original under $ROQSHYN_ORIGINAL: set ROQSHYN_ORIGINAL to where they are"
+  [ -d "$ROQSHYN_ORIGINAL/Kernel" ] && return
+  from=$(tr '\n' ' ' <NOTICE | sed -n 's/.* repository \([^ ]*\), commit \([^ ,]*\),.*/github.com\/\1, commit \2/p')
+  stop "no files of the original under $ROQSHYN_ORIGINAL: they are from $from (NOTICE names them);" \
+    "set ROQSHYN_ORIGINAL to a folder that has its Kernel/"
 }
 
 # finds_pixman: sets ROQSHYN_PIXMAN, the linker's words for pixman, of which there are none where pixman or pkg-config is

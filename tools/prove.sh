@@ -17,10 +17,43 @@ crates_of() {
   printf '%d' $#
 }
 
+# stale FILE: it is missing, or older than a file that it may come from.
+stale() {
+  [ ! -f "$1" ] || [ -n "$(find crates crates.txt -newer "$1" -print -quit)" ]
+}
+
+# announce WHAT: says of a proof that begins how long it may take.
+announce() {
+  printf 'proving and building %s: from nothing this takes about 8 minutes on two cores, after an edit as long as what it touches\n' "$1" >&2
+}
+
 # prove check CRATE, or prove staticlib CRATE: as `rt` does it, on standard error. A crate that is proved anew is one line, with its time and how
 # many of all are proved; of one that is not proved everything is printed that `rt` said of it.
 prove() {
-  rt "$@" 2>&1 | told "$2" "$(crates_of "$2")" >&2
+  local all made=target/bin/$2
+  all=$(crates_of "$2")
+  [ "$1" != staticlib ] || made=target/staticlib/lib$2.a
+  ! stale "$made" || announce "$2, $all crates in all"
+  rt "$@" 2>&1 | alive 20 | told "$2" "$all" >&2
+}
+
+# alive SECONDS: hands on the lines that it reads; whenever none has come for so many seconds, says on standard error that the proof goes on.
+alive() {
+  local line= part status began=$SECONDS
+  while true; do
+    status=0
+    IFS= read -r -t "$1" part || status=$?
+    line+=$part
+    if [ "$status" -eq 0 ]; then
+      printf '%s\n' "$line"
+      line=
+    elif [ "$status" -gt 128 ]; then
+      printf 'still proving, for %d s now\n' $((SECONDS - began)) >&2
+    else
+      printf '%s' "$line"
+      return
+    fi
+  done
 }
 
 told() {
