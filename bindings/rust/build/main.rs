@@ -1,4 +1,5 @@
-//! Finds libroqshyn.a, where ROQSHYN_ARCHIVE says, or by the link that `install` made, or in a checkout; and writes the declarations of roqshyn.h in Rust, for src/raw.rs.
+//! Finds libroqshyn.a, where ROQSHYN_ARCHIVE says, or by the link that `install` made, or in a checkout; and
+//! writes the declarations of roqshyn.h in Rust, for src/raw.rs.
 mod header;
 
 use std::env;
