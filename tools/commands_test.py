@@ -66,13 +66,15 @@ def proofs(room):
     script = room.root / "examples/share.calls"
     said = room.run("play", script)
     expect("a proof is not announced", "about 8 minutes on two cores" in said.stderr and room.called.exists(), said)
+    said = room.run("mistakes/run")
+    expect("the proof before mistakes is not announced", "about 8 minutes" in said.stderr and room.called.exists(), said)
     room.program(room.root / "target/bin/replay", (ROOT / "tools/stand_in.py").read_text())
     said = room.run("play", script)
     expect("a proof is announced that is done", "minutes" not in said.stderr and room.called.exists(), said)
     silent = ". ./tools/prove.sh; { echo a; sleep 1.2; printf 'b\\nc'; } | alive 1"
     said = subprocess.run(["bash", "-c", silent], cwd=ROOT, capture_output=True, text=True)
     expect("a silent proof gives no sign", (said.stdout, said.stderr[:13]) == ("a\nb\nc", "still proving"), said)
-    return 3
+    return 4
 
 
 def refused(room):
