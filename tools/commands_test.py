@@ -1,5 +1,5 @@
-"""Commands where something is missing or wrong, in a folder that has the repository's files by links and a target/ of its own. In place of the tools
-that would prove and build there are stand-ins: `rt` notes that it was called."""
+"""Commands where something is missing or wrong, in a folder that has the repository's files by links and a target/ of
+its own. In place of the tools that would prove and build there are stand-ins: `rt` notes that it was called."""
 import contextlib
 import os
 import pathlib
@@ -46,7 +46,8 @@ class Room:
         """Runs bash with these words, the first one a file of the repository, from another folder."""
         self.called.unlink(missing_ok=True)
         words = ["bash", self.root / words[0], *words[1:]]
-        return subprocess.run(words, cwd=self.away, env=self.environment(**more), input=given, capture_output=True, text=True)
+        environment = self.environment(**more)
+        return subprocess.run(words, cwd=self.away, env=environment, input=given, capture_output=True, text=True)
 
 
 def expect(what, holds, said):
@@ -67,7 +68,7 @@ def proofs(room):
     said = room.run("play", script)
     expect("a proof is not announced", "about 8 minutes on two cores" in said.stderr and room.called.exists(), said)
     said = room.run("mistakes/run")
-    expect("the proof before mistakes is not announced", "about 8 minutes" in said.stderr and room.called.exists(), said)
+    expect("a proof before mistakes is not announced", "8 minutes" in said.stderr and room.called.exists(), said)
     room.program(room.root / "target/bin/replay", (ROOT / "tools/stand_in.py").read_text())
     said = room.run("play", script)
     expect("a proof is announced that is done", "minutes" not in said.stderr and room.called.exists(), said)

@@ -1,5 +1,5 @@
-# Read by every command, from the repository's root, after its one `cd`: its help, what it needs, and the one sentence that it ends with where a
-# tool is missing or a word is wrong.
+# Read by every command, from the repository's root, after its one `cd`: its help, what it needs, and the one sentence
+# that it ends with where a tool is missing or a word is wrong.
 
 # stop SENTENCE: ends the command.
 stop() {
@@ -59,7 +59,8 @@ needs_target() {
     stop "$PWD/target cannot be written, where what is proved and built goes: clone the repository into a folder of your own"
 }
 
-# needs_original: sets ROQSHYN_ORIGINAL, where the original's files are: as it was set, or else ../shared/docs/src beside the checkout.
+# needs_original: sets ROQSHYN_ORIGINAL, where the original's files are: as it was set, or else ../shared/docs/src beside
+# the checkout.
 needs_original() {
   local from
   export ROQSHYN_ORIGINAL="${ROQSHYN_ORIGINAL:-$PWD/../shared/docs/src}"

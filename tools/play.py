@@ -1,6 +1,7 @@
-"""play.py REPLAY SCRIPT: plays a call script on the program REPLAY, line by line, and prints each call beside its answer, with the question if it
-was refused; SCRIPT `-` is the standard input. Then it says which pictures were written, also as PNG, and which were not, and which lines were
-malformed; its status is 1 if a line was malformed or a picture is missing."""
+"""play.py REPLAY SCRIPT: plays a call script on the program REPLAY, line by line, and prints each call beside its
+answer, with the question if it was refused; SCRIPT `-` is the standard input. Then it says which pictures were written,
+also as PNG, and which were not, and which lines were malformed; its status is 1 if a line was malformed or a picture is
+missing."""
 import itertools
 import os
 import signal
@@ -43,7 +44,8 @@ class Player:
         self.unwritten = {}
 
     def line(self, line):
-        """Plays one, without its newline. Where a person types, the call stands on the screen already, and help can be asked for."""
+        """Plays one, without its newline. Where a person types, the call stands on the screen already, and help can be
+        asked for."""
         words = line.decode(errors="replace").split()
         if self.typed and words[:1] == ["help"]:
             print(help_on(self.page, " ".join(words[1:])), flush=True)

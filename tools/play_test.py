@@ -23,7 +23,8 @@ def scripts(room):
     play(room, "many malformed lines", text, 1, f"14 of 28 lines were malformed: {', '.join(map(str, numbers))}\n")
     play(room, "malformed lines in a row", "bad\n" * 3, 1, "3 of 3 lines were malformed: 1 to 3\n")
     (room.away / "folder").mkdir()
-    play(room, "an unwritten picture", "picture 2 2 folder\n", 1, "!  it cannot", "line 1: the picture folder cannot be written")
+    unwritten = "line 1: the picture folder cannot be written"
+    play(room, "an unwritten picture", "picture 2 2 folder\n", 1, "!  it cannot", unwritten)
     play(room, "too large a picture", "picture 800 800 folder\n", 0, "!  beyond the program's own limits")
     return 6
 

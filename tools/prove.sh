@@ -24,7 +24,8 @@ stale() {
 
 # announce WHAT: says of a proof that begins how long it may take.
 announce() {
-  printf 'proving and building %s: from nothing this takes about 8 minutes on two cores, after an edit as long as what it touches\n' "$1" >&2
+  printf 'proving and building %s: from nothing this takes about 8 minutes on two cores, %s\n' "$1" \
+    'after an edit as long as what it touches' >&2
 }
 
 # prove check CRATE, or prove staticlib CRATE: as `rt` does it, on standard error. A crate that is proved anew is one line, with its time and how
@@ -37,7 +38,8 @@ prove() {
   rt "$@" 2>&1 | alive 20 | told "$2" "$all" >&2
 }
 
-# alive SECONDS: hands on the lines that it reads; whenever none has come for so many seconds, says on standard error that the proof goes on.
+# alive SECONDS: hands on the lines that it reads; whenever none has come for so many seconds, says on standard error
+# that the proof goes on.
 alive() {
   local line= part status began=$SECONDS
   while true; do
