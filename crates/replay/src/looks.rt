@@ -77,7 +77,7 @@ fn look_at(
     let at = size_at(k);
     let tw = ns[at];
     let th = ns[at + 1];
-    s.look(id, l, &store[0..lent], &mut target[0..len], tw, th)
+    s.look(id, l, tw, th, &store[0..lent], &mut target[0..len])
 }
 
 // A target before a look: made apart, as the other arrays are.

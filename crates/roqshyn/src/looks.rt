@@ -45,5 +45,5 @@ pub fn look(
     requires { ⌜ Given s ⌝ }
     ensures { λ r. ⌜ Looks (group s) (id .0) (lookOf l) (now (store .entry)) (now (target .entry)) tw th r (now (target .exit)) ⌝ }
 {
-    s.look(id, look_of(l), store, target, tw, th)
+    s.look(id, look_of(l), tw, th, store, target)
 }

@@ -18,10 +18,10 @@ impl Session {
         self,
         id: WinId,
         look: Look,
-        store: &[u32],
-        target: &mut [u32],
         tw: u32,
         th: u32,
+        store: &[u32],
+        target: &mut [u32],
     ) -> u32
         requires { ⌜ Given self ⌝ }
         ensures { λ r. ⌜ Looks (group self) (id .0) look (now (store .entry)) (now (target .entry)) tw th r (now (target .exit)) ⌝ }

@@ -90,7 +90,10 @@ cast-base : tie.Need-cast-base
 cast-base c = search needs
 
 mul-base : tie.Need-mul-base
-mul-base c = omega (arith, stored (c .before .before .before))
+mul-base c =
+    let e = c .before .before .before in
+    let s = start (after-frames (e .before)) in
+    omega (arith, stored e, s .good)
 
 look-window-requires : tie.Need-look-window-requires
 look-window-requires c κs = stored (c .before .before .before .before)
