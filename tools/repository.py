@@ -138,7 +138,7 @@ class Repository:
                 means = re.match(r"[\w_]+", cells[1])
                 for word in re.findall(r"`([a-z-]+)[^`]*`", cells[0]):
                     same = word.replace("-", "_")
-                    found.setdefault(word, means[0] if means and means[0] in names else same if same in names else "")
+                    found.setdefault(word, same if same in names else means[0] if means and means[0] in names else "")
         return found
 
     def called(self, text):

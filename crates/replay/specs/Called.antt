@@ -25,9 +25,9 @@ pub record Picked (o : Option Call) (P : Call → Type 0) : Type 0 where
   pub is : o ≡ some call
   pub so : P call
 
--- "`show ID` · `hide ID` · `drop ID` · `mark ID`: these"; "`move ID X Y`: move"; "`begin FULL`: begin; FULL is 0 or 1";
--- "`dim B`: dim; B is 0 or 1"; "`layer ID L`: set_layer"; "`display X Y W H`: add_display"; "`raise ID`: raise";
--- "`drag ID X Y`: drag"
+-- "`show ID` · `hide ID` · `drop ID` · `mark ID`: show, hide, drop, mark"; "`move ID X Y`: move";
+-- "`begin FULL`: begin; FULL is 0 or 1"; "`dim B`: dim; B is 0 or 1"; "`layer ID L`: set_layer";
+-- "`display X Y W H`: add_display"; "`raise ID`: raise"; "`drag ID X Y`: drag"
 abbrev pub windowCalls : List ℕ → List (ℕ × Call)
 windowCalls ns =
     (Kind.show, Call.Show (idOf ns))
