@@ -119,8 +119,8 @@ ruled (blit a d stride) w = blitWin a w
 ruled mark w = withMark w
 
 -- the window with the mark and the damage of v. All else of it is as it was, also its array of areas past the entries
-abbrev pub grabbing : Win → Window → Window
-grabbing v w =
+abbrev pub holding : Win → Window → Window
+holding v w =
     record {
       queue = w .queue;
       damage = withEntries (v .damage) (w .damage);
@@ -134,7 +134,7 @@ grabbing v w =
 abbrev pub rewritten : ℕ → Write → Session → Session
 rewritten id u s =
     record {
-      windows = set (s .windows) id (grabbing (ruled u (winOf (windowAt s id))) (windowAt s id));
+      windows = set (s .windows) id (holding (ruled u (winOf (windowAt s id))) (windowAt s id));
       shared = s .shared;
       displays = s .displays;
     }

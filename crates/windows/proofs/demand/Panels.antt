@@ -19,7 +19,7 @@ use Rattle.rules.specs.Panels.{Write, Act, on, callOf, Interleaves, first, seco
 use Rattle.rules.specs.Panels as Rule
 use Rattle.rules.proofs.demand.Panels.{either-order, any-two}
 use Rattle.windows.specs.declared.Session.{Session}
-use Rattle.windows.specs.View.{blank, group, windowAt, grabbing, ruled, rewritten, done, Meets}
+use Rattle.windows.specs.View.{blank, group, windowAt, holding, ruled, rewritten, done, Meets}
 use Rattle.windows.specs.Run.{calls, LeftAs, Kept}
 use Rattle.windows.specs.Panels.{Acted, filled, blitted, marked, SameEnd, ProgramEitherOrder}
 use Rattle.windows.specs.Panels as Spec
@@ -95,7 +95,7 @@ adjust-comm i j ne f g s =
 
 -- a window after a call on it that answered n
 abbrev own : Write → ℕ → Window → Window
-own u n w = cond (eqb n 0) (grabbing (ruled u (winOf w)) w) w
+own u n w = cond (eqb n 0) (holding (ruled u (winOf w)) w) w
 
 step-whole : {a : Act} {s t : Session} {p q : List ℕ} → Step a s p t q → t ≡ adjust (a .window) (own (a .write) (outcome (state s p) a .answer)) s
 step-whole {a} {s} {t} {p} k = go (eqb n 0) refl
@@ -103,7 +103,7 @@ step-whole {a} {s} {t} {p} k = go (eqb n 0) refl
     n : ℕ
     n = outcome (state s p) a .answer
 
-    go : (b : Bool) → eqb n 0 ≡ b → t ≡ adjust (a .window) (λ w. cond b (grabbing (ruled (a .write) (winOf w)) w) w) s
+    go : (b : Bool) → eqb n 0 ≡ b → t ≡ adjust (a .window) (λ w. cond b (holding (ruled (a .write) (winOf w)) w) w) s
     go true e = k .whole (k .meets .answer ∙ eqb-true n 0 e)
     go false e = k .meets .same (λ z. clash (eq-eqb n 0 (sym (k .meets .answer) ∙ z)) e) ∙ sym (adjust-none (a .window) s)
 

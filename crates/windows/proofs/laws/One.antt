@@ -24,7 +24,7 @@ use Rattle.windows.specs.declared.Changed.{Changed}
 use Rattle.windows.specs.declared.Done.{Done}
 use Rattle.windows.specs.declared.Written.{Written}
 use Rattle.windows.specs.declared.inner.store.Painted.{Painted}
-use Rattle.windows.specs.View.{blank, group, windowAt, grabbing, ruled, rewritten, done, written, Given, Meets, MeetsStore, MeetsAltered, MeetsMark}
+use Rattle.windows.specs.View.{blank, group, windowAt, holding, ruled, rewritten, done, written, Given, Meets, MeetsStore, MeetsAltered, MeetsMark}
 use Rattle.windows.specs.inner.One.{At, Holds, Held, HeldAs, withWindow, MeetsAt, MeetsStoreAt, MeetsAlteredAs, MeetsMarkAt}
 use Rattle.windows.specs.inner.Pixels.{setDamage}
 use Rattle.windows.proofs.laws.Session.{used-at, used-past}
@@ -105,11 +105,11 @@ module _ {id : ℕ} {w : Window} {k : Shared} where
       subst (λ (j : ℕ). P s j w k) (sym q) (subst (λ (v : Window). P s id v k) is (subst (P s id (windowAt s id)) (h .shared) (law s (h .given) is (h .shared))))
 
   -- the window that a fill, a blit or a mark leaves of it makes all of the session that it leaves
-  pub rewrites : (u : Write) {r : Window} → id < 16 → r ≡ grabbing (ruled u (winOf w)) w → (s : Session) (at : ℕ) → Holds id w k s at
+  pub rewrites : (u : Write) {r : Window} → id < 16 → r ≡ holding (ruled u (winOf w)) w → (s : Session) (at : ℕ) → Holds id w k s at
       → withWindow at r k s ≡ rewritten id u s
   rewrites u l e s at h =
       ap (λ (v : Window). withWindow at v k s) e
-      ∙ changes (λ s at w k. withWindow at (grabbing (ruled u (winOf w)) w) k s ≡ rewritten id u s) l (λ s _ _ _. refl) s at h
+      ∙ changes (λ s at w k. withWindow at (holding (ruled u (winOf w)) w) k s ≡ rewritten id u s) l (λ s _ _ _. refl) s at h
 
   -- question 3, as the code asks it
   pub asks-used : (s : Session) (at : ℕ) → Holds id w k s at → used (group s) id ≡ ltb id 16 && w .used

@@ -26,7 +26,7 @@ use Rattle.window.specs.Represents.{winOf, RepWindow, withEntries}
 use Rattle.window.specs.inner.Changes.{PastAs, Dirtied}
 use Rattle.window.proofs.laws.Entries.{all-of}
 use Rattle.rules.specs.Store.{withDamage, dirtied, bounds, filledPart, filledAt, blitRows, blitAt}
-use Rattle.windows.specs.View.{filledWin, blitWin, grabbing}
+use Rattle.windows.specs.View.{filledWin, blitWin, holding}
 use Rattle.windows.specs.inner.Pixels.{Becomes, RowsIn, setDamage, Paints, PaintsAs, BlitsAs}
 use Rattle.windows.specs.declared.inner.store.Painted.{Painted}
 use Rattle.windows.proofs.laws.One.{fields, by-fields}
@@ -45,8 +45,8 @@ dirty-win w a d r q =
     }
 
 -- so the window is the one that holds what the rule says, and is else as it was
-pub is-grabbing : {w : Window} {v : Win} {d : Damage} → Becomes w v (setDamage d w) → PastAs (w .damage) d → setDamage d w ≡ grabbing v w
-is-grabbing {w} {v} {d} b e =
+pub is-holding : {w : Window} {v : Win} {d : Damage} → Becomes w v (setDamage d w) → PastAs (w .damage) d → setDamage d w ≡ holding v w
+is-holding {w} {v} {d} b e =
     let damage = all-of (w .damage) d (b .rep .damage) e ∙ ap (λ (x : Win). withEntries (x .damage) (w .damage)) (b .is) in
     let marked = ap (λ (x : Win). x .marked) (b .is) in
     λ i. record { queue = w .queue; damage = damage i; at = w .at; cursor = w .cursor; used = w .used; marked = marked i }

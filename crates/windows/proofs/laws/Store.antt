@@ -32,13 +32,13 @@ use Rattle.rules.proofs.group.Invariant.{WinOk}
 use Rattle.windows.specs.declared.Shared.{Shared}
 use Rattle.windows.specs.declared.Session.{Session}
 use Rattle.windows.specs.declared.inner.store.Painted.{Painted}
-use Rattle.windows.specs.View.{group, windowAt, grabbing, ruled, Given, MeetsStore, MeetsAltered, done, written}
+use Rattle.windows.specs.View.{group, windowAt, holding, ruled, Given, MeetsStore, MeetsAltered, done, written}
 use Rattle.windows.specs.inner.One.{Holds, Held, HeldAs, withWindow, MeetsStoreAt, MeetsAlteredAt, MeetsAlteredAs}
 use Rattle.windows.specs.inner.Pixels.{Becomes, RowsIn, PaintsAs, setDamage}
 use Rattle.windows.proofs.laws.Session.{used-at, win-at, putWindow, put-group, put-rep, given-ok, refuses, gives}
 use Rattle.windows.proofs.laws.Shared.{Shares, same-shared}
 use Rattle.windows.proofs.laws.One.{fields, by-fields, sized, by-c, stays, changes, rewrites, asks-used}
-use Rattle.windows.proofs.laws.Pixels.{is-grabbing}
+use Rattle.windows.proofs.laws.Pixels.{is-holding}
 
 -- Question 5 ---------------------------------------------------------------------------------------------------------
 
@@ -161,7 +161,7 @@ module _ {id : ℕ} (u : Write) {w : Window} {k : Shared} {store : List ℕ} (c 
 
   -- of an accepted one: its window becomes what the rule says, and all else stays
   pub accepted-one : {d : Damage} {t : List ℕ} {n : ℕ} → Writable id (w .used) (k .c) store
-      → setDamage d w ≡ grabbing (ruled u (winOf w)) w
+      → setDamage d w ≡ holding (ruled u (winOf w)) w
       → MeetsStoreAt (callOf id u store) id w k (record { window = setDamage d w; shared = k; answer = 0 }) t
       → n ≡ altered store t → MeetsAlteredAt id u store w k (record { damage = d; result = record { answer = 0; altered = n } }) t
   accepted-one o v meets e s at h =
@@ -253,7 +253,7 @@ module _ {id : ℕ} (u : Write) {store : List ℕ} (n : Counts (callOf id u stor
       subst (λ (x : ℕ). MeetsAltered id u store s
       (written (withWindow at (setDamage (r .damage) v) (sized c k) s) (record { answer = x; altered = r .result .altered })) t)
       (sym (p .answer))
-      (accepted-one u n o (is-grabbing (p .window) (p .past))
+      (accepted-one u n o (is-holding (p .window) (p .past))
       (yes rule o same-shared _ _ e (p .window, p .counted .pixels)) (p .counted .altered) s at h))
 
 -- A window put back --------------------------------------------------------------------------------------------------

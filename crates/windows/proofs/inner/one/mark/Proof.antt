@@ -12,7 +12,7 @@ use Rattle.rules.specs.Group as Rule
 use Rattle.rules.specs.Group.{used, setWin, withMark}
 use Rattle.rules.specs.Calls.{Mark, does}
 use Rattle.windows.specs.declared.Session.{Session}
-use Rattle.windows.specs.View.{group, windowAt, grabbing, Given, MeetsMark, done}
+use Rattle.windows.specs.View.{group, windowAt, holding, Given, MeetsMark, done}
 use Rattle.windows.specs.inner.One.{withWindow}
 use Rattle.windows.proofs.laws.Asked.{passed, failed}
 use Rattle.windows.proofs.laws.Session.{used-at, win-at, putWindow, refuses, puts}
@@ -25,7 +25,7 @@ abbrev marked : Window → Window
 marked w = record { queue = w .queue; damage = w .damage; at = w .at; cursor = w .cursor; used = w .used; marked = true }
 
 -- nothing else of it changes
-is-marked : (w : Window) → RepDamage (w .damage) → marked w ≡ grabbing (withMark (winOf w)) w
+is-marked : (w : Window) → RepDamage (w .damage) → marked w ≡ holding (withMark (winOf w)) w
 is-marked w ok =
     let damage = all-of (w .damage) (w .damage) ok refl in
     λ i. record { queue = w .queue; damage = damage i; at = w .at; cursor = w .cursor; used = w .used; marked = true }
