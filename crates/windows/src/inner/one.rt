@@ -286,13 +286,17 @@ pub fn set_layer(win: Window, shared: Shared, id: WinId, layer: u32) -> Changed
     }
 }
 
-// What is shared, without the window at a place of the render order, and not remembered.
-fn hide_shown(mut shared: Shared, id: WinId, p: Place) -> Shared
-    requires { ⌜ SharedBy shared × (some (p .0) ≡ renderIdx (id .0) (ids (shared .shown) (shared .order))) ⌝ }
+// What is shared, without the window in the render order, not remembered either; as it is if the window has no place.
+fn hidden(mut shared: Shared, id: WinId) -> Shared
+    requires { ⌜ SharedBy shared ⌝ }
     ensures { λ r. ⌜ Hides (id .0) shared r ⌝ }
 {
     let n = shared.shown;
     let order = shared.order;
+    let idx = get_render_idx(order, n, id);
+    let RenderIdx::At(p) = idx else {
+        return shared;
+    };
     let closed = close_gap(order, n, p);
     let focus = focus_after(shared.focus, id, closed, n - 1, p);
     shared.order = closed;
@@ -301,19 +305,6 @@ fn hide_shown(mut shared: Shared, id: WinId, p: Place) -> Shared
     let grab = forget(shared.grab, id);
     shared.grab = grab;
     shared.owing()
-}
-
-// What is shared, without the window; as it is if the window has no place in the render order.
-fn hidden(shared: Shared, id: WinId) -> Shared
-    requires { ⌜ SharedBy shared ⌝ }
-    ensures { λ r. ⌜ Hides (id .0) shared r ⌝ }
-{
-    let order = shared.order;
-    let idx = get_render_idx(order, shared.shown, id);
-    let RenderIdx::At(p) = idx else {
-        return shared;
-    };
-    hide_shown(shared, id, p)
 }
 
 // Removed from the render order; nothing if hidden.
