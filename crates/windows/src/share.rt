@@ -40,8 +40,7 @@ impl Session {
         if is_empty(at) {
             return refused(NOT_IN_VIEW);
         }
-        let above = found.above;
-        let seen = 100 * visible::list::pixels(at, &above.numbers, above.len) as u32;
+        let seen = 100 * visible::list::pixels(at, &found.above.numbers, found.above.len) as u32;
         let size = at.dims.w * at.dims.h;
         InView {
             answer: OK,

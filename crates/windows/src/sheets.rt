@@ -22,10 +22,9 @@ impl Session {
                 count: 0,
             };
         }
-        let above = found.above;
         if !found.shown {
-            return sheet::inner::write::write(&above.numbers, 0, 0, bytes);
+            return sheet::inner::write::write(&found.above.numbers, 0, 0, bytes);
         }
-        bands::write(found.at, &above.numbers, above.len, bytes)
+        bands::write(found.at, &found.above.numbers, found.above.len, bytes)
     }
 }

@@ -33,11 +33,10 @@ impl Session {
             return empty(OK);
         }
         let at = found.at;
-        let above = found.above;
-        if !list::has_room(at, &above.numbers, above.len, list.len()) {
+        if !list::has_room(at, &found.above.numbers, found.above.len, list.len()) {
             return empty(LIST_LENGTH);
         }
-        let count = list::list(at, &above.numbers, above.len, list);
+        let count = list::list(at, &found.above.numbers, found.above.len, list);
         Listing { answer: OK, count }
     }
 }

@@ -16,14 +16,14 @@ use Rattle.windows.proofs.Session.share.Tie as tie
 
 -- behind the look-up, from where the window is shown
 abbrev after-find : tie.Else2 → tie.After-find
-after-find c = c .before .before .before .before
+after-find c = c .before .before
 
 -- where the window is shown, from where it has pixels; and that place, from where they are counted
 abbrev shown : tie.Else3 → tie.Else2
 shown c = c .before .before .before
 
 abbrev solid : tie.After-pixels → tie.Else3
-solid c = c .before .before .before .before .before
+solid c = c .before .before .before .before
 
 abbrev entry : tie.After-find → tie.Start
 entry c = c .before .before .before
@@ -33,7 +33,7 @@ found : (c : tie.After-find) → let a = entry c .args in Finds (group (a .self)
 found c = c .find .ensures _ (its _ (entry c .pre) _ (c .before .frames .ensures))
 
 used : (c : tie.Else2) → after-find c .find .result .used ≡ true
-used c = not-false _ (c .before .before .if1 .left)
+used c = not-false _ (c .before .if1 .left)
 
 has-pixels : (c : tie.Else3) → isEmpty (after-find (shown c) .find .result .at) ≡ false
 has-pixels c = sym (c .before .is-empty .ensures) ∙ c .if3 .left
@@ -54,7 +54,7 @@ refused-requires c κs = search needs
 returns : tie.Need-returns
 returns c =
     let t = c .before in
-    rw (c .refused .ensures) (no-share _ _ _ (found (t .before .before)) (not-true _ (t .if1 .taken)))
+    rw (c .refused .ensures) (no-share _ _ _ (found (t .before)) (not-true _ (t .if1 .taken)))
 
 refused-requires-2 : tie.Need-refused-requires-2
 refused-requires-2 c κs = search needs
@@ -62,8 +62,8 @@ refused-requires-2 c κs = search needs
 returns-2 : tie.Need-returns-2
 returns-2 c =
     let t = c .before in
-    let e = t .before .before in
-    rw (c .refused2 .ensures) (hidden-share _ _ _ (found (e .before .before)) (not-false _ (e .if1 .left)) (not-true _ (t .if2 .taken)))
+    let e = t .before in
+    rw (c .refused2 .ensures) (hidden-share _ _ _ (found (e .before)) (not-false _ (e .if1 .left)) (not-true _ (t .if2 .taken)))
 
 is-empty-requires : tie.Need-is-empty-requires
 is-empty-requires c κs = search needs
@@ -80,7 +80,7 @@ returns-3 c =
 
 pixels-requires : tie.Need-pixels-requires
 pixels-requires c κs =
-    let f = after-find (shown (c .before .before .before .before)) in
+    let f = after-find (shown (c .before .before .before)) in
     let h = entry f .pre in
     let e = found f in
     (fits h e, lent h e, omega (arith, few h e))
@@ -103,11 +103,11 @@ mul-size c =
     let f = after-find (shown (solid (c .before))) in
     omega (arith, size-low _ _ _ (found f) (given-ok _ (entry f .pre)))
 
-div-t16 : tie.Need-div-t16
-div-t16 c = omega (arith, positive (solid (c .before)))
+div-t17 : tie.Need-div-t17
+div-t17 c = omega (arith, positive (solid (c .before)))
 
-rem-t17 : tie.Need-rem-t17
-rem-t17 c = omega (arith, positive (solid (c .before)))
+rem-t18 : tie.Need-rem-t18
+rem-t18 c = omega (arith, positive (solid (c .before)))
 
 returns-4 : tie.Need-returns-4
 returns-4 c =
@@ -132,6 +132,6 @@ share-spec =
     cast-seen
     mul-seen
     mul-size
-    div-t16
-    rem-t17
+    div-t17
+    rem-t18
     returns-4)

@@ -12,9 +12,9 @@ use borrow.Author.Needs.{needs}
 use Rattle.windows.proofs.Session.sheet.Statement.{statement}
 use Rattle.windows.proofs.Session.sheet.Tie as tie
 
--- behind the look-up, from the test whether the window is shown
-abbrev after-find : tie.After-struct-known2 → tie.After-find
-after-find c = c .before .before .before .before
+-- behind the look-up, from where the id is in use; and the start
+abbrev after-find : tie.Else1 → tie.After-find
+after-find c = c .before
 
 abbrev entry : tie.After-find → tie.Start
 entry c = c .before .before .before .before
@@ -23,8 +23,8 @@ entry c = c .before .before .before .before
 found : (c : tie.After-find) → let a = entry c .args in Finds (group (a .self)) (a .id .0) (c .find .result)
 found c = c .find .ensures _ (its _ (entry c .pre) _ (c .before .frames .ensures))
 
-used : (c : tie.After-struct-known2) → after-find c .find .result .used ≡ true
-used c = not-false _ (c .before .before .if1 .left)
+used : (c : tie.Else1) → after-find c .find .result .used ≡ true
+used c = not-false _ (c .if1 .left)
 
 frames-requires : tie.Need-frames-requires
 frames-requires c κs = search needs
@@ -33,7 +33,7 @@ find-requires : tie.Need-find-requires
 find-requires c κs = record { session = _; laid = its _ (c .before .before .before .pre) _ (c .frames .ensures) }
 
 returns : tie.Need-returns
-returns c = no-sheet _ _ _ (found (c .before .before)) _ (not-true _ (c .if1 .taken))
+returns c = no-sheet _ _ _ (found (c .before)) _ (not-true _ (c .if1 .taken))
 
 write-requires : tie.Need-write-requires
 unfolding endIn
@@ -51,7 +51,7 @@ returns-2 c =
 
 write-requires-2 : tie.Need-write-requires-2
 write-requires-2 c κs =
-    let f = after-find (c .before .before .before .before .before) in
+    let f = after-find (c .before .before .before .before .before .before) in
     let h = entry f .pre in
     let e = found f in
     (lent h e, few h e, small h e)
@@ -62,7 +62,7 @@ same-length-2 c = search needs
 returns-3 : tie.Need-returns-3
 returns-3 c =
     let w = c .before .before in
-    let y = w .before .before .before .before .before in
+    let y = w .before .before .before .before .before .before in
     shown-prints _ _ _ (found (after-find (y .before))) _ (used (y .before)) _ _ (not-false _ (y .if2 .left)) (w .write2 .ensures)
 
 pub sheet-spec : {M : Type 1} → statement M

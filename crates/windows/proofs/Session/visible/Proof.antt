@@ -11,13 +11,13 @@ use borrow.Author.Needs.{needs}
 use Rattle.windows.proofs.Session.visible.Statement.{statement}
 use Rattle.windows.proofs.Session.visible.Tie as tie
 
--- behind the look-up, from where the window is shown; and the start
-abbrev after-find : tie.Else2 → tie.After-find
-after-find c = c .before .before .before .before
-
 -- where the window is shown, from question 9
 abbrev shown : tie.After-has-room → tie.Else2
-shown c = c .before .before .before .before .before .before
+shown c = c .before .before .before .before .before
+
+-- behind the look-up, from there; and the start
+abbrev after-find : tie.Else2 → tie.After-find
+after-find c = c .before .before
 
 abbrev entry : tie.After-find → tie.Start
 entry c = c .before .before .before .before
@@ -27,7 +27,7 @@ found : (c : tie.After-find) → let a = entry c .args in Finds (group (a .self)
 found c = c .find .ensures _ (its _ (entry c .pre) _ (c .before .frames .ensures))
 
 used : (c : tie.Else2) → after-find c .find .result .used ≡ true
-used c = not-false _ (c .before .before .if1 .left)
+used c = not-false _ (c .before .if1 .left)
 
 frames-requires : tie.Need-frames-requires
 frames-requires c κs = search needs
@@ -41,7 +41,7 @@ empty-requires c κs = search needs
 returns : tie.Need-returns
 returns c =
     let t = c .before in
-    rw (c .empty .ensures) (no-window _ _ _ (found (t .before .before)) _ (not-true _ (t .if1 .taken)))
+    rw (c .empty .ensures) (no-window _ _ _ (found (t .before)) _ (not-true _ (t .if1 .taken)))
 
 empty-requires-2 : tie.Need-empty-requires-2
 empty-requires-2 c κs = search needs
@@ -49,12 +49,12 @@ empty-requires-2 c κs = search needs
 returns-2 : tie.Need-returns-2
 returns-2 c =
     let t = c .before in
-    let e = t .before .before in
-    rw (c .empty2 .ensures) (hidden-list _ _ _ (found (e .before .before)) _ (not-false _ (e .if1 .left)) (not-true _ (t .if2 .taken)))
+    let e = t .before in
+    rw (c .empty2 .ensures) (hidden-list _ _ _ (found (e .before)) _ (not-false _ (e .if1 .left)) (not-true _ (t .if2 .taken)))
 
 has-room-requires : tie.Need-has-room-requires
 has-room-requires c κs =
-    let f = after-find (c .before .before .before .before .before) in
+    let f = after-find (c .before .before .before .before) in
     let h = entry f .pre in
     let e = found f in
     (fits h e, lent h e, omega (arith, few h e))
