@@ -286,17 +286,13 @@ pub fn set_layer(win: Window, shared: Shared, id: WinId, layer: u32) -> Changed
     }
 }
 
-// What is shared, without the window in the render order, not remembered either; as it is if the window has no place.
-fn hidden(mut shared: Shared, id: WinId) -> Shared
-    requires { ⌜ SharedBy shared ⌝ }
+// What is shared, without the window at a place of the render order, and not remembered.
+fn hide_shown(mut shared: Shared, id: WinId, p: Place) -> Shared
+    requires { ⌜ SharedBy shared × (some (p .0) ≡ renderIdx (id .0) (ids (shared .shown) (shared .order))) ⌝ }
     ensures { λ r. ⌜ Hides (id .0) shared r ⌝ }
 {
     let n = shared.shown;
     let order = shared.order;
-    let idx = get_render_idx(order, n, id);
-    let RenderIdx::At(p) = idx else {
-        return shared;
-    };
     let closed = close_gap(order, n, p);
     let focus = focus_after(shared.focus, id, closed, n - 1, p);
     shared.order = closed;
@@ -307,33 +303,45 @@ fn hidden(mut shared: Shared, id: WinId) -> Shared
     shared.owing()
 }
 
-// Removed from the render order; nothing if hidden.
-pub fn hide(win: Window, shared: Shared, id: WinId) -> Changed
+// Removed from the render order; nothing if hidden. There is one way out, so that what is shared is copied once.
+pub fn hide(win: Window, mut shared: Shared, id: WinId) -> Changed
     requires { ⌜ Held (id .0) win shared ⌝ }
     ensures { λ r. ⌜ MeetsAt (Call.Hide (id .0)) (id .0) win shared r ⌝ }
 {
-    if !in_use(id, win.used) {
-        return refused(win, shared, UNKNOWN_ID);
+    let mut answer: u32 = UNKNOWN_ID;
+    if in_use(id, win.used) {
+        answer = OK;
+        let order = shared.order;
+        let idx = get_render_idx(order, shared.shown, id);
+        if let RenderIdx::At(p) = idx {
+            shared = hide_shown(shared, id, p);
+        }
     }
     Changed {
         window: win,
-        shared: hidden(shared, id),
-        answer: OK,
+        shared,
+        answer,
     }
 }
 
-// Hides the window and frees its id; its pixels stay in the store.
-pub fn drop(mut win: Window, shared: Shared, id: WinId) -> Changed
+// Hides the window and frees its id; its pixels stay in the store. There is one way out, as in `hide`.
+pub fn drop(mut win: Window, mut shared: Shared, id: WinId) -> Changed
     requires { ⌜ Held (id .0) win shared ⌝ }
     ensures { λ r. ⌜ MeetsAt (Call.Drop (id .0)) (id .0) win shared r ⌝ }
 {
-    if !in_use(id, win.used) {
-        return refused(win, shared, UNKNOWN_ID);
+    let mut answer: u32 = UNKNOWN_ID;
+    if in_use(id, win.used) {
+        answer = OK;
+        let order = shared.order;
+        let idx = get_render_idx(order, shared.shown, id);
+        if let RenderIdx::At(p) = idx {
+            shared = hide_shown(shared, id, p);
+        }
+        win.used = false;
     }
-    win.used = false;
     Changed {
         window: win,
-        shared: hidden(shared, id),
-        answer: OK,
+        shared,
+        answer,
     }
 }

@@ -1,10 +1,11 @@
--- A window in use is hidden in what is shared, and its id is freed.
-use Prim.Native.Nat.{ℕ}
-use mathlib.Core.Path.{_≡_, refl, ap, _∙_}
+-- A window in use is hidden in what is shared if it has a place there, and its id is freed.
+use Prim.Native.Nat.{ℕ, _≤_}
+use mathlib.Core.Path.{_≡_, refl, sym, ap, subst, _∙_}
 use mathlib.Core.Bool.{true, false}
 use mathlib.Core.Option.{none}
 use Rattle.window.specs.declared.Window.{Window}
 use Rattle.window.specs.Represents.{RepWindow}
+use Rattle.order.specs.inner.Order.{idxOf}
 use Rattle.rules.specs.Group.{used, setWin}
 use Rattle.rules.specs.Order as Order
 use Rattle.rules.specs.Calls.{Drop, does}
@@ -13,9 +14,9 @@ use Rattle.windows.specs.declared.Shared.{Shared}
 use Rattle.windows.specs.View.{group, windowAt, Rep, Given, Meets, done}
 use Rattle.windows.specs.inner.One.{withWindow}
 use Rattle.windows.specs.inner.Sharing.{sharing}
-use Rattle.windows.proofs.laws.Asked.{passed, failed}
 use Rattle.windows.proofs.laws.Session.{used-at, put-none, put-rep, refuses, gives}
-use Rattle.windows.proofs.laws.One.{accepts, not-used}
+use Rattle.windows.proofs.laws.One.{accepts, not-used, same-place}
+use Rattle.windows.proofs.laws.Hidden.{hidden-already}
 use borrow.Author.Needs.{needs}
 use Rattle.windows.proofs.inner.one.drop.Statement.{statement}
 use Rattle.windows.proofs.inner.one.drop.Tie as tie
@@ -41,30 +42,65 @@ module _ (s : Session) (id : ℕ) where
 in-use-requires : tie.Need-in-use-requires
 in-use-requires c κs = search needs
 
-refused-requires : tie.Need-refused-requires
-refused-requires c κs = search needs
+get-render-idx-requires : tie.Need-get-render-idx-requires
+get-render-idx-requires c κs =
+    let h = c .before .before .before .pre .holds in
+    subst (λ (k : Shared). k .shown ≤ 16) (h .shared) (h .given .rep .shown)
+
+enum-known-idx : tie.Need-enum-known-idx
+enum-known-idx c = search needs
+
+hide-shown-requires : tie.Need-hide-shown-requires
+hide-shown-requires c κs =
+    let i = c .before in
+    let g = i .before .before in
+    let h = g .before .before .before .before .pre in (
+      record { session = h .session; given = h .holds .given; shared = h .holds .shared },
+      sym (ap idxOf (i .idx .given .1)) ∙ g .get-render-idx .ensures,
+    )
+
+enum-told : tie.Need-enum-told
+enum-told c = search needs
 
 returns : tie.Need-returns
 returns c =
-    let u = c .before .before in
+    let r = c .hide-shown in
+    let g = c .before .before .before .before in
+    let t = g .before .before in
+    let u = t .before in
     let id = u .before .args .id .0 in
-    rw (c .refused .ensures)
-    (not-used (λ s t. Meets (Drop id) s (done t 3)) (failed (u .in-use .ensures) (c .before .if1 .taken)) (λ s h u. no-window s id h u))
-
-hidden-requires : tie.Need-hidden-requires
-hidden-requires c κs =
-    let h = c .before .before .pre in
-    record { session = h .session; given = h .holds .given; shared = h .holds .shared }
-
-returns-2 : tie.Need-returns-2
-returns-2 c =
-    let r = c .hidden in
-    let u = c .before .before in
-    let id = u .before .args .id .0 in
-    accepts (λ s at w k. Meets (Drop id) s (done (withWindow at (freed w) (r .result) s) 0)) (passed (u .in-use .ensures) (c .before .if1 .left))
+    accepts (λ s at w k. Meets (Drop id) s (done (withWindow at (freed w) (r .result) s) 0))
+    (sym (u .in-use .ensures) ∙ t .if1 .taken)
     (λ s q.
     drops s id (freed (windowAt s id)) (r .result) (q .given) (q .used) refl (freed-rep (q .rep))
     (r .ensures s (q .given) (q .shared)))
 
+returns-2 : tie.Need-returns-2
+returns-2 c =
+    let g = c .before .before in
+    let t = g .before .before in
+    let u = t .before in
+    let id = u .before .args .id .0 in
+    let nowhere = sym (ap idxOf (c .enum-told .given .1)) ∙ g .get-render-idx .ensures in
+    accepts (λ s at w k. Meets (Drop id) s (done (withWindow at (freed w) k s) 0)) (sym (u .in-use .ensures) ∙ t .if1 .taken)
+    (λ s q.
+    drops s id (freed (windowAt s id)) (s .shared) (q .given) (q .used) refl (freed-rep (q .rep))
+    (hidden-already s (q .given) id (same-place _ _ (q .shared) nowhere)))
+
+returns-3 : tie.Need-returns-3
+returns-3 c =
+    let id = c .before .before .args .id .0 in
+    not-used (λ s t. Meets (Drop id) s (done t 3)) (sym (c .before .in-use .ensures) ∙ c .if1 .left) (λ s h u. no-window s id h u)
+
 pub drop-spec : {M : Type 1} → statement M
-drop-spec = tie.close (tie.spec in-use-requires refused-requires returns hidden-requires returns-2)
+drop-spec =
+    tie.close
+    (tie.spec
+    in-use-requires
+    get-render-idx-requires
+    enum-known-idx
+    hide-shown-requires
+    enum-told
+    returns
+    returns-2
+    returns-3)
