@@ -13,3 +13,6 @@ pub mod Pixels
 pub mod Reach
 pub mod Outside
 pub mod Once
+pub mod Extents
+pub mod Joining
+pub mod Entries

@@ -5,14 +5,15 @@ ghost use mathlib.Core.Bool.{false};
 ghost use Prim.Native.Nat.{_+_, _*_, _≤_, _<_};
 ghost use lib.ListN.{length, drop};
 ghost use Rattle.geom.specs.Geom.{rect, width, height, isEmpty};
-ghost use Rattle.geom.specs.inner.Fits.{Fits, Within};
+ghost use Rattle.geom.specs.inner.Fits.{Within};
 ghost use Rattle.geom.specs.Lists.{outsideAll, relative, listIntersect};
 ghost use Rattle.geom.specs.Rect16.{Small};
 ghost use Rattle.rules.specs.Visible.{rectsOf};
 ghost use Rattle.rules.specs.Redraw.{drawRegions};
 ghost use Rattle.rules.specs.inner.Lent.{Lent};
-ghost use Rattle.visible.specs.inner.Seen.{Table, Drawable, Bounds, Reach, viewOf, drawn, regions};
+ghost use Rattle.visible.specs.inner.Seen.{Table, Drawable, Bounds, viewOf, drawn, regions};
 use crate::dirty::draw_dirty;
+use crate::reach::reach;
 use crate::rects;
 use crate::region::View;
 use crate::table;
@@ -93,24 +94,6 @@ fn bound(dirty: &[u32], m: usize) -> Rect
     Rect::FULL
 }
 
-// What of the window lies in an entry and on the screen; a rectangle without pixels where nothing does.
-fn reach(view: View, entry: Rect) -> Rect
-    requires { ⌜ Small (view .at) × (view .sw ≤ 32767) × (view .sh ≤ 32767) × Fits entry ⌝ }
-    ensures { λ r. ⌜ Reach view entry r ⌝ }
-{
-    let at = view.at;
-    let own = Rect::new(0, 0, at.dims.w, at.dims.h);
-    if inner::meets(own, entry) {
-        let r = inner::common(own, entry);
-        let on = Rect::new(at.pos.x + r.pos.x, at.pos.y + r.pos.y, r.dims.w, r.dims.h);
-        let all = Rect::new(0, 0, view.sw, view.sh);
-        if inner::meets(on, all) {
-            return inner::common(on, all);
-        }
-    }
-    Rect::new(at.pos.x, at.pos.y, 0, 0)
-}
-
 // Draws what is seen of a window at `at`, under n rectangles, where it is dirty, as dimming is on or off. Its pixels begin at `base` of the store.
 pub fn draw(
     at: Rect,
@@ -138,7 +121,7 @@ pub fn draw(
         dim,
     };
     // Higher windows that do not meet what can be drawn are not looked at.
-    let part = reach(view, bound(dirty, m));
+    let part = reach(at, bound(dirty, m), Rect::new(0, 0, sw, sh));
     if inner::is_empty(part) {
         return;
     }

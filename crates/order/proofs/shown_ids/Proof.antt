@@ -47,7 +47,7 @@ loop-again c =
     let s = c .before .before .before .before in
     let l = c .before .before .loop-test .taken in (
       omega (arith, l),
-      mark-next (s .args .t1) (q .flags) (q .i) _ (search needs) (omega (arith, l, s .pre .0)) refl (low (c .before .before)) (q .inv .1),
+      mark-next (s .args .t1) (q .i) _ (search needs) (omega (arith, l, s .pre .0)) refl (low (c .before .before)) (q .flags) (q .inv .1),
     )
 
 returns : tie.Need-returns Inv-loop μ-loop

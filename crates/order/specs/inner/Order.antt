@@ -2,11 +2,14 @@
 use Prim.Native.Nat.{ℕ, suc, _-_, _<_}
 use mathlib.Core.Path.{_≡_}
 use mathlib.Core.Bool.{Bool, false, cond}
+use mathlib.Core.Logic.{_⊎_}
 use mathlib.Core.List.{List, _++_}
 use mathlib.Core.Option.{Option, none, some}
 use lib.ListN.{length, getD, take, drop}
 use Rattle.window.specs.declared.ids.WinId.{WinId}
+use Rattle.window.specs.inner.Ids.{noId}
 use Rattle.rules.specs.Order.{isIn, placeOf}
+use Rattle.order.specs.Ids.{ids}
 use Rattle.order.specs.declared.RenderIdx.{RenderIdx}
 use Rattle.order.specs.declared.RenderIdx.the-variants.{At, Hidden}
 
@@ -28,3 +31,9 @@ pub record Closed (order : List WinId) (n p : ℕ) (r : List WinId) : Type 0 whe
 pub record Marks (flags : List Bool) (o : List ℕ) : Type 0 where
   pub all : length flags ≡ 16
   pub each : (i : ℕ) → i < 16 → getD flags i false ≡ isIn i o
+
+-- each of the 16 numbers has a place of the first n where the order holds it, or 16 if none does
+pub record Places (order : List WinId) (n : ℕ) (places : List ℕ) : Type 0 where
+  pub all : length places ≡ 16
+  pub each : (i : ℕ) → i < 16
+      → ((getD places i 0 < n) × (getD order (getD places i 0) noId .0 ≡ i)) ⊎ ((getD places i 0 ≡ 16) × (isIn i (ids n order) ≡ false))

@@ -9,9 +9,9 @@ use Rattle.geom.specs.declared.Rect.{Rect}
 use Rattle.geom.specs.Geom.{rect, left, top, width, height, isEmpty, contains, meets, common}
 use Rattle.geom.specs.inner.Fits.{Fits, Within}
 use Rattle.geom.specs.Lists.{outsideAll, relative, meetsOf, listIntersect, rectAt, anyHas}
-use Rattle.geom.proofs.basics.Tests.{clash, fst, snd, by-test, says-and, says-le, same}
+use Rattle.geom.proofs.basics.Tests.{clash, both, fst, snd, by-test, says-and, says-le, same}
 use Rattle.geom.proofs.basics.Lists.{All, all-append, all-imp}
-use Rattle.geom.proofs.geometry.Facts.{In, says-in, says-empty, says-meet, common-in, common-within, not-in}
+use Rattle.geom.proofs.geometry.Facts.{says-in, says-empty, says-meet, common-has, common-within, unmet-has, not-in}
 use Rattle.geom.proofs.geometry.Pieces.{left-within}
 use Rattle.geom.proofs.geometry.Cover.{outsideAll-has, listIntersect-has}
 use Rattle.rules.specs.Redraw.{onto}
@@ -22,7 +22,7 @@ use Rattle.visible.specs.declared.region.View.{View}
 use Rattle.visible.specs.inner.Seen.{Drawable, Bounds, Reach, own, seen, regions, drawn}
 use Rattle.visible.proofs.laws.Parts.{within-refl, within-trans}
 use Rattle.visible.proofs.laws.Regions.{drawn-none}
-use Rattle.visible.proofs.laws.Shown.{placed, screenRect}
+use Rattle.visible.proofs.laws.Shown.{screenRect}
 use Rattle.visible.proofs.laws.Pixels.{same-drawn}
 
 -- Which points of the screen the regions have ---------------------------------------------------------------------------
@@ -59,10 +59,10 @@ module _ (at : Rect) (bs ds : List Rect) (px py : ℕ) where
   abbrev y : ℕ
   y = py - top at
 
-  abbrev struck : Rect → Bool
+  abbrev pub struck : Rect → Bool
   struck p = anyHas (map (onto at) (regions at (p ∷ []) bs ds)) px py
 
-  struck-is : (p : Rect) → Within at p
+  pub struck-is : (p : Rect) → Within at p
       → struck p ≡ behind at px py && (contains p (left at + x) (top at + y) && not (anyHas bs (left at + x) (top at + y)) && anyHas ds x y)
   unfolding regions seen
   struck-is p w =
@@ -109,7 +109,8 @@ alike true b false false true f g = refl
 alike true b true false true f g = clash (f refl refl refl) refl
 alike true b false true true f g = clash (g refl) refl
 
-module _ {v : View} {store screen : List ℕ} (d : Drawable v store screen) {e p : Rect} (bs ds : List Rect) (h : Bounds e ds) (q : Reach v e p) where
+module _ {v : View} {store screen : List ℕ} (d : Drawable v store screen) {e p : Rect} (bs ds : List Rect) (h : Bounds e ds)
+    (q : Reach (v .at) e (screenRect v) p) where
   abbrev at : Rect
   at = v .at
 
@@ -124,8 +125,9 @@ module _ {v : View} {store screen : List ℕ} (d : Drawable v store screen) {e p
       let north = says-le (top at) py .fact (snd (leb (left at) px) (leb (top at) py) k) in
       let i = says-in at a b .fact inside in
       let s = d .at in
-      q .has (px - left at) (py - top at) inside (says-in (rect 0 0 (v .sw) (v .sh)) a b .test (omega arith))
-      (h .has (px - left at) (py - top at) (omega arith) (omega arith) dirty))
+      q .has (px - left at) (py - top at)
+      ∙ both (both inside (h .has (px - left at) (py - top at) (omega arith) (omega arith) dirty))
+      (says-in (screenRect v) a b .test (omega arith)))
       (λ k. let i = says-in p a b .fact k in let w = q .window in says-in at a b .test (omega arith))
       ∙ sym (struck-is at bs ds px py at (within-refl at))
 
@@ -168,67 +170,73 @@ one-bounds m l r k e er = record {
 
 -- The part as the code cuts it ------------------------------------------------------------------------------------------
 
-module _ (v : View) (e : Rect) where
+-- the window's rectangle, relative to the window
+abbrev whole : Rect → Rect
+whole at = rect 0 0 (width at) (height at)
+
+pub whole-common : (at e : Rect) {o r : Rect} → o ≡ whole at → meets o e ≡ true → r ≡ common o e → Within (whole at) r
+whole-common at e {o} {r} eo m er =
+    subst (λ (q : Rect). Within q r) eo (subst (Within o) (sym er) (common-within o e (says-meet o e .fact m) .0))
+
+module _ (at e area : Rect) where
   -- what the window has in the entry, at its place on the screen
   abbrev dirty : Rect
-  dirty = placed v (common (own v) e)
+  dirty = onto at (common (whole at) e)
 
-  dirty-in : (x y : ℕ) → contains (v .at) (left (v .at) + x) (top (v .at) + y) ≡ true → contains e x y ≡ true
-      → In (own v) x y × (In e x y × In dirty (left (v .at) + x) (top (v .at) + y))
-  dirty-in x y a b =
-      let i = says-in (v .at) (left (v .at) + x) (top (v .at) + y) .fact a in
-      let o : In (own v) x y = omega arith in
-      let j = says-in e x y .fact b in
-      let k = common-in (own v) e x y .1 (o, j) in
-      (o, (j, omega arith))
+  whole-has : (x y : ℕ) → contains at (left at + x) (top at + y) ≡ contains (whole at) x y
+  whole-has x y = same (says-in at (left at + x) (top at + y)) (says-in (whole at) x y) (omega arith) (omega arith)
 
-  reach-common : meets (own v) e ≡ true → meets dirty (screenRect v) ≡ true → Reach v e (common dirty (screenRect v))
+  placed-has : (r : Rect) (x y : ℕ) → contains (onto at r) (left at + x) (top at + y) ≡ contains r x y
+  placed-has r x y = same (says-in (onto at r) (left at + x) (top at + y)) (says-in r x y) (omega arith) (omega arith)
+
+  dirty-has : (x y : ℕ) → contains dirty (left at + x) (top at + y) ≡ contains at (left at + x) (top at + y) && contains e x y
+  dirty-has x y =
+      placed-has (common (whole at) e) x y ∙ common-has (whole at) e x y ∙ ap (λ (t : Bool). t && contains e x y) (sym (whole-has x y))
+
+  reach-common : meets (whole at) e ≡ true → meets dirty area ≡ true → Reach at e area (common dirty area)
   reach-common m n =
-      let r = common-within (own v) e (says-meet (own v) e .fact m) in
-      let k = common-within dirty (screenRect v) (says-meet dirty (screenRect v) .fact n) in
+      let r = common-within (whole at) e (says-meet (whole at) e .fact m) in
+      let k = common-within dirty area (says-meet dirty area .fact n) in
       record {
         window = omega (arith, r .0, k .0);
-        has = λ x y a b c. let px = left (v .at) + x in let py = top (v .at) + y in
-            says-in (common dirty (screenRect v)) px py .test
-            (common-in dirty (screenRect v) px py .1 (dirty-in x y a c .1 .1, says-in (screenRect v) px py .fact b));
+        has = λ x y. let px = left at + x in let py = top at + y in
+            common-has dirty area px py ∙ ap (λ (t : Bool). t && contains area px py) (dirty-has x y);
       }
 
   abbrev corner : Rect
-  corner = rect (left (v .at)) (top (v .at)) 0 0
+  corner = rect (left at) (top at) 0 0
 
-  reach-unmet : meets (own v) e ≡ false → Reach v e corner
-  reach-unmet m = record {
+  -- no pixel of the window lies in both
+  reach-corner : ((x y : ℕ) → let px : ℕ = left at + x in let py : ℕ = top at + y in
+      contains dirty px py && contains area px py ≡ false) → Reach at e area corner
+  reach-corner none = record {
     window = omega arith;
-    has = λ x y a b c.
-        let h = dirty-in x y a c in
-        let o = h .0 in
-        let j = h .1 .0 in
-        clash (says-meet (own v) e .test (omega arith)) m;
+    has = λ x y. let px = left at + x in let py = top at + y in
+        not-in corner px py (λ i. omega arith) ∙ sym (none x y) ∙ ap (λ (t : Bool). t && contains area px py) (dirty-has x y);
   }
 
-  reach-off : meets dirty (screenRect v) ≡ false → Reach v e corner
-  reach-off m = record {
-    window = omega arith;
-    has = λ x y a b c.
-        let h = dirty-in x y a c .1 .1 in
-        let s = says-in (screenRect v) (left (v .at) + x) (top (v .at) + y) .fact b in
-        clash (says-meet dirty (screenRect v) .test (omega arith)) m;
-  }
+  reach-unmet : meets (whole at) e ≡ false → Reach at e area corner
+  reach-unmet m = reach-corner (λ x y.
+      ap (λ (t : Bool). t && contains area (left at + x) (top at + y))
+      (placed-has (common (whole at) e) x y ∙ common-has (whole at) e x y ∙ unmet-has (whole at) e x y (λ k. clash (says-meet (whole at) e .test k) m)))
 
-  module _ {o r on all : Rect} (eo : o ≡ own v) (er : r ≡ common o e) (en : on ≡ placed v r) (ea : all ≡ screenRect v) where
+  reach-off : meets dirty area ≡ false → Reach at e area corner
+  reach-off m = reach-corner (λ x y. unmet-has dirty area (left at + x) (top at + y) (λ k. clash (says-meet dirty area .test k) m))
+
+  module _ {o r on : Rect} (eo : o ≡ whole at) (er : r ≡ common o e) (en : on ≡ onto at r) where
     on-is : on ≡ dirty
-    on-is = en ∙ ap (placed v) (er ∙ ap (λ (q : Rect). common q e) eo)
+    on-is = en ∙ ap (onto at) (er ∙ ap (λ (q : Rect). common q e) eo)
 
-    met-is : {t : Bool} → meets on all ≡ t → meets dirty (screenRect v) ≡ t
-    met-is m = sym (ap (λ (q : Rect). meets q all) on-is ∙ ap (meets dirty) ea) ∙ m
+    met-is : {t : Bool} → meets on area ≡ t → meets dirty area ≡ t
+    met-is m = sym (ap (λ (q : Rect). meets q area) on-is) ∙ m
 
-    pub reach-cut : {k : Rect} → meets o e ≡ true → meets on all ≡ true → k ≡ common on all → Reach v e k
+    pub reach-cut : {k : Rect} → meets o e ≡ true → meets on area ≡ true → k ≡ common on area → Reach at e area k
     reach-cut m n ek =
-        subst (Reach v e) (sym (ek ∙ ap (λ (q : Rect). common q all) on-is ∙ ap (common dirty) ea))
+        subst (Reach at e area) (sym (ek ∙ ap (λ (q : Rect). common q area) on-is))
         (reach-common (ap (λ (q : Rect). meets q e) (sym eo) ∙ m) (met-is n))
 
-    pub reach-away : {k : Rect} → meets on all ≡ false → k ≡ corner → Reach v e k
-    reach-away n ek = subst (Reach v e) (sym ek) (reach-off (met-is n))
+    pub reach-away : {k : Rect} → meets on area ≡ false → k ≡ corner → Reach at e area k
+    reach-away n ek = subst (Reach at e area) (sym ek) (reach-off (met-is n))
 
-  pub reach-clean : {o k : Rect} → o ≡ own v → meets o e ≡ false → k ≡ corner → Reach v e k
-  reach-clean eo m ek = subst (Reach v e) (sym ek) (reach-unmet (ap (λ (q : Rect). meets q e) (sym eo) ∙ m))
+  pub reach-clean : {o k : Rect} → o ≡ whole at → meets o e ≡ false → k ≡ corner → Reach at e area k
+  reach-clean eo m ek = subst (Reach at e area) (sym ek) (reach-unmet (ap (λ (q : Rect). meets q e) (sym eo) ∙ m))

@@ -42,7 +42,7 @@ module _ {a : Rect} {n : ℕ} {l : List ℕ} {i k : ℕ} (s : Missed a n l i k) 
 
   -- the part is left whole
   module _ (e : k ≡ n) where
-    missed-all : outsideAll (a ∷ []) (drop i (rectsOf n l)) ≡ a ∷ []
+    pub missed-all : outsideAll (a ∷ []) (drop i (rectsOf n l)) ≡ a ∷ []
     missed-all =
         sym (s .same)
         ∙ ap (outsideAll (a ∷ [])) (drop-of-length-le (rectsOf n l) {i = k} (omega (arith, length-rects n l)))
@@ -123,12 +123,17 @@ module _ {a : Rect} {n : ℕ} {l : List ℕ} {i k : ℕ} {c : Rect} (s : Splits 
         → f (around a c) ≡ f (ifAny p) ++ (f (ifAny q) ++ (f (ifAny r) ++ f (ifAny u)))
     named f add = rw (ep, eq, er, eu) (four f add a c)
 
+    pub outside-four : let bs = drop (k + 1) (rectsOf n l) in outsideAll (a ∷ []) (drop i (rectsOf n l))
+        ≡ outsideAll (ifAny p) bs ++ (outsideAll (ifAny q) bs ++ (outsideAll (ifAny r) bs ++ outsideAll (ifAny u) bs))
+    outside-four =
+        let bs = drop (k + 1) (rectsOf n l) in
+        outside-split ∙ named (λ (rs : List Rect). outsideAll rs bs) (λ xs ys. outsideAll-append xs ys bs)
+
     pub counted-four : (t : Bool) {x y z w : ℕ} → let bs = drop (k + 1) (rectsOf n l) in x ≡ amount t (outsideAll (ifAny p) bs) → y ≡ amount t (outsideAll (ifAny q) bs)
         → z ≡ amount t (outsideAll (ifAny r) bs) → w ≡ amount t (outsideAll (ifAny u) bs) → x + y + z + w ≡ amount t (outsideAll (a ∷ []) (drop i (rectsOf n l)))
     counted-four t ex ey ez ew =
         let bs = drop (k + 1) (rectsOf n l) in
-        let e = outside-split ∙ named (λ (rs : List Rect). outsideAll rs bs) (λ xs ys. outsideAll-append xs ys bs) in
-        omega (arith, ap (amount t) e ∙ amount-four t (outsideAll (ifAny p) bs) (outsideAll (ifAny q) bs) (outsideAll (ifAny r) bs) (outsideAll (ifAny u) bs))
+        omega (arith, ap (amount t) outside-four ∙ amount-four t (outsideAll (ifAny p) bs) (outsideAll (ifAny q) bs) (outsideAll (ifAny r) bs) (outsideAll (ifAny u) bs))
 
     module _ (at : Rect) where
       seen-four : let bs = drop (k + 1) (rectsOf n l) in

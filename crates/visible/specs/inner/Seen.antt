@@ -1,7 +1,7 @@
 -- The visible list of some parts of a window, and what is drawn of it: the rules for the parts that the depth-first search has reached.
 use Prim.Native.Nat.{ℕ, _+_, _*_, _≤_, _<_}
 use mathlib.Core.Path.{_≡_}
-use mathlib.Core.Bool.{Bool, true, false, cond}
+use mathlib.Core.Bool.{Bool, true, false, cond, _&&_}
 use mathlib.Core.List.{List, [], _∷_, map}
 use lib.Dec.{eqb}
 use lib.ListN.{length, drop, getD}
@@ -77,9 +77,8 @@ pub record Bounds (r : Rect) (ds : List Rect) : Type 0 where
   pub fits : Fits r
   pub has : (x y : ℕ) → x < 4294967295 → y < 4294967295 → anyHas ds x y ≡ true → contains r x y ≡ true
 
--- r lies in the window and has what lies in the window, on the screen and in the entry e
-pub record Reach (v : View) (e r : Rect) : Type 0 where
-  pub window : Within (v .at) r
-  pub has : (x y : ℕ) → let px : ℕ = left (v .at) + x in let py : ℕ = top (v .at) + y in
-      contains (v .at) px py ≡ true → contains (rect 0 0 (v .sw) (v .sh)) px py ≡ true → contains e x y ≡ true
-      → contains r px py ≡ true
+-- r has the pixels of the window that lie in the area and, relative to the window, in the entry e
+pub record Reach (at e area r : Rect) : Type 0 where
+  pub window : Within at r
+  pub has : (x y : ℕ) → let px : ℕ = left at + x in let py : ℕ = top at + y in
+      contains r px py ≡ contains at px py && contains e x y && contains area px py

@@ -3,12 +3,15 @@
 use Prim.Native.Nat.{ℕ, zero-le}
 use mathlib.Core.Path.{_≡_, sym, ap, subst, _∙_}
 use mathlib.Core.List.{List, [], _∷_, map}
+use native.Mathlib.Omega.{arith}
 use Rattle.geom.specs.declared.Rect.{Rect}
 use Rattle.geom.specs.inner.Fits.{Within}
+use Rattle.geom.specs.Rect16.{Small}
 use Rattle.geom.specs.Lists.{relative, listIntersect}
 use Rattle.rules.specs.Visible.{rectsOf}
 use Rattle.visible.specs.declared.region.View.{View}
-use Rattle.visible.specs.inner.Seen.{Drawable, viewOf, seen, regions, drawn}
+use Rattle.visible.specs.inner.Seen.{Drawable, Reach, viewOf, seen, regions, drawn}
+use Rattle.visible.proofs.laws.Shown.{screenRect, part-fits}
 use Rattle.visible.proofs.laws.Reach.{reach-drawn, reach-none}
 use borrow.Author.Needs.{needs}
 use Rattle.visible.proofs.draw.draw.Statement.{statement}
@@ -16,10 +19,17 @@ use Rattle.visible.proofs.draw.draw.Tie as tie
 
 -- The part --------------------------------------------------------------------------------------------------------------
 
+abbrev entry : tie.After-new → tie.Start
+entry c =
+    let lent = c .before .before in
+    lent .before .before .before .before
+
 abbrev start : tie.After-reach → tie.Start
-start c =
-    let k = c .before .before in
-    k .before .before .before .before
+start c = entry (c .before)
+
+-- what holds all entries
+abbrev bounded : tie.After-reach → Rect
+bounded c = c .before .before .bound .result
 
 -- the view that is asked for
 abbrev asked : tie.After-reach → View
@@ -42,8 +52,18 @@ entries c = rectsOf (start c .args .m) (start c .args .dirty .now)
 bound-requires : tie.Need-bound-requires
 bound-requires c κs = search needs
 
+new-requires : tie.Need-new-requires
+new-requires c κs = search needs
+
 reach-requires : tie.Need-reach-requires
-reach-requires c κs = search needs
+reach-requires c κs =
+    let p = entry c .pre in
+    (p .0 .0, c .before .bound .ensures .fits, subst Small (sym (c .new .ensures)) (omega (arith, p .1 .1)))
+
+-- the part is what the window has in the bound and on the screen
+reached-is : (c : tie.After-reach) → Reach (start c .args .at) (bounded c) (screenRect (asked c)) (c .reach .result)
+reached-is c =
+    subst (λ (area : Rect). Reach (start c .args .at) (bounded c) area (c .reach .result)) (c .before .new .ensures) (c .reach .ensures)
 
 is-empty-requires : tie.Need-is-empty-requires
 is-empty-requires c κs = search needs
@@ -52,7 +72,7 @@ returns : tie.Need-returns
 unfolding seen regions drawn
 returns c =
     let r = c .before .before in
-    reach-none (shown r) (above r) (entries r) (r .before .bound .ensures) (r .reach .ensures) (sym (c .before .is-empty .ensures) ∙ c .if1 .taken)
+    reach-none (shown r) (above r) (entries r) (r .before .before .bound .ensures) (reached-is r) (sym (c .before .is-empty .ensures) ∙ c .if1 .taken)
 
 -- The table -------------------------------------------------------------------------------------------------------------
 
@@ -72,7 +92,7 @@ drawable c =
     let a = start r .args in
     let e = sym (c .before .before .numbers .ensures) in (
       subst (λ (v : View). Drawable v (a .store .now) (a .screen .now)) e (shown r),
-      subst (λ (v : View). Within (v .at) (r .reach .result)) e (r .reach .ensures .window),
+      subst (λ (v : View). Within (v .at) (r .reach .result)) e (reached-is r .window),
     )
 
 -- what is drawn of the part under the rectangles `bs`
@@ -94,13 +114,17 @@ all c =
     let bs = rectsOf (c .gather .result) (c .gather .last .1 .1 .1 .0) in
     ap (λ (u : View). under c u bs) (c .before .before .numbers .ensures)
     ∙ ap (λ (rs : List Rect). on (map (relative (a .at)) rs)) (c .gather .ensures .same)
-    ∙ reach-drawn (shown r) (above r) (entries r) (r .before .bound .ensures) (r .reach .ensures)
+    ∙ reach-drawn (shown r) (above r) (entries r) (r .before .before .bound .ensures) (reached-is r)
 
 numbers-requires : tie.Need-numbers-requires
 numbers-requires c κs = search needs
 
 gather-requires : tie.Need-gather-requires
-gather-requires c κs = search needs
+gather-requires c κs =
+    let n = c .before in
+    let r = n .before .before .before in
+    let p = start r .pre .1 .0 in
+    (part-fits (asked r) (r .reach .result) _ _ (shown r) (reached-is r .window), p .0, p .1, search needs)
 
 draw-part-requires : tie.Need-draw-part-requires
 draw-part-requires c κs =
@@ -140,6 +164,7 @@ draw-spec =
     tie.close
     (tie.spec
     bound-requires
+    new-requires
     reach-requires
     is-empty-requires
     returns
