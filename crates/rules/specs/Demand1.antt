@@ -6,10 +6,10 @@ use Prim.Native.Nat.{ℕ, _*_}
 use mathlib.Core.Path.{_≡_}
 use mathlib.Core.Logic.{_≢_, _⊎_}
 use mathlib.Core.Bool.{Bool, true, false, cond, not, _&&_, _||_}
-use mathlib.Core.List.{List, [], _∷_, map}
+use mathlib.Core.List.{List, [], _∷_, _++_, map}
 use mathlib.Core.Option.{Option, none, some}
 use lib.Dec.{leb, ltb, eqb}
-use lib.ListN.{length}
+use lib.ListN.{length, replicate}
 use Rattle.geom.specs.declared.Rect.{Rect}
 use Rattle.geom.specs.Questions.{Question, _is_, asked, small}
 use Rattle.geom.specs.Geom.{rect, smallRect, isEmpty}
@@ -30,7 +30,7 @@ use Rattle.sheet.specs.Reader.{IsSheet, Reads}
 use Rattle.window.specs.declared.Event.{Event}
 use Rattle.window.specs.declared.Event.the-variants as Event
 use Rattle.window.specs.Window.{Win}
-use Rattle.rules.specs.Group.{Group, Outcome, someWin, used, win, allowedC, fresh, start}
+use Rattle.rules.specs.Group.{Group, Outcome, someWin, used, win, idOr, allowedC, fresh, start}
 use Rattle.rules.specs.Order.{shown}
 use Rattle.rules.specs.Visible.{visible, visibleList}
 use Rattle.rules.specs.Events.{room, topmost}
@@ -45,6 +45,10 @@ use Rattle.rules.specs.Sheets.{region, sheet}
 use Rattle.rules.specs.Hits.{allSmall, fit, hits}
 use Rattle.rules.specs.Look.{look}
 use Rattle.rules.specs.DisplayAt.{displayAt}
+use Rattle.rules.specs.Stale.{canBeMeant, stale}
+use Rattle.rules.specs.Waiting.{waiting}
+use Rattle.rules.specs.State as Standing
+use Rattle.rules.specs.State.{windowState, sessionState}
 
 -- Tests that no rule has in these words -----------------------------------------------------------------------------
 
@@ -177,6 +181,10 @@ pub data Query : Type 0 where
   GetDisplayForPos : ℕ → ℕ → Query
   RectOf : ℕ → Query
   Focus : Query
+  Stale : ℕ → Rect → Query
+  Waiting : Query
+  Window : ℕ → Query
+  Session : Query
 
 --   9             "9: does the lent list hold 4 numbers for each visible rectangle? (its rest is untouched)"
 --   19            "19 when the writer's buffer is shorter than the sheet, asked after 3"
@@ -187,6 +195,8 @@ pub data Query : Type 0 where
 --   `hasShare`    "24 when the window is hidden or has no pixels, asked after 3."
 --   `fit`         "25 when there are more than 32 points, an x without its y, or an answer list shorter than three
 --                 numbers a point, asked after 5."
+--   28            "28 when which call is above 2, asked after 5."
+--   `canBeMeant`  "20 when the next portion is meant and there is no walk, asked after 28."
 unfoldable pub queryQuestions : Group → Query → List Question
 queryQuestions g (Visible id list) = (3 is inUse g id) ∷ (9 is leb (4 * length (visible g id)) (length list)) ∷ []
 queryQuestions g (Share id) = (3 is inUse g id) ∷ (24 is hasShare g id) ∷ []
@@ -197,6 +207,10 @@ queryQuestions g (Look id l s target tw th) =
 queryQuestions g (GetDisplayForPos px py) = (5 is (small px && small py)) ∷ []
 queryQuestions g (RectOf id) = (3 is inUse g id) ∷ []
 queryQuestions g Focus = []
+queryQuestions g (Stale which area) = (5 is smallRect area) ∷ (28 is leb which 2) ∷ (20 is canBeMeant g which) ∷ []
+queryQuestions g Waiting = []
+queryQuestions g (Window id) = (3 is inUse g id) ∷ []
+queryQuestions g Session = []
 
 -- what a call hands back: its answer, the list, buffer or target that it was lent to write as it is then (empty if
 -- none was lent), and the other values as numbers
@@ -217,6 +231,22 @@ abbrev pub locatedNumbers : Places.Located → List ℕ
 locatedNumbers (Places.on d) = 1 ∷ numbers (d ∷ [])
 locatedNumbers (Places.closest d) = 0 ∷ numbers (d ∷ [])
 
+-- whether there is a rectangle, and the rectangle, (0,0,0,0) if there is none
+abbrev pub staleNumbers : Option Rect → List ℕ
+staleNumbers none = 0 ∷ numbers (rect 0 0 0 0 ∷ [])
+staleNumbers (some r) = 1 ∷ numbers (r ∷ [])
+
+abbrev pub windowNumbers : Standing.WindowState → List ℕ
+windowNumbers w =
+    numbers (w .at ∷ [])
+    ++ (bit (w .shown) ∷ w .place ∷ w .layer ∷ bit (w .maximised) ∷ bit (w .marked) ∷ w .queued ∷ bit (w .moved) ∷ [])
+
+-- nobody is 16
+abbrev pub sessionNumbers : Standing.SessionState → List ℕ
+sessionNumbers t =
+    t .c ∷ t .shown ∷ idOr 16 (t .focus) ∷ idOr 16 (t .grab) ∷ bit (t .dimmed) ∷ bit (t .owed) ∷ bit (t .walk) ∷ bit (t .full)
+    ∷ t .left ∷ t .displays ∷ []
+
 -- by the rules
 unfoldable pub replies : Group → Query → Reply
 replies g (Visible id list) = let o = visibleList g id list in reply (o .answer) (o .list) (o .count ∷ [])
@@ -227,6 +257,10 @@ replies g (Look id l s target tw th) = let o = look g id l s target tw th in rep
 replies g (GetDisplayForPos px py) = let o = displayAt g px py in reply (o .answer) [] (locatedNumbers (o .located))
 replies g (RectOf id) = reply (asked ((3 is used g id) ∷ [])) [] (numbers (cond (used g id) (win g id .at) (rect 0 0 0 0) ∷ []))
 replies g Focus = reply 0 [] (g .focus ∷ [])
+replies g (Stale which area) = let o = stale g which area in reply (o .answer) [] (staleNumbers (o .rect))
+replies g Waiting = reply 0 [] (waiting g ∷ [])
+replies g (Window id) = let o = windowState g id in reply (o .answer) [] (windowNumbers o)
+replies g Session = reply 0 [] (sessionNumbers (sessionState g))
 
 -- what a refused one hands back: what it was lent as it was, and "any other number handed back 0"
 unfoldable pub refusal : Query → ℕ → Reply
@@ -238,6 +272,10 @@ refusal (Look id l s target tw th) a = reply a target []
 refusal (GetDisplayForPos px py) a = reply a [] (0 ∷ 0 ∷ 0 ∷ 0 ∷ 0 ∷ [])
 refusal (RectOf id) a = reply a [] (0 ∷ 0 ∷ 0 ∷ 0 ∷ [])
 refusal Focus a = reply a [] (0 ∷ [])
+refusal (Stale which area) a = reply a [] (0 ∷ 0 ∷ 0 ∷ 0 ∷ 0 ∷ [])
+refusal Waiting a = reply a [] (0 ∷ [])
+refusal (Window id) a = reply a [] (replicate 11 0)
+refusal Session a = reply a [] (replicate 10 0)
 
 pub record Replies (g : Group) (q : Query) : Type 0 where
   pub answer : replies g q .answer ≡ asked (queryQuestions g q)

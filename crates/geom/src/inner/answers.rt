@@ -54,3 +54,5 @@ pub const POINTS: u32 = 25;
 pub const RUN_LENGTH: u32 = 26;
 // No time is below the one before it
 pub const TIMES_DESCEND: u32 = 27;
+// The call that is meant is 0, 1 or 2
+pub const WHICH_CALL: u32 = 28;

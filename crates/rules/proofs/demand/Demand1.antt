@@ -40,8 +40,10 @@ use Rattle.rules.specs.Sheets as Sheets
 use Rattle.rules.specs.Hits as Points
 use Rattle.rules.specs.Look as Looks
 use Rattle.rules.specs.DisplayAt as DisplayAt
+use Rattle.rules.specs.Stale as Stales
+use Rattle.rules.specs.State as State
 use Rattle.rules.specs.Calls.{Call, Create, Show, Hide, Drop, Mark, Pop, Move, Resize, Fill, Blit, Route, Redraw, Begin, Portion, Dim, SetLayer, AddDisplay, Maximise, UpdateDims, Raise, Drag, does, accepted, after}
-use Rattle.rules.specs.Demand1.{questions, Unchanged, Answers, Query, Visible, Share, Sheet, Hits, Look, GetDisplayForPos, RectOf, Focus, queryQuestions, replies, reply, refusal, Replies, Bare, Contains, Within, ContainsRect, Union, Intersect, NotIntersect, ScanlineRange, Scanline, FillScanline, SetScanline, Region, Busiest, lineLies, bareQuestions, bareReplies, bareRefusal, BareReplies, Started, ReadsSheet, Demand1}
+use Rattle.rules.specs.Demand1.{questions, Unchanged, Answers, Query, Visible, Share, Sheet, Hits, Look, GetDisplayForPos, RectOf, Focus, Stale, Waiting, Window, Session, windowNumbers, queryQuestions, replies, reply, refusal, Replies, Bare, Contains, Within, ContainsRect, Union, Intersect, NotIntersect, ScanlineRange, Scanline, FillScanline, SetScanline, Region, Busiest, lineLies, bareQuestions, bareReplies, bareRefusal, BareReplies, Started, ReadsSheet, Demand1}
 use Rattle.rules.proofs.group.Invariant.{Ok}
 use Rattle.rules.proofs.group.Kept.{ok-after}
 use Rattle.rules.proofs.group.Refused.{refused-group, refused-store, refused-lent, refused-nothing}
@@ -92,8 +94,19 @@ calls-answer g ok k =
 
 -- Calls that change nothing -----------------------------------------------------------------------------------------
 
+-- how a window stands
+window-answers : (g : Group) (id : ℕ) → State.windowState g id .answer ≡ asked ((3 is used g id) ∷ [])
+unfolding State.windowState
+window-answers g id = on-cond (λ (w : State.WindowState). w .answer ≡ asked ((3 is used g id) ∷ [])) (used g id) _ _ (λ e. rw e) (λ e. refl)
+
+window-refused : (g : Group) (id : ℕ) → eqb (State.windowState g id .answer) 0 ≡ false
+    → State.windowState g id ≡ State.noWindow (State.windowState g id .answer)
+unfolding State.windowState
+window-refused g id =
+    on-cond (λ (w : State.WindowState). eqb (w .answer) 0 ≡ false → w ≡ State.noWindow (w .answer)) (used g id) _ _ (λ e no. clash refl no) (λ e no. refl)
+
 query-answers : (g : Group) → Ok g → (q : Query) → replies g q .answer ≡ asked (queryQuestions g q)
-unfolding replies queryQuestions Visibles.visibleList Shares.share Sheets.sheet Points.hits Looks.look DisplayAt.displayAt
+unfolding replies queryQuestions Visibles.visibleList Shares.share Sheets.sheet Points.hits Looks.look DisplayAt.displayAt Stales.stale
 query-answers g ok (Visible id list) = rw (in-use g ok id)
 query-answers g ok (Share id) = rw (in-use g ok id)
 query-answers g ok (Sheet id bytes) = rw (in-use g ok id)
@@ -102,9 +115,13 @@ query-answers g ok (Look id l s target tw th) = rw (in-use g ok id)
 query-answers g ok (GetDisplayForPos px py) = refl
 query-answers g ok (RectOf id) = rw (in-use g ok id)
 query-answers g ok Focus = refl
+query-answers g ok (Stale which area) = refl
+query-answers g ok Waiting = refl
+query-answers g ok (Window id) = window-answers g id ∙ rw (in-use g ok id)
+query-answers g ok Session = refl
 
 query-refused : (g : Group) (q : Query) → eqb (replies g q .answer) 0 ≡ false → replies g q ≡ refusal q (replies g q .answer)
-unfolding replies refusal Visibles.visibleList Shares.share Sheets.sheet Points.hits Looks.look DisplayAt.displayAt
+unfolding replies refusal Visibles.visibleList Shares.share Sheets.sheet Points.hits Looks.look DisplayAt.displayAt Stales.stale
 query-refused g (Visible id list) n = rw n
 query-refused g (Share id) n = rw n
 query-refused g (Sheet id bytes) n = rw n
@@ -113,6 +130,10 @@ query-refused g (Look id l s target tw th) n = rw n
 query-refused g (GetDisplayForPos px py) n = rw n
 query-refused g (RectOf id) n = rw (sym (asked₁ 2 (used g id)) ∙ n)
 query-refused g Focus n = clash refl n
+query-refused g (Stale which area) n = rw n
+query-refused g Waiting n = clash refl n
+query-refused g (Window id) n = ap (λ (w : State.WindowState). reply (w .answer) [] (windowNumbers w)) (window-refused g id n)
+query-refused g Session n = clash refl n
 
 queries-answer : (g : Group) → Ok g → (q : Query) → Replies g q
 queries-answer g ok q = record { answer = query-answers g ok q; refused = λ ne. query-refused g q (ne-eqb _ 0 ne) }
