@@ -1,6 +1,9 @@
--- Demand 3 and demand 1 of the program, two panels of it in either order, and panels that stay on top.
+-- Demand 3 and demand 1 of the program, two panels of it in either order, panels that stay on top, what is stale and
+-- what waits.
 pub mod Runs
 pub mod Program
 pub mod Demand1
 pub mod Panels
 pub mod Layers
+pub mod Stale
+pub mod Waiting

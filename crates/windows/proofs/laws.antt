@@ -32,8 +32,12 @@ pub mod Full
 pub mod Cleaned
 pub mod Drawn
 pub mod Portions
+pub mod Course
+pub mod Stale
 pub mod Parts
 pub mod Popping
+pub mod Waiting
+pub mod State
 pub mod Telling
 pub mod Routing
 pub mod Aimed

@@ -8,6 +8,7 @@ use mathlib.Core.List.{List, [], _∷_, _++_}
 use mathlib.Core.Option.{some}
 use Rattle.geom.specs.Questions.{_is_, asked}
 use Rattle.geom.specs.Lists.{numbers}
+use Rattle.geom.specs.declared.Rect.{Rect}
 use Rattle.geom.specs.declared.Listing.{Listing}
 use Rattle.window.specs.declared.ids.WinId.{WinId}
 use Rattle.look.specs.declared.Look as View
@@ -15,8 +16,11 @@ use Rattle.rules.specs.Group.{Group, allowedC, fresh}
 use Rattle.rules.specs.Calls.{Call, Mark, Made, after}
 use Rattle.rules.specs.Panels.{Write, callOf}
 use Rattle.rules.specs.Conditions.{lentStore, lentScreen}
+use Rattle.rules.specs.Stale.{stale}
+use Rattle.rules.specs.Waiting.{waiting}
+use Rattle.rules.specs.State.{windowState, sessionState}
 use Rattle.rules.specs.Demand1 as Rule
-use Rattle.rules.specs.Demand1.{questions, Query, queryQuestions, Reply, reply, refusal, locatedNumbers}
+use Rattle.rules.specs.Demand1.{questions, Query, queryQuestions, Reply, reply, refusal, bit, locatedNumbers}
 use Rattle.display.specs.Represents.{locatedOf}
 use Rattle.windows.specs.declared.Session.{Session}
 use Rattle.windows.specs.declared.Done.{Done}
@@ -29,7 +33,10 @@ use Rattle.windows.specs.declared.Placed.{Placed}
 use Rattle.geom.specs.declared.Listing.{Listing}
 use Rattle.windows.specs.declared.InView.{InView}
 use Rattle.windows.specs.declared.ForPos.{ForPos}
-use Rattle.windows.specs.View.{group, Meets, MeetsStore, MeetsAltered, MeetsMark, MeetsScreen, MeetsId, MeetsEvent, Starts, Lists, Shares, Prints, Hits, Looks, Locates, placed}
+use Rattle.windows.specs.declared.Stale.{Stale}
+use Rattle.windows.specs.declared.WindowState.{WindowState}
+use Rattle.windows.specs.declared.SessionState.{SessionState}
+use Rattle.windows.specs.View.{group, Meets, MeetsStore, MeetsAltered, MeetsMark, MeetsScreen, MeetsId, MeetsEvent, Starts, Lists, Shares, Prints, Hits, Looks, Locates, placed, staleOf, windowOf, stateOf}
 use Rattle.windows.specs.Run.{calls, Run}
 
 -- The calls that were made ------------------------------------------------------------------------------------------
@@ -57,6 +64,16 @@ pub record Answered (s : Session) (k : Call) (a : ℕ) (t : Session) : Type 0 wh
 pub record Replied (s : Session) (q : Query) (r : Reply) : Type 0 where
   pub answer : r .answer ≡ asked (queryQuestions (group s) q)
   pub refused : r .answer ≢ 0 → r ≡ refusal q (r .answer)
+
+-- how a window stands and how the session does, as numbers
+abbrev pub windowNumbers : WindowState → List ℕ
+windowNumbers w =
+    numbers (w .rect ∷ [])
+    ++ (bit (w .shown) ∷ w .place ∷ w .layer ∷ bit (w .maximised) ∷ bit (w .marked) ∷ w .queued ∷ bit (w .moved) ∷ [])
+
+abbrev pub sessionNumbers : SessionState → List ℕ
+sessionNumbers t =
+    t .c ∷ t .shown ∷ t .focus .0 ∷ t .grab .0 ∷ bit (t .dimmed) ∷ bit (t .owed) ∷ bit (t .walk) ∷ bit (t .full) ∷ t .left ∷ t .displays ∷ []
 
 -- of session s, for each contract that a call may have: r is what the call hands back, `lent` the store, screen, list,
 -- buffer or target that it was lent, and `left` the same after it
@@ -91,6 +108,12 @@ pub record NextCall (s : Session) : Type 0 where
   pub rect : (id : ℕ) (r : Placed) → r ≡ placed (group s) id
       → Replied s (Rule.RectOf id) (reply (r .answer) [] (numbers (r .rect ∷ [])))
   pub focus : (f : WinId) → f .0 ≡ group s .focus → Replied s Rule.Focus (reply 0 [] (f .0 ∷ []))
+  pub stale : (which : ℕ) (area : Rect) (r : Stale) → r ≡ staleOf (stale (group s) which area)
+      → Replied s (Rule.Stale which area) (reply (r .answer) [] (bit (r .due) ∷ numbers (r .rect ∷ [])))
+  pub waiting : (n : ℕ) → n ≡ waiting (group s) → Replied s Rule.Waiting (reply 0 [] (n ∷ []))
+  pub window : (id : ℕ) (r : WindowState) → r ≡ windowOf (windowState (group s) id)
+      → Replied s (Rule.Window id) (reply (r .answer) [] (windowNumbers r))
+  pub session : (r : SessionState) → r ≡ stateOf (sessionState (group s)) → Replied s Rule.Session (reply 0 [] (sessionNumbers r))
 
 -- a start: "On a no the session handed over is a fresh one with C = 1."
 pub record StartAnswered (c : ℕ) (r : Done) : Type 0 where

@@ -1,6 +1,6 @@
 -- How a session holds a group, which sessions there are, and what a call promises of its answer.
 use Prim.Native.Nat.{ℕ, _≤_, _<_}
-use mathlib.Core.Bool.{false, cond}
+use mathlib.Core.Bool.{Bool, true, false, cond}
 use mathlib.Core.Path.{_≡_}
 use mathlib.Core.List.{List, [], _∷_, map}
 use mathlib.Core.Option.{Option, none, some}
@@ -13,14 +13,17 @@ use Rattle.geom.specs.declared.Listing.{Listing}
 use Rattle.look.specs.declared.Look.{Look}
 use Rattle.window.specs.declared.Window.{Window}
 use Rattle.window.specs.declared.Event.{Event}
+use Rattle.window.specs.declared.ids.WinId.{WinId}
 use Rattle.window.specs.Window.{Win}
 use Rattle.window.specs.Represents.{winOf, RepWindow, withEntries}
-use Rattle.rules.specs.Group.{Group, start, used, win, withMark}
+use Rattle.rules.specs.Group.{Group, start, used, win, idOr, withMark}
 use Rattle.rules.specs.Group as Rule
 use Rattle.rules.specs.Share.{share}
 use Rattle.rules.specs.Hits.{hits}
 use Rattle.rules.specs.Look.{look}
 use Rattle.rules.specs.DisplayAt.{displayAt}
+use Rattle.rules.specs.Stale.{StaleRect}
+use Rattle.rules.specs.State as Standing
 use Rattle.rules.specs.Visible.{visibleList}
 use Rattle.rules.specs.Sheets.{sheet}
 use Rattle.rules.specs.Store.{dirtied, bounds}
@@ -42,6 +45,9 @@ use Rattle.windows.specs.declared.Placed.{Placed}
 use Rattle.geom.specs.declared.Listing.{Listing}
 use Rattle.windows.specs.declared.InView.{InView}
 use Rattle.windows.specs.declared.ForPos.{ForPos}
+use Rattle.windows.specs.declared.Stale.{Stale}
+use Rattle.windows.specs.declared.WindowState.{WindowState}
+use Rattle.windows.specs.declared.SessionState.{SessionState}
 
 -- The view --------------------------------------------------------------------------------------------------------------
 
@@ -238,3 +244,49 @@ pub record Locates (g : Group) (px py : ℕ) (r : ForPos) : Type 0 where
 -- position and size of a window: question 3, "any other number handed back 0"
 abbrev pub placed : Group → ℕ → Placed
 placed g id = record { answer = asked ((3 is used g id) ∷ []); rect = cond (used g id) (win g id .at) (rect 0 0 0 0) }
+
+-- What is stale, as the rule gives it: whether there is a rectangle, and the rectangle, (0,0,0,0) where there is none
+abbrev pub isDue : Option Rect → Bool
+isDue none = false
+isDue (some r) = true
+
+abbrev pub rectIn : Option Rect → Rect
+rectIn none = rect 0 0 0 0
+rectIn (some r) = r
+
+abbrev pub staleOf : StaleRect → Stale
+staleOf o = record { answer = o .answer; due = isDue (o .rect); rect = rectIn (o .rect) }
+
+-- an id that may be absent: "Nobody is 16."
+abbrev pub someone : Option ℕ → WinId
+someone o = record { 0 = idOr 16 o }
+
+-- how a window stands, as the rule gives it, and how the session does
+abbrev pub windowOf : Standing.WindowState → WindowState
+windowOf w =
+    record {
+      answer = w .answer;
+      rect = w .at;
+      shown = w .shown;
+      place = w .place;
+      layer = w .layer;
+      maximised = w .maximised;
+      marked = w .marked;
+      queued = w .queued;
+      moved = w .moved;
+    }
+
+abbrev pub stateOf : Standing.SessionState → SessionState
+stateOf t =
+    record {
+      c = t .c;
+      shown = t .shown;
+      focus = someone (t .focus);
+      grab = someone (t .grab);
+      dimmed = t .dimmed;
+      owed = t .owed;
+      walk = t .walk;
+      full = t .full;
+      left = t .left;
+      displays = t .displays;
+    }

@@ -9,3 +9,5 @@ pub mod Maximise
 pub mod Drag
 pub mod Events
 pub mod Aimed
+pub mod Stale
+pub mod State

@@ -26,8 +26,11 @@ pub mod inner;
 mod looks;
 mod share;
 mod sheets;
+mod stale_rect;
 mod start;
+mod state;
 mod visible_list;
+mod waiting;
 
 // What the windows share: the render order, which holds the shown ones in its first `shown` places, lowest first; C; the
 // focus; whether dimming is on; `grab`, the window that took the last MouseDown, while it is remembered, else `NOBODY`;
@@ -141,4 +144,44 @@ pub struct ForPos {
 pub struct Placed {
     pub answer: u32,
     pub rect: Rect,
+}
+
+// Where a call would write: the smallest rectangle, if one is due, else (0,0,0,0).
+#[repr(C)]
+pub struct Stale {
+    pub answer: u32,
+    pub due: bool,
+    pub rect: Rect,
+}
+
+// How a window stands: where it lies, whether it is shown and at which place of the render order, its layer, whether it
+// is maximised and marked, how many events are queued, and whether a move is unread. All are 0 where the answer is 3.
+#[repr(C)]
+pub struct WindowState {
+    pub answer: u32,
+    pub rect: Rect,
+    pub shown: bool,
+    pub place: u32,
+    pub layer: u32,
+    pub maximised: bool,
+    pub marked: bool,
+    pub queued: u32,
+    pub moved: bool,
+}
+
+// How a session stands: C, how many windows are shown, the focus and the window that took the last MouseDown, each
+// `NOBODY` where there is none, whether dimming is on, whether a full redraw is owed, whether a walk is on, whether it
+// is full and how many portions are left of it, and how many displays there are.
+#[repr(C)]
+pub struct SessionState {
+    pub c: u32,
+    pub shown: u32,
+    pub focus: WinId,
+    pub grab: WinId,
+    pub dimmed: bool,
+    pub owed: bool,
+    pub walk: bool,
+    pub full: bool,
+    pub left: u32,
+    pub displays: u32,
 }

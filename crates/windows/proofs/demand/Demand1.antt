@@ -5,12 +5,14 @@ use mathlib.Core.Logic.{_≢_}
 use mathlib.Core.List.{List, [], _∷_, _++_}
 use mathlib.Core.Option.{Option, none, some, Option·none-ne-some}
 use Rattle.geom.specs.Lists.{numbers}
+use Rattle.geom.specs.declared.Rect.{Rect}
 use Rattle.rules.specs.Group.{Group, start}
 use Rattle.rules.specs.Calls.{Call, Mark, Made, does, after}
 use Rattle.rules.specs.Panels.{callOf}
 use Rattle.rules.specs.Conditions.{lentStore, lentScreen}
+use Rattle.rules.specs.Stale.{stale}
 use Rattle.rules.specs.Demand1 as Rule
-use Rattle.rules.specs.Demand1.{Unchanged, Answers, Query, Reply, reply, replies, Replies, locatedNumbers}
+use Rattle.rules.specs.Demand1.{Unchanged, Answers, Query, Reply, reply, replies, Replies, bit, locatedNumbers, staleNumbers}
 use Rattle.rules.proofs.demand.Demand1.{demand-1}
 use Rattle.windows.specs.declared.Session.{Session}
 use Rattle.windows.specs.declared.Done.{Done}
@@ -19,9 +21,12 @@ use Rattle.windows.specs.declared.NewId.the-variants as NewId
 use Rattle.windows.specs.declared.NextEvent.{NextEvent}
 use Rattle.windows.specs.declared.NextEvent.the-variants as NextEvent
 use Rattle.windows.specs.declared.Placed.{Placed}
-use Rattle.windows.specs.View.{group, Meets, idOf, eventIn}
+use Rattle.windows.specs.declared.Stale.{Stale}
+use Rattle.windows.specs.declared.WindowState.{WindowState}
+use Rattle.windows.specs.declared.SessionState.{SessionState}
+use Rattle.windows.specs.View.{group, Meets, idOf, eventIn, isDue, rectIn}
 use Rattle.windows.specs.Run.{calls, LeftAs, Run, AsRuled}
-use Rattle.windows.specs.Demand1.{WasAnswered, RunAnswered, Answered, Replied, NextCall, ProgramDemand1}
+use Rattle.windows.specs.Demand1.{WasAnswered, RunAnswered, Answered, Replied, windowNumbers, sessionNumbers, NextCall, ProgramDemand1}
 use Rattle.windows.proofs.demand.Runs.{ruled-from, reached, ruled}
 
 -- The calls that were made ------------------------------------------------------------------------------------------
@@ -50,6 +55,10 @@ no-id NewId.Absent e = refl
 no-event : (n : NextEvent) → eventIn n ≡ none → n ≡ NextEvent.Absent
 no-event (NextEvent.Event v) e = absurd (Option·none-ne-some v (sym e))
 no-event NextEvent.Absent e = refl
+
+stale-numbers : (o : Option Rect) → bit (isDue o) ∷ numbers (rectIn o ∷ []) ≡ staleNumbers o
+stale-numbers none = refl
+stale-numbers (some r) = refl
 
 module _ (s : Session) (rules : (k : Call) → Answers (group s) k) (queries : (q : Query) → Replies (group s) q) where
   answered : (k : Call) (r : Done) → Meets k s r → Answered s k (r .answer) (r .session)
@@ -84,6 +93,12 @@ module _ (s : Session) (rules : (k : Call) → Answers (group s) k) (queries : (
             replied (Rule.Look id l store lent tw th) _ (λ i. reply (h .answer i) (h .target i) []);
         display = λ px py r h. replied (Rule.GetDisplayForPos px py) _ (λ i. reply (h .answer i) [] (locatedNumbers (h .located i)));
         rect = λ id r e. replied (Rule.RectOf id) _ (ap (λ (p : Placed). reply (p .answer) [] (numbers (p .rect ∷ []))) e);
+        stale = λ which area r e.
+            replied (Rule.Stale which area) _
+            (ap (λ (t : Stale). reply (t .answer) [] (bit (t .due) ∷ numbers (t .rect ∷ []))) e ∙ ap (reply (stale (group s) which area .answer) []) (stale-numbers (stale (group s) which area .rect)));
+        waiting = λ n e. replied Rule.Waiting _ (ap (λ (n : ℕ). reply 0 [] (n ∷ [])) e);
+        window = λ id r e. replied (Rule.Window id) _ (ap (λ (w : WindowState). reply (w .answer) [] (windowNumbers w)) e);
+        session = λ r e. replied Rule.Session _ (ap (λ (t : SessionState). reply 0 [] (sessionNumbers t)) e);
         focus = λ f e. replied Rule.Focus _ (ap (λ (n : ℕ). reply 0 [] (n ∷ [])) e);
       }
 

@@ -89,7 +89,7 @@ module _ (s : Session) (h : Given s) (i : ℕ) (l : i < s .shared .shown) (v : W
     count = held .count ∙ length-map (group s .order) (λ j. win (group s) j .at) ∙ order-length s h
 
     -- the numbers that the code lends, of the array's 64
-    abbrev rest : List ℕ
+    abbrev pub rest : List ℕ
     rest = take (64 - 4 * (i + 1)) (drop (4 * (i + 1)) (all .numbers))
 
     rest-is : behind i (all .numbers) ≡ rest
@@ -100,7 +100,7 @@ module _ (s : Session) (h : Given s) (i : ℕ) (l : i < s .shared .shown) (v : W
         subst (Lent (s .shared .shown - i - 1)) rest-is
         (rest-lent (s .shared .shown) (all .numbers) i l (subst (λ (n : ℕ). Lent n (all .numbers)) count (lends all (higher s 0) held)))
 
-    lent-above : rectsOf (s .shared .shown - i - 1) rest ≡ higher s (suc i)
+    pub lent-above : rectsOf (s .shared .shown - i - 1) rest ≡ higher s (suc i)
     lent-above =
         let n : i + 1 ≡ suc i = omega arith in
         ap (rectsOf (s .shared .shown - i - 1)) (sym rest-is)

@@ -16,17 +16,22 @@ use Rattle.geom.proofs.geometry.Pieces.{left-within}
 use Rattle.window.specs.declared.Window.{Window}
 use Rattle.window.specs.Represents.{rects}
 use Rattle.rules.specs.Redraw.{none?, drawRegion, drawRegions}
-use Rattle.rules.specs.inner.Lent.{AllFit}
+use Rattle.rules.specs.inner.Lent.{AllFit, Lent}
 use Rattle.visible.specs.declared.region.View.{View}
 use Rattle.visible.specs.inner.Seen.{drawn}
 use Rattle.visible.proofs.laws.Regions.{drawn-append}
 use Rattle.windows.specs.inner.Drawing.{painted}
 use Rattle.order.specs.inner.Rects.{fullRect, dirtyOf}
 
+-- the full rectangle as numbers
+pub lends-full : Lent 1 (0 ∷ 0 ∷ 4294967295 ∷ 4294967295 ∷ [])
+unfolding AllFit
+lends-full = record { room = omega arith; fit = (omega arith, tt) }
+
 -- One region ---------------------------------------------------------------------------------------------------------
 
 module _ (r : Rect) (f : Fits r) where
-  cut-whole : common r fullRect ≡ r
+  pub cut-whole : common r fullRect ≡ r
   unfolding common
   cut-whole = λ j. rect (x j) (y j) (w j) (h j)
     where
@@ -70,7 +75,7 @@ full-drawn v store (r ∷ vs) screen h =
     ∙ ap (drawn v store (listIntersect vs (fullRect ∷ []))) (region-whole r (h .0) v store screen)
     ∙ full-drawn v store vs _ (h .1)
 
-parts-fit : (at : Rect) (rs : List Rect) → Small at → All (Within at) rs → AllFit (map (relative at) rs)
+pub parts-fit : (at : Rect) (rs : List Rect) → Small at → All (Within at) rs → AllFit (map (relative at) rs)
 unfolding AllFit
 parts-fit at [] s h = tt
 parts-fit at (r ∷ rs) s h = (let w = h .0 in omega arith, parts-fit at rs s (h .1))

@@ -28,7 +28,7 @@ use Rattle.order.proofs.laws.Order.{ids-length, ids-at, is-in-at, is-at, is-now
 -- Orders of ids ------------------------------------------------------------------------------------------------------
 
 -- an id that stands once has the place where it stands
-place-at : (o : List ℕ) (i : ℕ) → Distinct o → i < length o → placeOf (getD o i 0) o ≡ i
+pub place-at : (o : List ℕ) (i : ℕ) → Distinct o → i < length o → placeOf (getD o i 0) o ≡ i
 place-at [] i d h = absurd (not-suc-le-zero h)
 place-at (x ∷ o) zero d h = rw (eq-eqb x x refl)
 place-at (x ∷ o) (suc i) d h =

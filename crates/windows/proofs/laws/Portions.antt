@@ -67,7 +67,7 @@ module _ (s : Session) (h : Given s) (on : s .shared .due .walk .on ≡ true) wh
   abbrev full : Bool
   full = s .shared .due .walk .full
 
-  walk-is : group s .walk ≡ some (record { done = p; full = full })
+  pub walk-is : group s .walk ≡ some (record { done = p; full = full })
   unfolding group
   walk-is = is-on (s .shared .due .walk) on
 
