@@ -4,4 +4,5 @@ pub mod Events
 pub mod Looks
 pub mod Parts
 pub mod Rects
+pub mod Version
 pub mod inner

@@ -7,8 +7,11 @@
 ghost use mathlib.Core.Path.{_≡_};
 ghost use Rattle.rules.specs.Calls.{Call};
 ghost use Rattle.rules.specs.Panels.{Write};
-ghost use Rattle.windows.specs.View.{group, done, written, Given, Meets, MeetsStore, MeetsAltered, MeetsMark, MeetsScreen, Starts, Lists, Prints, Shares, Hits, Looks, placed};
+ghost use Rattle.windows.specs.View.{group, done, written, Given, Meets, MeetsStore, MeetsAltered, MeetsMark, MeetsScreen, Starts, Lists, Prints, Shares, Hits, Looks, placed, staleOf, windowOf, stateOf};
 ghost use Rattle.rules.specs.DisplayAt.{displayAt};
+ghost use Rattle.rules.specs.Stale.{stale};
+ghost use Rattle.rules.specs.Waiting.{waiting};
+ghost use Rattle.rules.specs.State.{windowState, sessionState};
 ghost use Rattle.roqshyn.specs.Answers.{Creates, Pops, displayed};
 ghost use Rattle.roqshyn.specs.Events.{eventOf, Routes};
 ghost use Rattle.roqshyn.specs.Looks.{lookOf};
@@ -29,6 +32,9 @@ use window::queue::front;
 use windows::InView;
 use windows::Placed;
 use windows::Session;
+use windows::SessionState;
+use windows::Stale;
+use windows::WindowState;
 use windows::inner::dimming;
 use windows::inner::drag;
 use windows::inner::events::tell;
@@ -496,4 +502,36 @@ pub extern "C" fn roq_rect_of(s: &Session, id: WinId) -> Placed
     ensures { λ r. ⌜ r ≡ placed (group (now (s .entry))) (id .0) ⌝ }
 {
     (*s).rect_of(id)
+}
+
+#[no_mangle]
+pub extern "C" fn roq_stale(s: &Session, which: u32, area: Rect) -> Stale
+    requires { ⌜ Given (now s) ⌝ }
+    ensures { λ r. ⌜ r ≡ staleOf (stale (group (now (s .entry))) which area) ⌝ }
+{
+    (*s).stale(which, area)
+}
+
+#[no_mangle]
+pub extern "C" fn roq_waiting(s: &Session) -> u32
+    requires { ⌜ Given (now s) ⌝ }
+    ensures { λ r. ⌜ r ≡ waiting (group (now (s .entry))) ⌝ }
+{
+    (*s).waiting()
+}
+
+#[no_mangle]
+pub extern "C" fn roq_window(s: &Session, id: WinId) -> WindowState
+    requires { ⌜ Given (now s) ⌝ }
+    ensures { λ r. ⌜ r ≡ windowOf (windowState (group (now (s .entry))) (id .0)) ⌝ }
+{
+    (*s).window(id)
+}
+
+#[no_mangle]
+pub extern "C" fn roq_state(s: &Session) -> SessionState
+    requires { ⌜ Given (now s) ⌝ }
+    ensures { λ r. ⌜ r ≡ stateOf (sessionState (group (now (s .entry)))) ⌝ }
+{
+    (*s).state()
 }

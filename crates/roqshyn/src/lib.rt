@@ -11,3 +11,4 @@ mod redraw;
 mod sheets;
 mod times;
 mod values;
+mod version;

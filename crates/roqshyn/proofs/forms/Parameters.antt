@@ -41,6 +41,12 @@ use Rattle.windows.proofs.InView as InView
 use Rattle.windows.proofs.InView.Laws as InView′
 use Rattle.windows.proofs.Placed as Placed
 use Rattle.windows.proofs.Placed.Laws as Placed′
+use Rattle.windows.proofs.Stale as Stale
+use Rattle.windows.proofs.Stale.Laws as Stale′
+use Rattle.windows.proofs.WindowState as WindowState
+use Rattle.windows.proofs.WindowState.Laws as WindowState′
+use Rattle.windows.proofs.SessionState as SessionState
+use Rattle.windows.proofs.SessionState.Laws as SessionState′
 use Rattle.windows.proofs.inner.redraw.Drawn as Drawn
 use Rattle.windows.proofs.inner.redraw.Drawn.Laws as Drawn′
 use Rattle.windows.proofs.inner.portion.Next as Next
@@ -116,6 +122,15 @@ inView = ofStruct InView.the-type InView′.the-laws InView′.the-plain InView�
 
 abbrev pub placed : Plain
 placed = ofStruct Placed.the-type Placed′.the-laws Placed′.the-plain Placed′.mir refl
+
+abbrev pub staleRect : Plain
+staleRect = ofStruct Stale.the-type Stale′.the-laws Stale′.the-plain Stale′.mir refl
+
+abbrev pub windowStands : Plain
+windowStands = ofStruct WindowState.the-type WindowState′.the-laws WindowState′.the-plain WindowState′.mir refl
+
+abbrev pub sessionStands : Plain
+sessionStands = ofStruct SessionState.the-type SessionState′.the-laws SessionState′.the-plain SessionState′.mir refl
 
 abbrev pub drawn : Plain
 drawn = ofStruct Drawn.the-type Drawn′.the-laws Drawn′.the-plain Drawn′.mir refl
