@@ -34,7 +34,7 @@ pub fn write_rect(r: Rect, out: &mut [u8; 65536], at: usize) -> usize
 }
 
 // A line of 0 and a rectangle.
-fn found(r: Rect, out: &mut [u8; 65536], at: usize) -> usize
+pub fn found(r: Rect, out: &mut [u8; 65536], at: usize) -> usize
     requires { ⌜ at ≤ 65536 ⌝ }
     ensures { λ r. ⌜ r ≤ 65536 ⌝ }
 {
@@ -43,7 +43,8 @@ fn found(r: Rect, out: &mut [u8; 65536], at: usize) -> usize
     answer_text::end(out, then)
 }
 
-fn none(out: &mut [u8; 65536], at: usize) -> usize
+// A line of 0 where there is none.
+pub fn none(out: &mut [u8; 65536], at: usize) -> usize
     requires { ⌜ at ≤ 65536 ⌝ }
     ensures { λ r. ⌜ r ≤ 65536 ⌝ }
 {

@@ -134,6 +134,13 @@ pub data Plays (l : Line) (ns : List ℕ) (p : Player) (a : Pixels) (r : Player)
   -- "lent 2,048 bytes", or as many as `lend-sheet` said, which it uses up
   asks-sheet : l .kind ≡ Kind.sheet → Next (unsheeted p) (p .session) r → b ≡ a → Plays l ns p a r b
   lends-sheet : l .kind ≡ Kind.lend-sheet → num ns 0 ≤ 2048 → Next (lendSheet (num ns 0) p) (p .session) r → b ≡ a → Plays l ns p a r b
+  -- "what is stale"; "None of these lines uses up a pending lend."
+  asks-stale : l .kind ≡ Kind.stale → Next p (p .session) r → b ≡ a → Plays l ns p a r b
+  -- "what waits"
+  asks-waiting : l .kind ≡ Kind.waiting → Next p (p .session) r → b ≡ a → Plays l ns p a r b
+  -- "how a window stands", "how the session stands"
+  asks-window : l .kind ≡ Kind.window → Next p (p .session) r → b ≡ a → Plays l ns p a r b
+  asks-session : l .kind ≡ Kind.session → Next p (p .session) r → b ≡ a → Plays l ns p a r b
   -- "no call"; bare geometry and bare pixels
   shows : Kind.screen ≤ l .kind → l .kind ≤ Kind.region → Next p (p .session) r → b ≡ a → Plays l ns p a r b
 

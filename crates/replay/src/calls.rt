@@ -16,7 +16,10 @@ use crate::lend;
 use crate::player::Player;
 use crate::share;
 use crate::sheets;
+use crate::stale;
+use crate::state;
 use crate::times;
+use crate::waiting;
 use bare_lines::numbers;
 use script::Line;
 use script::kind;
@@ -70,6 +73,10 @@ pub fn call(p: Player, line: Line, ns: &[u32; 4200], out: &mut [u8; 65536]) -> P
         kind::DISPLAY_AT => displays::display_at(p, ns, out),
         kind::SHEET => sheets::sheet(p, ns, out),
         kind::LEND_SHEET => lend::lend_sheet(p, ns, out),
+        kind::STALE => stale::stale(p, ns, out),
+        kind::WAITING => waiting::waiting(p, out),
+        kind::WINDOW => state::window(p, ns, out),
+        kind::SESSION => state::session(p, out),
         _ => {
             let s = p.session;
             let done = plain(s, line, ns);

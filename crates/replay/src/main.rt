@@ -12,7 +12,10 @@ mod player;
 mod share;
 mod sheets;
 mod show;
+mod stale;
+mod state;
 mod times;
+mod waiting;
 
 // The arrays are made apart from where they are used: a function with no clause that does nothing else.
 fn store_pixels() -> [u32; 1048576] {

@@ -27,8 +27,12 @@ pub calls : ("start 4294967295" means call Kind.start (4294967295 ∷ []) [])
     × ("dim 0" means call Kind.dim (0 ∷ []) [])
     × ("layer 3 2" means call Kind.layer (3 ∷ 2 ∷ []) [])
     × ("read-sheet 4 255" means call Kind.read-sheet (4 ∷ 255 ∷ []) [])
+    × ("stale 3 0 0 8 4" means call Kind.stale (3 ∷ 0 ∷ 0 ∷ 8 ∷ 4 ∷ []) [])
+    × ("waiting" means call Kind.waiting [] [])
+    × ("window 16" means call Kind.window (16 ∷ []) [])
+    × ("session" means call Kind.session [] [])
 unfolding split words value number nameByte isName table kindOf counted ranged nameFits accepts withWord complete hears
-calls = (refl, refl, refl, refl, refl, refl, refl, refl, refl, refl, refl, refl, refl, refl, refl, refl)
+calls = (refl, refl, refl, refl, refl, refl, refl, refl, refl, refl, refl, refl, refl, refl, refl, refl, refl, refl, refl, refl)
 
 pub no-calls : ("" means silent)
     × ("# start 1" means silent)
@@ -44,11 +48,12 @@ pub no-calls : ("" means silent)
     × ("dim 2" means malformed)
     × ("layer 3" means malformed)
     × ("read-sheet 4 256" means malformed)
+    × ("stale 0 0 0 8" means malformed)
     × ("set-scanline 2 2 0 0 1 2 7" means malformed)
     × ("picture 8 4 .ppm" means malformed)
     × ("picture 8 4" means malformed)
 unfolding split words value number nameByte isName table kindOf counted ranged nameFits accepts withWord complete hears
-no-calls = (refl, refl, refl, refl, refl, refl, refl, refl, refl, refl, refl, refl, refl, refl, refl, refl, refl)
+no-calls = (refl, refl, refl, refl, refl, refl, refl, refl, refl, refl, refl, refl, refl, refl, refl, refl, refl, refl)
 
 -- the most numbers of a line
 pub most : (counted Kind.blit 4102 ≡ true)

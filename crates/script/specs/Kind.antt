@@ -181,6 +181,18 @@ raise = 58
 abbrev pub drag : ℕ
 drag = 59
 
+abbrev pub stale : ℕ
+stale = 60
+
+abbrev pub waiting : ℕ
+waiting = 61
+
+abbrev pub window : ℕ
+window = 62
+
+abbrev pub session : ℕ
+session = 63
+
 -- the last of them
 abbrev pub last : ℕ
-last = drag
+last = session

@@ -156,6 +156,10 @@ table =
     ∷ row "lend-sheet" Kind.lend-sheet 1
     ∷ row "raise" Kind.raise 1
     ∷ row "drag" Kind.drag 3
+    ∷ row "stale" Kind.stale 5
+    ∷ row "waiting" Kind.waiting 0
+    ∷ row "window" Kind.window 1
+    ∷ row "session" Kind.session 0
     ∷ []
 
 abbrev pub sameWord : List ℕ → List ℕ → Bool

@@ -126,8 +126,16 @@ pub const RAISE: u8 = 58;
 
 pub const DRAG: u8 = 59;
 
+pub const STALE: u8 = 60;
+
+pub const WAITING: u8 = 61;
+
+pub const WINDOW: u8 = 62;
+
+pub const SESSION: u8 = 63;
+
 // The last of them.
-pub const LAST: u8 = DRAG;
+pub const LAST: u8 = SESSION;
 
 const WORDS: usize = LAST as usize - 1;
 
@@ -195,6 +203,10 @@ pub const ROWS: [u8; WORDS * ROW] = *b"\
     \x0a\x01 lend-sheet      \
     \x05\x01 raise           \
     \x04\x03 drag            \
+    \x05\x05 stale           \
+    \x07\x00 waiting         \
+    \x06\x01 window          \
+    \x07\x00 session         \
     ";
 
 pub fn wide(b: u8) -> usize

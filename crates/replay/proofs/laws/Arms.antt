@@ -94,7 +94,7 @@ not-lent k o v q d t w s m =
 -- the kinds that a function of their own plays, lent no pixels and no list
 abbrev pub own : List ℕ
 own =
-    Kind.passed ∷ Kind.malformed ∷ Kind.start ∷ Kind.create ∷ Kind.pop ∷ Kind.focus ∷ Kind.lend ∷ Kind.lend-screen ∷ Kind.lend-list ∷ Kind.busiest ∷ Kind.share ∷ Kind.lend-target ∷ Kind.display-at ∷ Kind.sheet ∷ Kind.lend-sheet ∷ []
+    Kind.passed ∷ Kind.malformed ∷ Kind.start ∷ Kind.create ∷ Kind.pop ∷ Kind.focus ∷ Kind.lend ∷ Kind.lend-screen ∷ Kind.lend-list ∷ Kind.busiest ∷ Kind.share ∷ Kind.lend-target ∷ Kind.display-at ∷ Kind.sheet ∷ Kind.lend-sheet ∷ Kind.stale ∷ Kind.waiting ∷ Kind.window ∷ Kind.session ∷ []
 
 -- the test passes below n
 abbrev below : (ℕ → Bool) → ℕ → Bool

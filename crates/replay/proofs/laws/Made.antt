@@ -26,7 +26,7 @@ use Rattle.replay.specs.Looks.{lookOf, LooksPart}
 use Rattle.replay.specs.inner.Sheets.{ReadsPart, PrintsPart}
 use Rattle.replay.proofs.laws.Sizes.{counted, hits-room, read-room, print-room}
 use Rattle.replay.proofs.laws.Picked.{picked-so}
-use Rattle.replay.specs.Played.{unread, beyond, starts, creates, plain, stores, pops, redraws, lists, asks-hits, asks-focus, lends, lends-screen, lends-list, asks-busiest, asks-share, asks-display, asks-look, lends-target, reads-sheet, asks-sheet, lends-sheet, shows}
+use Rattle.replay.specs.Played.{unread, beyond, starts, creates, plain, stores, pops, redraws, lists, asks-hits, asks-focus, lends, lends-screen, lends-list, asks-busiest, asks-share, asks-display, asks-look, lends-target, reads-sheet, asks-sheet, lends-sheet, asks-stale, asks-waiting, asks-window, asks-session, shows}
 
 -- the session that r has is the next
 own : {p : Player} {s : Session} {r : Player} → Next p s r → Next p (r .session) r
@@ -141,4 +141,8 @@ ready-of (lends-target k j n e) = n .ready
 ready-of (reads-sheet k n e) = n .ready
 ready-of (asks-sheet k n e) = n .ready
 ready-of (lends-sheet k j n e) = n .ready
+ready-of (asks-stale k n e) = n .ready
+ready-of (asks-waiting k n e) = n .ready
+ready-of (asks-window k n e) = n .ready
+ready-of (asks-session k n e) = n .ready
 ready-of (shows k j n e) = n .ready

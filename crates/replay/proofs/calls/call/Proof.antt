@@ -1,7 +1,7 @@
 -- Each arm plays the line of its own kind; the kinds that are left are those of the plain calls.
 use mathlib.Core.Path.{refl}
 use native.Mathlib.Omega.{arith}
-use Rattle.replay.specs.Played.{unread, creates, pops, asks-focus, asks-busiest, asks-share, asks-display, asks-sheet, plain}
+use Rattle.replay.specs.Played.{unread, creates, pops, asks-focus, asks-busiest, asks-share, asks-display, asks-sheet, asks-stale, asks-waiting, asks-window, asks-session, plain}
 use Rattle.replay.proofs.laws.Arms.{plain-left}
 use Rattle.replay.proofs.laws.Picked.{picked-so}
 use Rattle.replay.proofs.laws.Made.{makes}
@@ -50,6 +50,18 @@ sheet-requires c κs = search needs
 
 lend-sheet-requires : tie.Need-lend-sheet-requires
 lend-sheet-requires c κs = search needs
+
+stale-requires : tie.Need-stale-requires
+stale-requires c κs = search needs
+
+waiting-requires : tie.Need-waiting-requires
+waiting-requires c κs = search needs
+
+window-requires : tie.Need-window-requires
+window-requires c κs = search needs
+
+session-requires : tie.Need-session-requires
+session-requires c κs = search needs
 
 plain-requires : tie.Need-plain-requires
 plain-requires c κs =
@@ -107,7 +119,19 @@ returns-15 : tie.Need-returns-15
 returns-15 c = λ a. c .lend-sheet .ensures (c .before .before .before .args .line) a (c .before .before .match .keys15)
 
 returns-16 : tie.Need-returns-16
-returns-16 c =
+returns-16 c = λ a. asks-stale (c .before .before .match .keys16) (c .stale .ensures) refl
+
+returns-17 : tie.Need-returns-17
+returns-17 c = λ a. asks-waiting (c .before .before .match .keys17) (c .waiting .ensures) refl
+
+returns-18 : tie.Need-returns-18
+returns-18 c = λ a. asks-window (c .before .before .match .keys18) (c .window .ensures) refl
+
+returns-19 : tie.Need-returns-19
+returns-19 c = λ a. asks-session (c .before .before .match .keys19) (c .session .ensures) refl
+
+returns-20 : tie.Need-returns-20
+returns-20 c =
     let p = c .before .before .before .before .before .args .p in
     let done = c .before .before .plain in
     λ a. plain (picked-so (λ k m. makes k p (c .answered .result) (done .result) m (c .answered .ensures)) (done .ensures)) refl
@@ -130,6 +154,10 @@ call-spec =
     display-at-requires
     sheet-requires
     lend-sheet-requires
+    stale-requires
+    waiting-requires
+    window-requires
+    session-requires
     plain-requires
     answered-requires
     returns
@@ -147,4 +175,8 @@ call-spec =
     returns-13
     returns-14
     returns-15
-    returns-16)
+    returns-16
+    returns-17
+    returns-18
+    returns-19
+    returns-20)

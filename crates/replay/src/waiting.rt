@@ -1,0 +1,16 @@
+// The line that asks which windows have something to pop.
+ghost use Rattle.replay.specs.Ready.{Ready, Next};
+use crate::player::Player;
+use windows::Session;
+
+pub fn waiting(mut p: Player, out: &mut [u8; 65536]) -> Player
+    requires { ⌜ Ready p ⌝ }
+    ensures { λ r. ⌜ Next p (p .session) r ⌝ }
+{
+    let s = p.session;
+    let n = s.waiting();
+    let to = answer_text::number(out, p.at, 0);
+    let then = answer_text::more(out, to, n);
+    p.at = answer_text::end(out, then);
+    p
+}
