@@ -35,10 +35,12 @@ static const struct call {
     {"roq_blit", 50, call_blit, {1, 3, 5, 7}},
     {"roq_route", 150, call_route, {5, 11, 12, 21}},
     {"roq_pop", 80, call_pop, {3, 10}},
+    {"roq_waiting", 20, call_waiting, {0}},
     {"roq_redraw", 20, call_redraw, {1, 8}},
     {"roq_begin", 20, call_begin, {0}},
     {"roq_portion", 60, call_portion, {1, 8, 20}},
     {"roq_dim", 4, call_dim, {0}},
+    {"roq_stale", 30, call_stale, {5, 20, 28}},
     {"roq_visible", 30, call_visible, {3, 9}},
     {"roq_share", 20, call_share, {3, 24}},
     {"roq_hits", 20, call_hits, {5, 25}},
@@ -46,6 +48,8 @@ static const struct call {
     {"roq_sheet", 20, call_sheet, {3, 19}},
     {"roq_focus", 10, call_focus, {0}},
     {"roq_rect_of", 20, call_rect_of, {3}},
+    {"roq_window", 30, call_window, {3}},
+    {"roq_state", 30, call_state, {0}},
     {"roq_contains", 10, call_contains, {14}},
     {"roq_contains_rect", 10, call_contains_rect, {14}},
     {"roq_within", 10, call_within, {14}},
@@ -58,9 +62,11 @@ static const struct call {
     {"roq_region", 20, call_region, {5, 13}},
     {"roq_read_sheet", 30, call_read_sheet, {18, 19}},
     {"roq_busiest", 10, call_busiest, {26, 27}},
+    {"roq_version", 1, call_version, {0}},
+    {"roq_session_size", 1, call_session_size, {0}},
 };
 
-enum { CALLS = sizeof calls / sizeof calls[0], ANSWERS = 28, MOST_GIVEN = 8 };
+enum { CALLS = sizeof calls / sizeof calls[0], ANSWERS = 29, MOST_GIVEN = 8 };
 
 static uint64_t seed, number, refused, counts[CALLS][ANSWERS];
 static size_t current, given_count;

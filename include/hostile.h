@@ -65,7 +65,7 @@ size_t altered_in(enum place place);
 /* ---- The model of a session: hostile_model.c ---- */
 
 struct window {
-    bool used, maximised, moved;
+    bool used, maximised, marked, moved;
     uint32_t layer, queued;
     RoqRect rect;
     RoqEvent queue[16];
@@ -74,18 +74,20 @@ struct window {
 
 struct model {
     uint32_t c, focus, shown, press_owner, displays, walked;
-    bool walking, dimmed;
+    bool owed, walking, full, dimmed;
     uint32_t order[16];
     struct window windows[16];
     RoqRect display[8];
 };
 extern struct model model;
 
-/* No window: what the model has for the owner of a press, and roq_hits for nobody. */
+/* No window: what the model has for the owner of a press, and roq_hits and roq_state for nobody. */
 enum { NOBODY = 16 };
 
 bool in_use(uint32_t id);
 bool is_shown(uint32_t id);
+/* Its place in the order, lowest first. */
+uint32_t place_of(uint32_t id);
 bool has(RoqRect r, uint32_t x, uint32_t y);
 uint32_t topmost_at(uint32_t x, uint32_t y);
 /* The display that a position is on, or else the closest; whether it is on it. */
@@ -98,6 +100,7 @@ void model_show(uint32_t id);
 void model_raise(uint32_t id);
 void model_hide(uint32_t id);
 void model_drop(uint32_t id);
+void model_mark(uint32_t id);
 void model_move(uint32_t id, uint32_t x, uint32_t y);
 void model_drag(uint32_t id, uint32_t x, uint32_t y);
 void model_set_layer(uint32_t id, uint32_t layer);
@@ -108,7 +111,8 @@ void model_update_dims(void);
 uint32_t taker_of(RoqEvent e);
 void model_route(RoqEvent e);
 RoqEvent model_pop(uint32_t id);
-void model_begin(void);
+void model_redraw(void);
+void model_begin(bool forced);
 void model_portion(void);
 void model_dim(bool on);
 

@@ -64,6 +64,14 @@ void call_portion(void);
 RoqDims screen_dims(void);
 bool screen_fits(RoqDims dims, size_t len);
 
+/* hostile_stale.c */
+void call_stale(void);
+
+/* hostile_state.c */
+void call_waiting(void);
+void call_window(void);
+void call_state(void);
+
 /* hostile_look.c */
 void call_look(void);
 
@@ -89,5 +97,9 @@ void call_region(void);
 
 /* hostile_times.c */
 void call_busiest(void);
+
+/* hostile_version.c */
+void call_version(void);
+void call_session_size(void);
 
 #endif

@@ -60,14 +60,14 @@ void call_redraw(void) {
     if (!accepted(answer, due_redraw(dims, len, screen_len)))
         return;
     expect(!forced || is_drawn(dims), "the screen is not that of the topmost windows");
-    model.walking = false;
+    model_redraw();
 }
 
 void call_begin(void) {
     bool forced = one_in(2);
     GIVEN(forced);
     if (accepted(roq_begin(session(), forced), 0))
-        model_begin();
+        model_begin(forced);
 }
 
 void call_portion(void) {

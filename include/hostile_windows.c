@@ -34,13 +34,11 @@ static void with_id(uint32_t (*call)(RoqSession *, uint32_t), void (*change)(uin
         change(id);
 }
 
-static void nothing(uint32_t id) { (void)id; }
-
 void call_show(void) { with_id(roq_show, model_show); }
 void call_raise(void) { with_id(roq_raise, model_raise); }
 void call_hide(void) { with_id(roq_hide, model_hide); }
 void call_drop(void) { with_id(roq_drop, model_drop); }
-void call_mark(void) { with_id(roq_mark, nothing); }
+void call_mark(void) { with_id(roq_mark, model_mark); }
 
 /* roq_move or roq_drag. */
 static void with_place(uint32_t (*call)(RoqSession *, uint32_t, uint32_t, uint32_t),

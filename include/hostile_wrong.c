@@ -26,7 +26,16 @@
     MISTAKE(focus_late, "the focus is that of the call before")                                                        \
     MISTAKE(pop_button, "an event loses its button")                                                                   \
     MISTAKE(route_order, "a point is asked before the kind of an event")                                               \
+    MISTAKE(waiting_moves, "an unread move does not wait")                                                             \
     MISTAKE(portion_over, "a portion is accepted after the walk is over")                                              \
+    MISTAKE(stale_less, "what is stale has a column too few")                                                          \
+    MISTAKE(stale_more, "what is stale is the whole area")                                                             \
+    MISTAKE(stale_order, "the call that is meant is asked before the area")                                            \
+    MISTAKE(stale_owed, "a redraw that is owed counts as one that is not")                                             \
+    MISTAKE(window_place, "a place is counted from 1")                                                                 \
+    MISTAKE(window_refused, "a refused window has an event")                                                           \
+    MISTAKE(state_left, "a walk has a portion too many")                                                               \
+    MISTAKE(state_grab, "the focus is named for the press")                                                            \
     MISTAKE(maximise_order, "an id is asked before the store")                                                         \
     MISTAKE(read_longer, "a sheet may have a byte too many")                                                           \
     MISTAKE(set_nothing, "data of length 0 is read")                                                                   \
@@ -176,6 +185,44 @@ WRAP(uint32_t, route, RoqSession *s, RoqEvent e) {
     if (is(route_order) && e.kind == ROQ_KEY_FIRE && e.x > 32767)
         return 5;
     return __real_roq_route(s, e);
+}
+
+WRAP(uint32_t, waiting, const RoqSession *s) {
+    uint32_t bits = __real_roq_waiting(s);
+    for (uint32_t id = 0; id < 16; id++)
+        if (is(waiting_moves) && roq_window(s, id).moved && roq_window(s, id).queued == 0)
+            bits &= ~(UINT32_C(1) << id);
+    return bits;
+}
+
+RoqState __real_roq_state(const RoqSession *s);
+
+WRAP(RoqStale, stale, const RoqSession *s, uint32_t which, RoqRect area) {
+    RoqStale got = __real_roq_stale(s, which, area);
+    if (is(stale_less) && got.rect.dims.w > 1)
+        got.rect.dims.w--;
+    if (is(stale_more) && got.due)
+        got.rect = area;
+    if (is(stale_order) && which > ROQ_PORTION)
+        got.answer = 28;
+    if (is(stale_owed) && which == ROQ_REDRAW && got.due && __real_roq_state(s).owed)
+        memset(&got, 0, sizeof got);
+    return got;
+}
+
+WRAP(RoqWindow, window, const RoqSession *s, uint32_t id) {
+    RoqWindow got = __real_roq_window(s, id);
+    got.place += is(window_place) && got.shown;
+    got.queued += is(window_refused) && got.answer == 3;
+    return got;
+}
+
+WRAP(RoqState, state, const RoqSession *s) {
+    RoqState got = __real_roq_state(s);
+    got.left += is(state_left) && got.walk;
+    if (is(state_grab) && got.grab < 16)
+        got.grab = got.focus;
+    return got;
 }
 
 WRAP(uint32_t, portion, RoqSession *s, uint32_t width, uint32_t height, const uint32_t *store, size_t store_len,

@@ -28,6 +28,7 @@ static void every_call(uint32_t id) {
     const RoqLook look = {0, 0, 1, false};
     const uint32_t data[1] = {9};
     refused("rect_of", id, roq_rect_of(&s, id).answer);
+    refused("window", id, roq_window(&s, id).answer);
     refused("share", id, roq_share(&s, id).answer);
     refused("visible", id, roq_visible(&s, id, lent.list, 4).answer);
     refused("sheet", id, roq_sheet(&s, id, lent.bytes, 16).answer);

@@ -14,11 +14,14 @@ SIZE(RoqSession, 5784);
 SIZE(RoqCreated, 8);
 SIZE(RoqPopped, 24);
 SIZE(RoqAltered, 16);
+SIZE(RoqStale, 24);
 SIZE(RoqListing, 16);
 SIZE(RoqShare, 12);
 SIZE(RoqLook, 32);
 SIZE(RoqDisplay, 24);
 SIZE(RoqPlaced, 20);
+SIZE(RoqWindow, 44);
+SIZE(RoqState, 28);
 SIZE(RoqTested, 8);
 SIZE(RoqIntersection, 24);
 SIZE(RoqUnited, 20);
@@ -161,6 +164,51 @@ static void shares(void) {
     EXPECT(roq_share(s, 8).answer == 24 && roq_share(s, 16).answer == 3);
 }
 
+/* What is stale: each field, of a redraw that is owed, of one that is not, of a forced one, of a portion; and the
+ * refusals, which give no rectangle. */
+static void stale(void) {
+    EXPECT(roq_move(s, LAST, 4, 3) == 0);
+    RoqStale all = roq_stale(s, ROQ_REDRAW, rect(0, 0, 100, 50));
+    EXPECT(all.answer == 0 && all.due && is_rect(all.rect, 4, 3, 96, 47));
+    EXPECT(roq_redraw(s, false, 8, 8, store, 16 * C, screen, 64) == 0);
+    RoqStale none = roq_stale(s, ROQ_REDRAW, rect(0, 0, 100, 50)), forced = roq_stale(s, ROQ_REDRAW_FORCED, rect(0, 0, 9, 9));
+    EXPECT(none.answer == 0 && !none.due && is_rect(none.rect, 0, 0, 0, 0) && forced.answer == 0 && is_rect(forced.rect, 4, 3, 5, 6));
+    EXPECT(roq_fill(s, LAST, rect(9, 5, 7, 3), 6, store, 16 * C).answer == 0 && roq_mark(s, LAST) == 0);
+    EXPECT(is_rect(roq_stale(s, ROQ_REDRAW, rect(0, 0, 100, 50)).rect, 13, 8, 7, 3));
+    RoqStale no_walk = roq_stale(s, ROQ_PORTION, rect(0, 0, 100, 50)), no_call = roq_stale(s, 3, rect(0, 0, 100, 50));
+    EXPECT(no_walk.answer == 20 && !no_walk.due && is_rect(no_walk.rect, 0, 0, 0, 0) && no_call.answer == 28 && !no_call.due);
+    EXPECT(roq_stale(s, 3, rect(0, 32768, 1, 1)).answer == 5 && roq_begin(s, true) == 0);
+    EXPECT(!roq_stale(s, ROQ_PORTION, rect(0, 0, 9, 9)).due && roq_portion(s, 8, 8, store, 16 * C, screen, 64) == 0);
+    EXPECT(is_rect(roq_stale(s, ROQ_PORTION, rect(0, 0, 9, 9)).rect, 4, 3, 5, 6));
+    EXPECT(roq_redraw(s, false, 8, 8, store, 16 * C, screen, 64) == 0 && roq_move(s, LAST, 3000, 4000) == 0);
+}
+
+/* Each field of a window and of the session, in another state than 0; and the refusal, which is all 0. The session is
+ * put back. */
+static void standing(void) {
+    RoqSession before = *s;
+    RoqWindow below = roq_window(s, 7), above = roq_window(s, LAST), none = roq_window(s, 16);
+    EXPECT(below.answer == 0 && is_rect(below.rect, 2999, 4000, 3, 1) && below.shown && below.place == 0 && below.layer == 0);
+    EXPECT(above.answer == 0 && is_rect(above.rect, 3000, 4000, 200, 150) && above.shown && above.place == 1 && !above.marked);
+    EXPECT(none.answer == 3 && is_rect(none.rect, 0, 0, 0, 0) && !none.shown && none.place == 0 && none.layer == 0 && !none.maximised);
+    EXPECT(!none.marked && none.queued == 0 && !none.moved && !roq_window(s, 8).shown);
+    uint32_t queued = above.queued;
+    EXPECT(roq_route(s, mouse(ROQ_MOUSE_DOWN, 3001, 4002, 1, 0)) == 0 && roq_route(s, mouse(ROQ_MOUSE_MOVE, 3001, 4002, 0, 0)) == 0);
+    EXPECT(roq_mark(s, LAST) == 0 && roq_set_layer(s, LAST, 1) == 0 && roq_maximise(s, 8, store, 16 * C) == 0);
+    above = roq_window(s, LAST);
+    EXPECT(above.layer == 1 && above.marked && above.queued == queued + 1 && above.moved && !above.maximised);
+    EXPECT(roq_window(s, 8).maximised && roq_dim(s, true) == 0 && roq_begin(s, false) == 0);
+    EXPECT(roq_portion(s, 8, 8, store, 16 * C, screen, 64) == 0);
+    RoqState now = roq_state(s);
+    EXPECT(now.c == C && now.shown == 2 && now.focus == LAST && now.grab == LAST && now.displays == 8);
+    EXPECT(now.dimmed && now.owed && now.walk && now.full && now.left == 1);
+    EXPECT(roq_dim(s, false) == 0 && roq_redraw(s, false, 8, 8, store, 16 * C, screen, 64) == 0 && roq_hide(s, LAST) == 0 && roq_hide(s, 7) == 0);
+    EXPECT(roq_redraw(s, false, 8, 8, store, 16 * C, screen, 64) == 0);
+    now = roq_state(s);
+    EXPECT(now.shown == 0 && now.focus == ROQ_NOBODY && now.grab == ROQ_NOBODY && !now.dimmed && !now.owed && !now.walk && !now.full && now.left == 0);
+    *s = before;
+}
+
 /* Three points: of the window above, of the one below, of none; the rest of the list; and both refusals, which write nothing. */
 static void fingers(void) {
     uint32_t points[6] = {3000, 4000, 2999, 4000, 2998, 4000}, answers[10] = {9, 9, 9, 9, 9, 9, 9, 9, 9, 9};
@@ -237,8 +285,21 @@ static void session(void) {
     shares();
     fingers();
     sheets();
+    stale();
+    standing();
     RoqPlaced at = roq_rect_of(s, LAST);
     EXPECT(at.answer == 0 && is_rect(at.rect, 3000, 4000, 200, 150));
+}
+
+/* A bit for each window that has an event or a move, the lowest and the highest too. */
+static void waiting(void) {
+    for (uint32_t id = 0; id < 16; id++)
+        while (roq_pop(s, id).answer == 0)
+            continue;
+    EXPECT(roq_waiting(s) == 0 && roq_route(s, mouse(ROQ_MOUSE_MOVE, 2999, 4000, 0, 0)) == 0 && roq_waiting(s) == 1u << 7);
+    EXPECT(roq_route(s, mouse(ROQ_MOUSE_CLICK, 3000, 4000, 1, 1)) == 0 && roq_waiting(s) == (1u << LAST | 1u << 7));
+    EXPECT(roq_resize(s, 0, 1, 1, store, 16 * C) == 0 && roq_waiting(s) == (1u << LAST | 1u << 7 | 1u) && roq_pop(s, 7).answer == 0);
+    EXPECT(roq_waiting(s) == (1u << LAST | 1u) && roq_pop(s, LAST).answer == 0 && roq_pop(s, 0).answer == 0 && roq_waiting(s) == 0);
 }
 
 /* The fields of an event, there and back. */
@@ -259,6 +320,7 @@ static void events(void) {
     RoqPopped none = roq_pop(s, LAST);
     EXPECT(none.answer == 10 && none.event.kind == ROQ_NO_EVENT);
     EXPECT(roq_route(s, mouse(200, 3052, 4070, 0, 0)) == 11);
+    waiting();
 }
 
 /* What the other calls hand back. */
@@ -304,7 +366,15 @@ static void seconds(void) {
     EXPECT(roq_busiest(together, 4096).count == 4096 && roq_busiest(together, 4097).answer == 26);
 }
 
+/* The archive that is linked is the one that the header belongs to. Its session ends with RoqSession: the count of
+ * displays lies in the last word, and no call touches the word behind it. */
+static void version(void) {
+    EXPECT(roq_version() == ROQ_VERSION);
+    EXPECT(roq_session_size() == sizeof(RoqSession));
+}
+
 int main(void) {
+    version();
     session();
     events();
     values();

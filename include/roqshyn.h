@@ -2,7 +2,8 @@
  *
  * Answers. Every call answers 0, or the number of the first question of document 01 that it answers with a no
  * (duty D14). Then it has changed no session, store, list, buffer, screen or pixel; only a refused roq_start makes a
- * session all the same. "Asks" below names the questions of a call, in their order:
+ * session all the same. ROQ_OK and the names that begin with ROQ_ERROR_ stand for these numbers. "Asks" below names the
+ * questions of a call, in their order:
  *    1  the lent store has exactly 16 x C pixels
  *    2  C is 1 to 1,048,576
  *    3  the id is below 16 and in use
@@ -30,29 +31,35 @@
  *   25  at most 32 points, each x with its y, and 3 numbers for each in the list
  *   26  the run has at most 4,096 times
  *   27  no time is below the one before it
+ *   28  the call that is meant is 0, 1 or 2
  *
  * Sessions. A session is one that roq_start, also a refused one, and these calls made, in the caller's memory. It may
  * be copied and moved as a whole; nobody else writes it (duty D12). One thread at a time uses it (duty D3). This and
  * the next paragraph are all that a call asks of its caller: every number may be anything, and is answered.
  *
  * Lent memory. A pointer and the number after it are an array of that many pixels, numbers or bytes. It is lent for the
- * call alone: nothing of it is kept. It is aligned and not null, also where its length is 0 (duty D4). No two arrays of
- * a call overlap, nor do they overlap the session, unless both are only read (const) (duty D5). A bool is 0 or 1
- * (duty D6).
+ * call alone: nothing of it is kept. It is there and aligned (duty D4). Where the number is 0 the pointer may be null,
+ * as that of an empty std::vector is: nothing is read or written there. No two arrays of a call overlap, nor do they
+ * overlap the session, unless both are only read (const) (duty D5). A bool is 0 or 1 (duty D6).
  *
- * The store has 16 x C pixels. Window i has the C from i x C on, in rows of its own width. The screen has width x
- * height pixels.
+ * The store has 16 x C pixels. Window i has the C from i x C on, in rows of its own width. C is at most 1,048,576, and
+ * so is w x h of a window: a display of 1,920 by 1,080 has 2,073,600 pixels and cannot be one window. Two windows of
+ * 960 by 1,080 side by side can, and two displays of that size, on which windows are maximised.
+ *
+ * The screen has width x height pixels. Where its rows have padding, as a buffer of DRM may, the width that is handed
+ * over is the pitch in pixels, and the length the pitch x height: what lies beside the windows keeps its value, the
+ * padding too.
  *
  * When the screen is right. After a redraw each pixel under a shown window is that of its topmost window, if three
  * things are kept. A window is marked after its last write (roq_fill, roq_blit): what is written and not marked may
  * stay undrawn (duty D7). Every redraw and portion is lent the same screen, at one size, since it writes only what it
  * has to; forced, it writes all that is seen. Nobody else writes store or screen: a copy of the session that makes
  * calls of its own is somebody else (duty D8). A pixel under no shown window keeps its old value, also in a full
- * redraw, so keep a window of the screen's size lowest, such as the plan (duty D9). A full redraw is owed, which draws
- * everything, in a new session; after each move, resize, maximise and update_dims that is accepted; and after each
- * show, hide, change of a shown window's layer and switch of dimming that changes something. A raise of a shown window
- * has the next redraw draw that window too, a drag also what it uncovered, and not everything; each owes a full redraw
- * only where one is owed already or a walk is on. Neither stands for the mark after a write.
+ * redraw, so keep a window of the screen's size lowest, such as the plan, or several that cover it (duty D9). A full
+ * redraw is owed, which draws everything, in a new session; after each move, resize, maximise and update_dims that is
+ * accepted; and after each show, hide, change of a shown window's layer and switch of dimming that changes something. A
+ * raise of a shown window has the next redraw draw that window too, a drag also what it uncovered, and not everything;
+ * each owes a full redraw only where one is owed already or a walk is on. Neither stands for the mark after a write.
  *
  * Displays. Yard and station screens are rectangles of the one screen, up to eight of them in one session; they may
  * overlap, and a position on several is on the first that was added. A display is only where windows go when they are
@@ -104,6 +111,68 @@
 extern "C" {
 #endif
 
+/* ---- Names ---- */
+
+/* The version of this header; docs/VERSIONS.md of the repository says when which number moves. */
+#define ROQ_VERSION_MAJOR 1
+#define ROQ_VERSION_MINOR 0
+#define ROQ_VERSION_PATCH 0
+#define ROQ_VERSION (ROQ_VERSION_MAJOR * 1000000 + ROQ_VERSION_MINOR * 1000 + ROQ_VERSION_PATCH)
+
+/* The answers: ROQ_OK, or what was wrong, by the number of its question. */
+enum {
+    ROQ_OK = 0,
+    ROQ_ERROR_STORE_LENGTH = 1,
+    ROQ_ERROR_CAPACITY = 2,
+    ROQ_ERROR_UNKNOWN_ID = 3,
+    ROQ_ERROR_NO_FREE_ID = 4,
+    ROQ_ERROR_TOO_LARGE = 5,
+    ROQ_ERROR_WINDOW_SIZE = 6,
+    ROQ_ERROR_STRIDE = 7,
+    ROQ_ERROR_SCREEN_SIZE = 8,
+    ROQ_ERROR_LIST_LENGTH = 9,
+    ROQ_ERROR_NO_EVENT = 10,
+    ROQ_ERROR_NO_WINDOW = 11,
+    ROQ_ERROR_QUEUE_FULL = 12,
+    ROQ_ERROR_OUTSIDE_PIXELS = 13,
+    ROQ_ERROR_EDGE_TOO_LARGE = 14,
+    ROQ_ERROR_DISPLAY_SIZE = 15,
+    ROQ_ERROR_TOO_MANY_DISPLAYS = 16,
+    ROQ_ERROR_LAYER = 17,
+    ROQ_ERROR_NO_SHEET = 18,
+    ROQ_ERROR_SHEET_LENGTH = 19,
+    ROQ_ERROR_NO_WALK = 20,
+    ROQ_ERROR_KEY_FIRE = 21,
+    ROQ_ERROR_LOOK = 22,
+    ROQ_ERROR_TARGET_SIZE = 23,
+    ROQ_ERROR_NOT_IN_VIEW = 24,
+    ROQ_ERROR_POINTS = 25,
+    ROQ_ERROR_RUN_LENGTH = 26,
+    ROQ_ERROR_TIMES_DESCEND = 27,
+    ROQ_ERROR_WHICH_CALL = 28
+};
+
+/* So many windows and displays there may be; so many pixels a window may have, which is the greatest C. */
+#define ROQ_WINDOWS 16
+#define ROQ_DISPLAYS 8
+#define ROQ_PIXELS 1048576
+
+/* The id that there is not, which no window has; and nobody, which roq_hits and roq_state give where there is no
+ * window. */
+#define ROQ_NO_ID UINT32_MAX
+#define ROQ_NOBODY 16
+
+/* Lengths that always suffice: numbers for roq_visible, bytes for roq_sheet, numbers for roq_read_sheet; and for as
+ * many points as roq_hits takes, the numbers that are given and those that are written. */
+#define ROQ_VISIBLE_LEN 1984
+#define ROQ_SHEET_LEN 2048
+#define ROQ_READ_SHEET_LEN 7812
+#define ROQ_POINTS_LEN 64
+#define ROQ_HITS_LEN 96
+
+/* The library is compiled for a size_t of 64 bits: with another one this is an array of -1, which is refused. */
+typedef char RoqSizeHas64Bits[sizeof(size_t) == 8 ? 1 : -1];
+
 typedef struct RoqPos {
     uint32_t x, y;
 } RoqPos;
@@ -147,13 +216,20 @@ typedef struct RoqSession {
     uint64_t words[723];
 } RoqSession;
 
+#define ROQ_SESSION_SIZE 5784
+typedef char RoqSessionHasItsSize[sizeof(RoqSession) == ROQ_SESSION_SIZE ? 1 : -1];
+
+/* The version of the archive, as ROQ_VERSION has that of the header: major x 1,000,000 + minor x 1,000 + patch. */
+uint32_t roq_version(void);
+
+/* The bytes of a session as the archive has it, which are those of a RoqSession if header and archive belong together.
+ * A program asks before roq_start: with another size a call writes beside the session. */
+size_t roq_session_size(void);
+
 /* Begins a session without windows, whose windows will have room for c pixels each. Asks 2; on a no it begins one all
  * the same, with C = 1. Before the call the memory holds zeros (RoqSession s = {0};) or a session, which ends, also on
  * a no (duty D1). */
 uint32_t roq_start(RoqSession *s, uint32_t c);
-
-/* The id that there is not, which no window has. */
-#define ROQ_NO_ID UINT32_MAX
 
 /* What a create gives: on a no the id is ROQ_NO_ID. */
 typedef struct RoqCreated {
@@ -260,6 +336,10 @@ typedef struct RoqPopped {
 /* The oldest event of a window's queue, or else its unread MouseMove. Asks 3, 10. */
 RoqPopped roq_pop(RoqSession *s, uint32_t id);
 
+/* The windows that have something to pop: bit i is 1 exactly where a roq_pop of window i would answer 0. Asks
+ * nothing. */
+uint32_t roq_waiting(const RoqSession *s);
+
 /* Draws the shown windows on the screen, lowest first: everything where `forced` or where a full redraw is owed, else
  * the marked windows. Reads the store, writes the screen. Asks 1, 8. */
 uint32_t roq_redraw(RoqSession *s, bool forced, uint32_t width, uint32_t height, const uint32_t *store, size_t store_len,
@@ -271,9 +351,11 @@ uint32_t roq_redraw(RoqSession *s, bool forced, uint32_t width, uint32_t height,
 uint32_t roq_begin(RoqSession *s, bool forced);
 
 /* Draws the walk's next window, lowest first; after the last one the walk is over. Any calls may come between two
- * portions: one that owes a full redraw sends the walk back to the lowest window, to draw everything (duty D13); what
- * is written to a window after its portion is damage for the next redraw. Reads the store, writes the screen. Asks 1,
- * 8, 20. */
+ * portions: one that owes a full redraw sends the walk back to the lowest window, to draw everything; what is written
+ * to a window after its portion is damage for the next redraw. A walk that is sent back before each portion never ends,
+ * and its upper windows stay undrawn, though every portion answers 0. So count the portions: a walk that was not sent
+ * back has 16 at most, and after more of them roq_redraw ends it (duty D13). Reads the store, writes the screen. Asks
+ * 1, 8, 20. */
 uint32_t roq_portion(RoqSession *s, uint32_t width, uint32_t height, const uint32_t *store, size_t store_len, uint32_t *screen,
                      size_t screen_len);
 
@@ -281,6 +363,27 @@ uint32_t roq_portion(RoqSession *s, uint32_t width, uint32_t height, const uint3
  * (bits 16 to 23, 8 to 15, 0 to 7) of each pixel as (i x i + 127) / 255, rounded down, and the top byte as it is. The
  * store keeps its pixels. To set what is set changes nothing. Asks nothing. */
 uint32_t roq_dim(RoqSession *s, bool on);
+
+/* The calls that roq_stale may mean: a roq_redraw that is not forced, one that is, and the next roq_portion. */
+enum {
+    ROQ_REDRAW = 0,
+    ROQ_REDRAW_FORCED = 1,
+    ROQ_PORTION = 2
+};
+
+/* Where a call would write: on a no, and where it would write nothing, `due` is false and the rectangle (0,0,0,0). */
+typedef struct RoqStale {
+    uint32_t answer;
+    bool due;
+    RoqRect rect;
+} RoqStale;
+
+/* The smallest rectangle that holds every pixel of the area which that call, made next, would write, also with the
+ * value that it has. Asked before the call, it says what to send to a display afterwards: every other pixel of the area
+ * stays as it is. The area may pass the end of the screen that the call is lent; what it would write there counts too,
+ * so ask of no more than the screen. No store and no screen is lent, and nothing changes. Asks 5, 28; of the next
+ * portion 20. */
+RoqStale roq_stale(const RoqSession *s, uint32_t which, RoqRect area);
 
 /* How many rectangles a list has, or bytes a sheet: on a no none. */
 typedef struct RoqListing {
@@ -302,9 +405,9 @@ typedef struct RoqShare {
 RoqShare roq_share(const RoqSession *s, uint32_t id);
 
 /* Which windows lie under up to 32 points, given as x, y each: for each point, in their order, three numbers, the
- * window that a press there would go to and the point relative to it, or 16, 0, 0 where there is none. Nothing is
- * delivered, and a full queue changes no answer. Writes the front of the answers; 96 numbers always suffice. Asks 5 of
- * every number given, 25. */
+ * window that a press there would go to and the point relative to it, or ROQ_NOBODY, 0, 0 where there is none. Nothing
+ * is delivered, and a full queue changes no answer. Writes the front of the answers; 96 numbers always suffice. Asks 5
+ * of every number given, 25. */
 uint32_t roq_hits(const RoqSession *s, const uint32_t *points, size_t points_len, uint32_t *answers, size_t answers_len);
 
 /* A look at a window: its corner (x,y) in the window and a factor, 0.25, 0.5, 1, 2 or 4; or `fit`, which takes the
@@ -343,6 +446,35 @@ typedef struct RoqPlaced {
 
 /* A window's position and size. Asks 3. */
 RoqPlaced roq_rect_of(const RoqSession *s, uint32_t id);
+
+/* How a window stands: its rectangle; whether it is shown, and its place in the order of drawing, 0 for the lowest one
+ * and where it is hidden; its layer; whether it is maximised; whether it is marked, by a call of roq_mark or by a
+ * repair; how many events are queued, without a move; whether a move is unread. On a no all are 0. */
+typedef struct RoqWindow {
+    uint32_t answer;
+    RoqRect rect;
+    bool shown;
+    uint32_t place, layer;
+    bool maximised, marked;
+    uint32_t queued;
+    bool moved;
+} RoqWindow;
+
+/* How a window stands. Asks 3. */
+RoqWindow roq_window(const RoqSession *s, uint32_t id);
+
+/* How a session stands: C; how many windows are shown; the window that has the focus, ROQ_NOBODY where none is shown;
+ * `grab`, the window that took the last MouseDown while it is remembered, also where it has no pixels, else ROQ_NOBODY;
+ * whether dimming is on; whether a full redraw is owed; whether a walk is on, whether it is full and how many portions
+ * are left of it, 0 with no walk; and how many displays there are. */
+typedef struct RoqState {
+    uint32_t c, shown, focus, grab;
+    bool dimmed, owed, walk, full;
+    uint32_t left, displays;
+} RoqState;
+
+/* How the session stands. Asks nothing. */
+RoqState roq_state(const RoqSession *s);
 
 /* ---- Rectangles alone: these ask 14 ---- */
 

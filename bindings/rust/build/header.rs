@@ -75,7 +75,7 @@ fn rust_name(c: &str) -> String {
 fn rust_function(c: &str) -> String {
     let (head, parameters) = c.trim_end_matches(')').split_once('(').expect("parameters");
     let (kind, name) = head.trim().rsplit_once(' ').expect("a type and a name");
-    let parameters: Vec<String> = parameters.split(',').map(rust_name).collect();
+    let parameters: Vec<String> = parameters.split(',').filter(|&p| p != "void").map(rust_name).collect();
     format!("fn {name}({}) -> {}", parameters.join(", "), rust_type(kind))
 }
 

@@ -55,6 +55,7 @@ mod rect;
 mod session;
 mod sheet;
 mod times;
+mod version;
 
 pub use error::Error;
 pub use event::Event;
@@ -62,7 +63,9 @@ pub use id::Id;
 pub use pixels::{fill_scanline, region, region_mut, scanline, scanline_mut, set_scanline};
 pub use rect::{Dims, Pieces, Pos, Rect};
 pub use session::{
-    Hit, Located, Look, Session, Share, Zoom, MOST_DISPLAYS, MOST_POINTS, MOST_RECTS, MOST_SHEET, WINDOWS,
+    Hit, Located, Look, Meant, Session, SessionState, Share, Walk, WindowState, Zoom, MOST_DISPLAYS, MOST_POINTS,
+    MOST_RECTS, MOST_SHEET, WINDOWS,
 };
 pub use sheet::{read_sheet, MOST_READ};
 pub use times::{busiest, Second};
+pub use version::version;

@@ -3,6 +3,7 @@ use crate::raw;
 use crate::{Error, Event, Id, Pos, Rect};
 use core::cell::Cell;
 use core::marker::PhantomData;
+use core::mem::size_of;
 
 /// So many windows there may be; the store has as many times C pixels.
 pub const WINDOWS: usize = 16;
@@ -29,7 +30,7 @@ pub struct Share {
     pub remainder: u32,
 }
 
-/// What lies under a point: a window, by its number, and the point in it; or 16, at (0,0).
+/// What lies under a point: a window, by its number, and the point in it; or nobody, ROQ_NOBODY, at (0,0).
 #[repr(C)]
 #[derive(Clone, Copy, Debug, Default, PartialEq, Eq)]
 pub struct Hit {
@@ -82,14 +83,71 @@ pub enum Located {
     Closest(Rect),
 }
 
+/// The call that [`Session::stale`] is asked of: a redraw that is not forced, one that is, or the next portion.
+#[derive(Clone, Copy, Debug, PartialEq, Eq)]
+pub enum Meant {
+    Redraw = 0,
+    ForcedRedraw = 1,
+    Portion = 2,
+}
+
+/// How a window stands.
+#[derive(Clone, Copy, Debug, PartialEq, Eq)]
+pub struct WindowState {
+    pub rect: Rect,
+    /// Its place in the order of drawing, 0 for the lowest; none where it is hidden.
+    pub place: Option<u32>,
+    pub layer: u32,
+    pub maximised: bool,
+    pub marked: bool,
+    /// How many events are queued, without a move.
+    pub queued: u32,
+    /// Whether a move is unread.
+    pub moved: bool,
+}
+
+/// A walk that is on.
+#[derive(Clone, Copy, Debug, PartialEq, Eq)]
+pub struct Walk {
+    pub full: bool,
+    /// How many portions are left.
+    pub left: u32,
+}
+
+/// How a session stands.
+#[derive(Clone, Copy, Debug, PartialEq, Eq)]
+pub struct SessionState {
+    pub c: u32,
+    /// How many windows are shown.
+    pub shown: u32,
+    /// None where no window is shown.
+    pub focus: Option<Id>,
+    /// The window that took the last MouseDown, while it is remembered.
+    pub grab: Option<Id>,
+    pub dimmed: bool,
+    /// Whether a full redraw is owed.
+    pub owed: bool,
+    pub walk: Option<Walk>,
+    /// How many displays there are.
+    pub displays: u32,
+}
+
+/// A window, or none where the number is nobody's, ROQ_NOBODY.
+#[inline]
+fn someone(number: u32) -> Option<Id> {
+    (number < WINDOWS as u32).then_some(Id(number))
+}
+
 #[inline]
 fn altered(altered: raw::Altered) -> Result<usize, Error> {
     Error::checked(altered.answer).map(|()| altered.altered)
 }
 
 impl Session {
-    /// A session without windows, whose windows will have room for c pixels each.
+    /// A session without windows, whose windows will have room for c pixels each. It panics where the archive that was
+    /// linked belongs to another header, with sessions of another size.
     pub fn start(c: u32) -> Result<Session, Error> {
+        assert_eq!(unsafe { raw::roq_session_size() }, size_of::<raw::Session>(), "bytes of a session");
         // `roq_start` asks for zeros or a session.
         let mut session = Session(raw::Session::ZEROS, PhantomData);
         Error::checked(unsafe { raw::roq_start(&mut session.0, c) })?;
@@ -210,6 +268,13 @@ impl Session {
         Error::checked(popped.answer).map(|()| Event::of(popped.event))
     }
 
+    /// The windows that have something to pop, smallest id first.
+    #[inline]
+    pub fn waiting(&self) -> impl Iterator<Item = Id> {
+        let bits = unsafe { raw::roq_waiting(&self.0) };
+        (0..WINDOWS as u32).filter(move |number| bits >> number & 1 == 1).map(Id)
+    }
+
     /// Draws the shown windows on the screen: everything where `forced` or owed, else the marked ones.
     #[inline]
     pub fn redraw(
@@ -243,6 +308,13 @@ impl Session {
     #[inline]
     pub fn dim(&mut self, on: bool) -> Result<(), Error> {
         Error::checked(unsafe { raw::roq_dim(&mut self.0, on) })
+    }
+
+    /// The smallest rectangle that holds every pixel of the area which that call, made next, would write.
+    #[inline]
+    pub fn stale(&self, meant: Meant, area: Rect) -> Result<Option<Rect>, Error> {
+        let stale = unsafe { raw::roq_stale(&self.0, meant as u32, area) };
+        Error::checked(stale.answer).map(|()| stale.due.then_some(stale.rect))
     }
 
     /// The visible rectangles of a window, relative to it, at the front of the list.
@@ -296,5 +368,23 @@ impl Session {
     pub fn rect_of(&self, id: Id) -> Result<Rect, Error> {
         let placed = unsafe { raw::roq_rect_of(&self.0, id.0) };
         Error::checked(placed.answer).map(|()| placed.rect)
+    }
+
+    /// How a window stands.
+    #[inline]
+    pub fn window(&self, id: Id) -> Result<WindowState, Error> {
+        let raw::Window { answer, rect, shown, place, layer, maximised, marked, queued, moved } =
+            unsafe { raw::roq_window(&self.0, id.0) };
+        let place = shown.then_some(place);
+        Error::checked(answer).map(|()| WindowState { rect, place, layer, maximised, marked, queued, moved })
+    }
+
+    /// How the session stands.
+    #[inline]
+    pub fn state(&self) -> SessionState {
+        let raw::State { c, shown, focus, grab, dimmed, owed, walk, full, left, displays } =
+            unsafe { raw::roq_state(&self.0) };
+        let walk = walk.then_some(Walk { full, left });
+        SessionState { c, shown, focus: someone(focus), grab: someone(grab), dimmed, owed, walk, displays }
     }
 }

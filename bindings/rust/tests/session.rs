@@ -77,8 +77,9 @@ fn ids_that_no_window_has() {
             session.look(id, Look::fit(), 1, 1, &store, &mut [0]).err(),
             session.sheet(id, &mut []).err(),
             session.rect_of(id).err(),
+            session.window(id).err(),
         ];
-        assert_eq!(answers, [Some(Error::UnknownId); 17], "{number}");
+        assert_eq!(answers, [Some(Error::UnknownId); 18], "{number}");
         assert!(bytes(&session) == before && store == pixels, "{number}");
     }
 }
@@ -223,6 +224,75 @@ fn events_there_and_back() {
 }
 
 #[test]
+fn what_waits() {
+    let Station { mut session, plan, panel, .. } = station();
+    let waiting = |session: &Session| session.waiting().collect::<Vec<_>>();
+    assert_eq!(waiting(&session), [plan, panel]);
+    assert_eq!(
+        (session.pop(plan), session.pop(panel), waiting(&session)),
+        (Ok(Event::Resize), Ok(Event::Resize), vec![])
+    );
+    assert_eq!((session.route(Event::mouse_move(Pos::new(3, 4))), waiting(&session)), (Ok(()), vec![panel]));
+}
+
+#[test]
+fn what_is_stale() {
+    let Station { mut session, mut store, mut screen, plan, panel } = station();
+    let whole = Rect::new(0, 0, 8, 8);
+    assert_eq!(session.stale(Meant::Redraw, whole), Ok(Some(whole)));
+    assert_eq!(session.redraw(false, 8, 8, &store, &mut screen), Ok(()));
+    assert_eq!(
+        (session.stale(Meant::Redraw, whole), session.stale(Meant::Portion, whole)),
+        (Ok(None), Err(Error::NoWalk))
+    );
+    let part = Rect::new(1, 1, 3, 3);
+    assert_eq!(session.stale(Meant::ForcedRedraw, part), Ok(Some(part)));
+    // Of the pixels written, two rows lie under the panel.
+    assert_eq!((session.fill(plan, Rect::new(2, 2, 2, 3), 7, &mut store), session.mark(plan)), (Ok(6), Ok(())));
+    assert_eq!(session.stale(Meant::Redraw, whole), Ok(Some(Rect::new(2, 2, 2, 1))));
+    assert_eq!((session.begin(false), session.stale(Meant::Portion, whole)), (Ok(()), Ok(Some(Rect::new(2, 2, 2, 1)))));
+    assert_eq!((session.portion(8, 8, &store, &mut screen), session.stale(Meant::Portion, whole)), (Ok(()), Ok(None)));
+    assert_eq!((session.drag(panel, 3, 3), session.stale(Meant::Redraw, whole)), (Ok(()), Ok(Some(whole))));
+    assert_eq!(session.redraw(false, 8, 8, &store, &mut screen), Ok(()));
+    assert_eq!(
+        (session.drag(panel, 2, 3), session.stale(Meant::Redraw, whole)),
+        (Ok(()), Ok(Some(Rect::new(2, 3, 5, 3))))
+    );
+    assert_eq!(session.stale(Meant::Redraw, Rect::new(0, 32_768, 1, 1)), Err(Error::TooLarge));
+}
+
+#[test]
+fn how_things_stand() {
+    let Station { mut session, mut store, mut screen, plan, panel } = station();
+    let fresh = SessionState { grab: None, dimmed: false, owed: true, walk: None, ..session.state() };
+    assert_eq!((fresh, fresh.c, fresh.shown, fresh.focus, fresh.displays), (session.state(), C, 2, Some(panel), 0));
+    assert_eq!((session.route(press(3, 4)), session.dim(true), session.begin(true)), (Ok(()), Ok(()), Ok(())));
+    assert_eq!(
+        (session.portion(8, 8, &store, &mut screen), session.add_display(Rect::new(0, 0, 8, 8))),
+        (Ok(()), Ok(()))
+    );
+    let walk = Some(Walk { full: true, left: 1 });
+    assert_eq!(session.state(), SessionState { grab: Some(panel), dimmed: true, walk, displays: 1, ..fresh });
+    let placed = WindowState {
+        rect: Rect::new(2, 3, 4, 3),
+        place: Some(1),
+        layer: 0,
+        maximised: false,
+        marked: false,
+        queued: 2,
+        moved: false,
+    };
+    assert_eq!((session.window(panel), session.window(plan).unwrap().place), (Ok(placed), Some(0)));
+    assert_eq!((session.maximise(panel, &mut store), session.set_layer(panel, 1)), (Ok(()), Ok(())));
+    assert_eq!((session.mark(panel), session.route(Event::mouse_move(Pos::new(3, 4)))), (Ok(()), Ok(())));
+    let (rect, place) = (Rect::new(0, 0, 8, 8), Some(1));
+    let changed = WindowState { rect, place, layer: 1, maximised: true, marked: true, queued: 3, moved: true };
+    assert_eq!(session.window(panel), Ok(changed));
+    assert_eq!((session.hide(panel), session.window(panel)), (Ok(()), Ok(WindowState { place: None, ..changed })));
+    assert_eq!((session.hide(plan), session.state().focus, session.state().walk), (Ok(()), None, None));
+}
+
+#[test]
 fn views() {
     let Station { mut session, plan, panel, .. } = station();
     let mut list = [Rect::default(); MOST_RECTS];
@@ -330,5 +400,5 @@ fn times_alone() {
 #[test]
 fn an_error_says_its_question() {
     let said = Error::NoEvent.to_string();
-    assert_eq!(said, "question 10 was answered with a no: there is an event to pop");
+    assert_eq!(said, "the window has no event to pop");
 }
