@@ -27,6 +27,10 @@ impl Damage {
     pub fn count(&self) -> usize {
         self.0.len()
     }
+    /// Whether a pixel is drawn of a window that is marked: all are where there is no entry.
+    pub fn has(&self, x: u32, y: u32) -> bool {
+        self.0.is_empty() || self.0.iter().any(|entry| entry.has(x, y))
+    }
     pub fn is_full(&self) -> bool {
         self.0.len() == 16
     }

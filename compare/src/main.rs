@@ -33,10 +33,13 @@ mod sheet;
 mod sheets;
 mod shrink;
 mod sides;
+mod stale;
+mod standing;
 mod surfaces;
 mod tally;
 mod text;
 mod times;
+mod waits;
 mod wide;
 
 use player::{Mode, Player};

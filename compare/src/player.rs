@@ -1,4 +1,5 @@
 //! Plays call scripts on the original.
+use crate::area::Area;
 use crate::bare;
 use crate::busiest;
 use crate::call::{read, Call, Line};
@@ -12,6 +13,8 @@ use crate::questions::{answer, cannot, Lent, SCREEN};
 use crate::shadow::{Seen, Shadow};
 use crate::share;
 use crate::sheet;
+use crate::stale;
+use crate::standing;
 use crate::surfaces;
 use crate::text::Text;
 use original::input::Event;
@@ -144,13 +147,17 @@ impl Player {
     fn make(&mut self, call: &Call, out: &mut Text) -> usize {
         match *call {
             Call::Route(event) => {
+                let taker = self.shadow.taker(&event, usize::from(self.group.focus()));
                 let answer = events::route(&mut self.group, event);
                 if answer == 0 {
-                    self.shadow.took(&event);
+                    self.shadow.took(&event, taker);
                 }
                 out.answer(answer);
             }
-            Call::Pop(id) => events::pop(&mut self.group, id, out),
+            Call::Pop(id) => {
+                events::pop(&mut self.group, id, out);
+                self.shadow.waits.pop(id as usize);
+            }
             Call::Create => {
                 let id = self.group.create();
                 out.answer(0);
@@ -227,6 +234,13 @@ impl Player {
             Call::Busiest(ref times) => {
                 let second = busiest::second(times);
                 out.numbers(&[second.count, second.place]);
+            }
+            Call::Stale(which, ref area) => stale::tell(&self.shadow, which, &Area::of(area), out),
+            Call::Waiting => out.number(self.shadow.waits.bits(&self.shadow.places.used)),
+            Call::Window(id) => out.numbers(&standing::window(&self.shadow, id as usize)),
+            Call::Session => {
+                out.number(self.lent.c);
+                out.numbers(&standing::session(&self.shadow, u32::from(self.group.focus())));
             }
             Call::Share(id) => out.numbers(&share::percent_and_remainder(&self.group, id)),
             Call::Look(ref look) => out.numbers(&look::target(&self.group, look)),

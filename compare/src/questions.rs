@@ -83,6 +83,11 @@ pub fn answer(call: &Call, group: &Group, lent: &Lent, shadow: &Shadow) -> u8 {
         Call::Route(event) => first_no(&[(21, !matches!(event, Event::KeyFire(_))), small_point(event)]),
         Call::Redraw(_, w, h) => first_no(&[store(), screen(*w, *h)]),
         Call::Portion(w, h) => first_no(&[store(), screen(*w, *h), (20, shadow.is_walking())]),
+        Call::Stale(which, area) => {
+            let is_there = *which != 2 || shadow.is_walking();
+            first_no(&[small_rect(area), (28, *which <= 2), (20, is_there)])
+        }
+        Call::Window(id) => first_no(&[used(*id)]),
         Call::Visible(id) => {
             let needed = |id| 4 * group.visible(id).len() as u64;
             let room = u64::from(lent.list.unwrap_or(VISIBLE));

@@ -5,6 +5,7 @@ use crate::call::Call;
 use crate::damage::{Damage, Direction, Joined};
 use crate::entry::Entry;
 use crate::places::Places;
+use crate::waits::Waits;
 use original::input::Event;
 
 /// What the shadow saw, for the table.
@@ -33,22 +34,23 @@ pub struct Released {
 
 /// A redraw that was begun and is neither over nor dropped: so many windows of the order are done.
 #[derive(Clone, Copy)]
-struct Walk {
-    done: usize,
-    full: bool,
+pub struct Walk {
+    pub done: usize,
+    pub full: bool,
 }
 
 #[derive(Clone, Default)]
 pub struct Shadow {
     pub places: Places,
-    damage: [Damage; 16],
-    marked: [bool; 16],
+    pub damage: [Damage; 16],
+    pub marked: [bool; 16],
+    pub waits: Waits,
     /// "A full redraw is owed"
     pub owed: bool,
-    walk: Option<Walk>,
+    pub walk: Option<Walk>,
     dimmed: bool,
     /// "The window that took the last MouseDown"
-    held: Option<usize>,
+    pub held: Option<usize>,
     pub seen: Seen,
 }
 
@@ -113,8 +115,23 @@ impl Shadow {
         }
     }
 
-    /// Follows an event that a window took.
-    pub fn took(&mut self, event: &Event) {
+    /// The window that takes an event which is accepted, in the common ground: there a release goes to the topmost one.
+    pub fn taker(&self, event: &Event, focus: usize) -> Option<usize> {
+        use Event::{KeyDown, KeyFire, KeyUp, MouseClick, MouseDown, MouseMove, MouseUp, Resize, Text};
+        match *event {
+            Resize => None,
+            KeyDown(_) | KeyUp(_) | KeyFire(_) | Text(_) => Some(focus),
+            MouseMove(x, y, ..) | MouseDown(x, y, _) | MouseClick(x, y, ..) | MouseUp(x, y, _) => {
+                self.places.topmost(x, y)
+            }
+        }
+    }
+
+    /// Follows an event that was accepted: that window took it, or none.
+    pub fn took(&mut self, event: &Event, taker: Option<usize>) {
+        if let Some(id) = taker {
+            self.waits.took(event, id);
+        }
         match *event {
             Event::MouseDown(x, y, _) => self.held = self.places.topmost(x, y),
             Event::MouseUp(..) => self.held = None,
@@ -145,6 +162,7 @@ impl Shadow {
         self.places.count_dims(call, &mut self.seen.dims);
         for (id, to) in self.places.sizes_taken(call) {
             self.damage[id].set(Area::new(0, 0, to.w(), to.h()));
+            self.waits.queue(id);
         }
         if let Some(places) = self.places.after(call) {
             let owes = places.owes(&self.places, call);
@@ -167,7 +185,10 @@ impl Shadow {
             Call::Create => self.create(id),
             Call::Display(region) => self.places.displays.add(Area::of(region)),
             Call::Mark(id) => self.marked[*id as usize] = true,
-            Call::Resize(id, w, h) => self.damage[*id as usize].set(Area::new(0, 0, *w, *h)),
+            Call::Resize(id, w, h) => {
+                self.damage[*id as usize].set(Area::new(0, 0, *w, *h));
+                self.waits.queue(*id as usize);
+            }
             Call::Fill(id, area, _) => self.fill(*id as usize, Area::of(area)),
             Call::Blit(id, area, ..) => self.hurt(*id as usize, Area::of(area)),
             Call::Redraw(forced, ..) => self.redraw(*forced),
@@ -182,6 +203,7 @@ impl Shadow {
         self.places.create(id);
         self.damage[id] = Damage::default();
         self.marked[id] = false;
+        self.waits.create(id);
     }
 
     fn fill(&mut self, id: usize, area: Area) {

@@ -13,6 +13,7 @@ pub struct Tally {
     writes: BTreeMap<String, u64>,
     points: BTreeMap<String, u64>,
     sheets: BTreeMap<String, u64>,
+    stale: BTreeMap<String, u64>,
     /// Calls in the common ground: accepted, or refused by 10, 11 or 12, and so made on both. A begin is nothing to the original.
     pub calls: u64,
     pub lists: u64,
@@ -24,7 +25,7 @@ pub struct Tally {
 const WRITES: [&str; 4] = ["fill", "blit", "fill-scanline", "set-scanline"];
 
 /// Lines that make no call of the original.
-const NO_CALL: [&str; 15] = [
+const NO_CALL: [&str; 19] = [
     "lend",
     "lend-screen",
     "lend-list",
@@ -40,6 +41,10 @@ const NO_CALL: [&str; 15] = [
     "look-fit",
     "sheet",
     "read-sheet",
+    "stale",
+    "waiting",
+    "window",
+    "session",
 ];
 
 impl Tally {
@@ -63,6 +68,9 @@ impl Tally {
         }
         if matches!(word, "sheet" | "read-sheet") {
             add(&mut self.sheets, &format!("{word}, {}", listed(written.trim_end())));
+        }
+        if word == "stale" {
+            add(&mut self.stale, &how_stale(line, written.trim_end()));
         }
         if NO_CALL.contains(&word) {
             return;
@@ -122,6 +130,8 @@ impl Tally {
         self.points.iter().for_each(|(whose, count)| println!("  {whose:14} {count:9}"));
         println!("sheets written and read:");
         self.sheets.iter().for_each(|(how, count)| println!("  {how:27} {count:9}"));
+        println!("what is stale:");
+        self.stale.iter().for_each(|(how, count)| println!("  {how:14} {count:9}"));
         println!("damage:");
         let seen = &self.seen;
         let damage = [("contained", seen.contained), ("merged right", seen.right), ("merged down", seen.down)];
@@ -171,6 +181,16 @@ fn listed(written: &str) -> String {
             Some(_) => "of pixels".to_string(),
             None => format!("refused by {written}"),
         },
+    }
+}
+
+/// What the answer to a `stale` says.
+fn how_stale(line: &str, written: &str) -> String {
+    match written.split_once(' ') {
+        None => format!("refused by {written}"),
+        Some((_, "none")) => "nothing".to_string(),
+        Some((_, rect)) if line.ends_with(rect) => "all of the area".to_string(),
+        Some(_) => "a part of it".to_string(),
     }
 }
 

@@ -8,6 +8,7 @@ mod no_calls;
 mod paint;
 mod scene;
 mod sheets;
+mod standing;
 mod state;
 mod walks;
 mod wrong;
@@ -98,6 +99,10 @@ impl<'a> Maker<'a> {
             (12, Maker::look),
             (5, Maker::share),
             (4, Maker::hits),
+            (4, Maker::stale),
+            (2, Maker::waiting),
+            (3, Maker::window),
+            (2, Maker::session),
             (4, Maker::sheet),
             (8, Maker::geometry),
             (6, Maker::bare_pixels),

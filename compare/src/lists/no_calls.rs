@@ -1,7 +1,7 @@
 //! Lines that make no call: passed over, malformed, or above the program's limits; and two that only look so.
 
 #[rustfmt::skip]
-pub const NO_CALLS: [&str; 97] = [
+pub const NO_CALLS: [&str; 106] = [
     "", "#", "# show 0", " ", "   ", " #", "Create", "create 0", "create\t", "show", "show 1 2", "show -1", "show +1",
     "show 1.0", "show 0x1", "show 4294967296", "show 00000000000000000000000018", "  show   16  ", "move 0 0",
     "redraw 2 4 4", "redraw 1 4", "mousedown 0 0 256", "mouseclick 0 0 0 256", "mouseup 0 0", "keydown",
@@ -15,5 +15,6 @@ pub const NO_CALLS: [&str; 97] = [
     "layer", "layer 0", "layer 0 0 0", "display", "display 0 0 1", "display 0 0 1 1 1", "display-at", "display-at 1",
     "display-at 1 1 1", "maximise", "maximise 0 0", "update-dims 0", "sheet", "sheet 0 0", "sheet -1", "lend-sheet",
     "lend-sheet 2049", "lend-sheet 1 1", "read-sheet 256", "read-sheet 0 -1", "read-sheet 4294967296", "raise",
-    "raise 0 0", "drag", "drag 0 0", "drag 0 0 0 0",
+    "raise 0 0", "drag", "drag 0 0", "drag 0 0 0 0", "stale", "stale 0 0 0 1", "stale 0 0 0 1 1 1", "stale -1 0 0 1 1",
+    "waiting 0", "window", "window 0 0", "window -1", "session 0",
 ];

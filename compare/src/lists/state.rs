@@ -32,18 +32,22 @@ impl Maker<'_> {
         self.say(&format!("share {id}"))
     }
 
-    /// All of it: lists, pixels, events, focus and screen.
+    /// All of it: how things stand, lists, pixels, events, focus and screen.
     pub fn whole_state(&mut self) -> Step {
         self.say("focus")?;
+        self.say("session")?;
+        self.say("waiting")?;
         for id in 0..16 {
             if !self.script.player.shadow.places.used[id as usize] {
                 continue;
             }
+            self.say(&format!("window {id}"))?;
             self.visible(id)?;
             self.say(&format!("pixels {id}"))?;
             self.pop_all(id)?;
         }
         let (w, h) = self.scene.screen;
+        self.say(&format!("stale 0 0 0 {w} {h}"))?;
         self.say(&format!("redraw 0 {w} {h}"))?;
         self.screen()
     }
