@@ -66,7 +66,7 @@ static uint8_t sheet[2048];
 static size_t sheet_len;
 static RoqSession *const s = &session;
 static const RoqLook twice = {17.75, 9.25, 2, false};
-static const RoqRect area = {{10, 20}, {8, 8}}, other = {{12, 14}, {3, 30}};
+static const RoqRect area = {{10, 20}, {8, 8}}, other = {{12, 14}, {3, 30}}, whole = {{0, 0}, {WIDTH, HEIGHT}}, one = {{0, 0}, {1, 1}};
 static const RoqRect little = {{50, 40}, {16, 16}}, button = {{50, 40}, {100, 50}};
 static const RoqPos point = {11, 21};
 /* On the lowest window of the cascade, so that every window is looked at. */
@@ -195,14 +195,22 @@ static void none(void) {}
     ROW(roq_route, _move, cascade, roq_route(s, move))                                                     \
     ROW(roq_route, _release, pressed, roq_route(s, release))                                               \
     ROW(roq_pop, , queued, roq_pop(s, 0).answer)                                                           \
+    ROW(roq_waiting, , queued, roq_waiting(s) == 0)                                                        \
     ROW(roq_redraw, _nothing, cascade, roq_redraw(s, false, WIDTH, HEIGHT, store, ROOM, screen, C))        \
     ROW(roq_redraw, _button, painted, roq_redraw(s, false, WIDTH, HEIGHT, store, ROOM, screen, C))         \
     ROW(roq_redraw, _full, cascade, roq_redraw(s, true, WIDTH, HEIGHT, store, ROOM, screen, C))            \
     ROW(roq_redraw, _crossing, crossing, roq_redraw(s, true, WIDTH, HEIGHT, store, ROOM, screen, C))       \
+    ROW(roq_redraw, _1_by_1, crossing, roq_redraw(s, true, 1, 1, store, ROOM, screen, 1))                  \
     ROW(roq_redraw, _dimmed, dimmed, roq_redraw(s, true, WIDTH, HEIGHT, store, ROOM, screen, C))           \
     ROW(roq_begin, , cascade, roq_begin(s, true))                                                          \
     ROW(roq_portion, , walked, roq_portion(s, WIDTH, HEIGHT, store, ROOM, screen, C))                      \
     ROW(roq_dim, , cascade, roq_dim(s, true))                                                              \
+    ROW(roq_stale, _1_by_1, crossing, roq_stale(s, ROQ_REDRAW_FORCED, one).answer)                         \
+    ROW(roq_stale, _nothing, cascade, roq_stale(s, ROQ_REDRAW, whole).answer)                              \
+    ROW(roq_stale, _button, painted, roq_stale(s, ROQ_REDRAW, whole).answer)                               \
+    ROW(roq_stale, _full, cascade, roq_stale(s, ROQ_REDRAW_FORCED, whole).answer)                          \
+    ROW(roq_stale, _crossing, crossing, roq_stale(s, ROQ_REDRAW_FORCED, whole).answer)                     \
+    ROW(roq_stale, _portion, walked, roq_stale(s, ROQ_PORTION, whole).answer)                              \
     ROW(roq_visible, , crossing, roq_visible(s, 0, list, LIST).answer)                                     \
     ROW(roq_share, , crossing, roq_share(s, 0).answer)                                                     \
     ROW(roq_hits, , cascade, roq_hits(s, points, 64, list, 96))                                            \
@@ -210,6 +218,8 @@ static void none(void) {}
     ROW(roq_sheet, , crossing, roq_sheet(s, 0, sheet, sizeof sheet).answer)                                \
     ROW(roq_focus, , none, roq_focus(s) == 16)                                                             \
     ROW(roq_rect_of, , cascade, roq_rect_of(s, 3).answer)                                                  \
+    ROW(roq_window, , cascade, roq_window(s, 3).answer)                                                    \
+    ROW(roq_state, , cascade, roq_state(s).c != C)                                                         \
     ROW(roq_contains, , none, roq_contains(area, point).answer)                                            \
     ROW(roq_contains_rect, , none, roq_contains_rect(area, other).answer)                                  \
     ROW(roq_within, , none, roq_within(area, 100, 100).answer)                                             \
@@ -221,7 +231,9 @@ static void none(void) {}
     ROW(roq_set_scanline, , none, roq_set_scanline(screen, C, WIDTH, HEIGHT, 3, 2, 100, data, 100).answer) \
     ROW(roq_region, , none, roq_region(screen, C, WIDTH, 1, 2, 3, 4).answer)                               \
     ROW(roq_read_sheet, , written, roq_read_sheet(sheet, sheet_len, list, LIST).answer)                    \
-    ROW(roq_busiest, , none, roq_busiest(times, 4096).answer)
+    ROW(roq_busiest, , none, roq_busiest(times, 4096).answer)                                              \
+    ROW(roq_version, , none, roq_version() != ROQ_VERSION)                                                 \
+    ROW(roq_session_size, , none, roq_session_size() != sizeof session)
 
 #define RUN(function, what, scene, call) \
     __attribute__((noinline)) static uint32_t row_##function##what(void) { return call; }

@@ -43,10 +43,12 @@ static const RoqEvent press = {25, 25, 0, 0, 0, ROQ_MOUSE_DOWN, 1, 0};
     CALL(roq_blit, (s, 0, area, 8, data, 64, store, 16 * C))                           \
     CALL(roq_route, (s, press))                                                        \
     CALL(roq_pop, (s, 0))                                                              \
+    CALL(roq_waiting, (s))                                                             \
     CALL(roq_redraw, (s, true, WIDTH, HEIGHT, store, 16 * C, screen, C))               \
     CALL(roq_begin, (s, true))                                                         \
     CALL(roq_portion, (s, WIDTH, HEIGHT, store, 16 * C, screen, C))                    \
     CALL(roq_dim, (s, false))                                                          \
+    CALL(roq_stale, (s, ROQ_PORTION, whole))                                           \
     CALL(roq_visible, (s, 0, list, 1984))                                              \
     CALL(roq_share, (s, 0))                                                            \
     CALL(roq_hits, (s, data, 64, list, 1984))                                          \
@@ -54,6 +56,8 @@ static const RoqEvent press = {25, 25, 0, 0, 0, ROQ_MOUSE_DOWN, 1, 0};
     CALL(roq_sheet, (s, 0, sheet, 2048))                                               \
     CALL(roq_focus, (s))                                                               \
     CALL(roq_rect_of, (s, 0))                                                          \
+    CALL(roq_window, (s, 0))                                                           \
+    CALL(roq_state, (s))                                                               \
     CALL(roq_contains, (area, point))                                                  \
     CALL(roq_contains_rect, (area, other))                                             \
     CALL(roq_within, (area, 100, 100))                                                 \
@@ -65,7 +69,9 @@ static const RoqEvent press = {25, 25, 0, 0, 0, ROQ_MOUSE_DOWN, 1, 0};
     CALL(roq_set_scanline, (screen, C, WIDTH, HEIGHT, 3, 2, 100, data, 64))            \
     CALL(roq_region, (screen, C, WIDTH, 1, 2, 3, 4))                                   \
     CALL(roq_read_sheet, (sheet, sheet_len, list, 1984))                               \
-    CALL(roq_busiest, (data, 64))
+    CALL(roq_busiest, (data, 64))                                                      \
+    CALL(roq_version, ())                                                              \
+    CALL(roq_session_size, ())
 
 static void nothing(void) {}
 #define RUN(name, arguments) static void run_##name(void) { (void)name arguments; }

@@ -53,6 +53,8 @@ calls! {
     Begin(bool) => "roq_begin",
     Portion => "roq_portion",
     Dim(bool) => "roq_dim",
+    /// Of a forced redraw, on the whole screen.
+    Stale => "roq_stale",
     Visible(u32) => "roq_visible",
     Share(u32) => "roq_share",
     Hits(Vec<Pos>) => "roq_hits",

@@ -25,6 +25,8 @@ pub enum Beside {
     Bright,
     /// Our own library, with a visible list in place of a share.
     Listed,
+    /// Our own library, with a forced redraw in place of what it makes stale.
+    Drawn,
     /// A loop in Rust with the rule of a look in f64.
     Floats,
     /// A loop over event times in Rust, the same as ours.
@@ -43,6 +45,7 @@ impl Beside {
             Beside::Moved => "moves",
             Beside::Bright => "dimming off",
             Beside::Listed => "visible list",
+            Beside::Drawn => "redraw",
         }
     }
     pub fn is_pixman(self) -> bool {

@@ -17,6 +17,7 @@ use crate::scene::{
 use crate::seconds;
 use crate::shares;
 use crate::sheets;
+use crate::stales;
 
 pub const LISTS: &str =
     "the original makes its visible lists here, we make them when a redraw or a visible list needs them";
@@ -55,6 +56,7 @@ pub fn table() -> Vec<Class> {
     all.extend(seconds::classes());
     all.extend(dimming::classes());
     all.extend(shares::classes());
+    all.extend(stales::classes());
     all.extend(points::classes());
     all.extend(looks::classes());
     all.extend(sheets::classes());

@@ -1,9 +1,9 @@
 //! Archives of earlier commits, which have no walks, no dimming, no layers, no raise, no drag, no displays, no busiest
-//! second, no share, no answer for many points, no look or no sheets: there these functions answer 20, 20, 17, 17, 17,
-//! 16, 26, 24, 25, 22 and 19. Where an archive has its own, those are linked.
+//! second, no share, no answer for many points, no look, no sheets or nothing stale: there these functions answer 20, 20,
+//! 17, 17, 17, 16, 26, 24, 25, 22, 19 and 28. Where an archive has its own, those are linked.
 use crate::call::Call;
 use crate::class::{Beside, Class};
-use roqshyn::{busiest, Error, Id, Look, Rect, Session};
+use roqshyn::{busiest, Error, Id, Look, Meant, Rect, Session};
 
 std::arch::global_asm!(".weak roq_begin", "roq_begin:", ".weak roq_portion", "roq_portion:", "mov eax, 20", "ret");
 std::arch::global_asm!(".weak roq_hits", "roq_hits:", "mov eax, 25", "ret");
@@ -13,6 +13,8 @@ std::arch::global_asm!(".weak roq_drag", "roq_drag:", "mov eax, 17", "ret");
 std::arch::global_asm!(".weak roq_look", "roq_look:", "mov eax, 22", "ret");
 std::arch::global_asm!(".weak roq_add_display", "roq_add_display:", ".weak roq_maximise", "roq_maximise:");
 std::arch::global_asm!(".weak roq_update_dims", "roq_update_dims:", "mov eax, 16", "ret");
+// The bindings ask for the bytes of a session; an archive without the answer is taken to have as many.
+std::arch::global_asm!(".weak roq_session_size", "roq_session_size:", "mov eax, {}", "ret", const size_of::<Session>());
 // The struct goes back in two registers, here and in the next two.
 std::arch::global_asm!(".weak roq_share", "roq_share:", "mov eax, 24", "xor edx, edx", "ret");
 std::arch::global_asm!(
@@ -24,7 +26,16 @@ std::arch::global_asm!(
     "xor edx, edx",
     "ret"
 );
-// The caller hands over where the struct goes.
+// The caller hands over where the struct goes, here and in the next two.
+std::arch::global_asm!(
+    ".weak roq_stale",
+    "roq_stale:",
+    "mov rax, rdi",
+    "mov qword ptr [rdi], 28",
+    "mov qword ptr [rdi + 8], 0",
+    "mov qword ptr [rdi + 16], 0",
+    "ret"
+);
 std::arch::global_asm!(".weak roq_display_at", "roq_display_at:", "mov rax, rdi", "mov dword ptr [rdi], 16", "ret");
 std::arch::global_asm!(
     ".weak roq_busiest",
@@ -46,6 +57,9 @@ pub fn has(class: &Class) -> bool {
     let mut session = Session::start(1).expect("C is 1");
     if let [Call::Share(_)] = class.timed[..] {
         return session.share(Id::from(0)) == Err(Error::UnknownId);
+    }
+    if let [Call::Stale] = class.timed[..] {
+        return session.stale(Meant::Redraw, Rect::default()).is_ok();
     }
     if let [Call::Sheet(_) | Call::ReadSheet] = class.timed[..] {
         return session.sheet(Id::from(0), &mut []) == Err(Error::UnknownId);

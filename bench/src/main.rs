@@ -29,6 +29,7 @@ mod scene;
 mod seconds;
 mod shares;
 mod sheets;
+mod stales;
 mod summary;
 mod targets;
 mod undivided;
@@ -99,7 +100,7 @@ fn tell(classes: &[Class], results: &[Measured], runs: &[Vec<Measured>]) -> Stri
     let table = |beside| report::table(beside, classes, results, runs);
     let (original, loops, undivided) = (table(Beside::Original), table(Beside::Loops), table(Beside::Undivided));
     let (one_pass, square, listed) = (table(Beside::OnePass), table(Beside::Square), table(Beside::Listed));
-    let moved = table(Beside::Moved);
+    let (moved, drawn) = (table(Beside::Moved), table(Beside::Drawn));
     let (through, bright, floats) = (table(Beside::Table), table(Beside::Bright), table(Beside::Floats));
     let pixman = if pixman::INSTALLED { table(Beside::Pixman) } else { report::NO_PIXMAN.to_string() };
     format!(
@@ -110,6 +111,7 @@ fn tell(classes: &[Class], results: &[Measured], runs: &[Vec<Measured>]) -> Stri
          ## Busiest second of 4,096 events beside the same loop in Rust\n\n{one_pass}\n\
          ## Busiest second of 4,096 events beside the square form in Rust\n\n{square}\n\
          ## Share in view beside our visible list and the sum of its areas\n\n{listed}\n\
+         ## What is stale of one pixel beside our redraw 1 by 1\n\n{drawn}\n\
          ## Dimmed redraw beside a loop over the same table in Rust\n\n{through}\n\
          ## Dimmed redraw beside our redraw with dimming off\n\n{bright}\n\
          ## A closer look beside a loop in f64 in Rust\n\n{floats}",

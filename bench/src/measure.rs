@@ -13,6 +13,7 @@ use crate::pixman::Pixman;
 use crate::plain::Plain;
 use crate::seconds::InRust;
 use crate::shares::listed;
+use crate::stales::drawn;
 use crate::undivided::undivided;
 use crate::unlocked;
 use std::hint::black_box;
@@ -79,6 +80,7 @@ pub fn measure(class: &Class) -> Measured {
         Beside::Table => beside(class, Some(through(ours()))),
         Beside::Bright => beside(class, Some(Bright::new(ours()))),
         Beside::Listed => beside(class, Some(listed(ours()))),
+        Beside::Drawn => beside(class, Some(drawn(ours()))),
         Beside::Floats => beside(class, Some(floats(ours()))),
         Beside::OnePass => beside(class, Some(InRust::one_pass())),
         Beside::Square => beside(class, Some(InRust::square())),

@@ -5,7 +5,7 @@ use crate::dimming;
 use crate::plain::{Piece, Plain};
 use crate::shares;
 use roqshyn::{
-    busiest, read_sheet, Error, Event, Hit, Id, Located, Look, Pos, Rect, Session, Share, Zoom, MOST_POINTS,
+    busiest, read_sheet, Error, Event, Hit, Id, Located, Look, Meant, Pos, Rect, Session, Share, Zoom, MOST_POINTS,
     MOST_RECTS, MOST_SHEET,
 };
 use std::arch::x86_64::{_mm_clflush, _mm_mfence};
@@ -172,6 +172,7 @@ impl Side for Ours {
             }
             Call::ReadSheet => return Reply::Count(self.read().map_or(0, <[_]>::len)),
             Call::Busiest(ref times) => return Reply::Second(busiest(times)),
+            Call::Stale => answer(s.stale(Meant::ForcedRedraw, Rect::new(0, 0, self.width, self.height))),
             Call::Show(id) => answer(s.show(Id::from(id))),
             Call::Raise(id) => answer(s.raise(Id::from(id))),
             Call::Hide(id) => answer(s.hide(Id::from(id))),

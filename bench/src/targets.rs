@@ -13,6 +13,7 @@ use crate::report::{range, whole, NO_PIXMAN};
 use crate::seconds::BUSIEST;
 use crate::shares::SHARE;
 use crate::sheets::{READ, WRITTEN};
+use crate::stales::STALE;
 use crate::summary::Numbers;
 
 #[derive(Clone, Copy)]
@@ -41,7 +42,7 @@ const fn target(what: &'static str, beside: Beside, classes: &'static [&'static 
 const FULL: &[&str] = &["full redraw 800", "full redraw 6,400"];
 const MIXES: &[&str] = &[MIX, "the same, panels anywhere", MIX_OF_EIGHT];
 
-const TARGETS: [Target; 43] = [
+const TARGETS: [Target; 44] = [
     target("mark", Beside::Original, &["mark"], Time(1.0)),
     target("move", Beside::Original, &["move, "], Time(1.0)),
     target("drag", Beside::Original, &[DRAG], Time(1.0)),
@@ -79,6 +80,7 @@ const TARGETS: [Target; 43] = [
     target("share in view", Beside::Pixman, &[SHARE], Time(1.0)),
     target("share in view", Beside::PixmanAtOnce, &[SHARE], Time(1.0)),
     target("share in view", Beside::Listed, &[SHARE], Time(1.0)),
+    target("what is stale, 1 by 1", Beside::Drawn, &[STALE], Time(2.0)),
     target("32 points together", Beside::Original, &[POINTS], Time(1.0)),
     target("region sheet, written", Beside::Pixman, &[WRITTEN], Time(1.0)),
     target("region sheet, written", Beside::PixmanAtOnce, &[WRITTEN], Time(1.0)),
@@ -105,6 +107,7 @@ impl Target {
             (_, Beside::Table) => "a loop over the same table in Rust, time",
             (_, Beside::Bright) => "our redraw with dimming off, time",
             (_, Beside::Listed) => "our visible list, time",
+            (_, Beside::Drawn) => "our redraw 1 by 1, time",
             (_, Beside::Floats) => "a loop with the same rule in f64 in Rust, time",
             (_, Beside::OnePass) => "the same loop in Rust, time",
             (_, Beside::Square) => "the square form in Rust, time",

@@ -124,7 +124,9 @@ impl Side for Theirs {
                 self.points.clear();
                 self.points.extend(points.iter().map(|point| g.at(point.x, point.y)));
             }
-            Call::Begin(_) | Call::Portion | Call::Dim(_) => unreachable!("the original has no such call"),
+            Call::Begin(_) | Call::Portion | Call::Dim(_) | Call::Stale => {
+                unreachable!("the original has no such call")
+            }
             Call::Share(_) | Call::Look(..) | Call::Sheet(_) | Call::ReadSheet | Call::Busiest(_) => {
                 unreachable!("the original has no such call")
             }
