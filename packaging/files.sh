@@ -15,11 +15,16 @@ put() {
   command install -m 644 -- "${@:1:$#-1}" "$stage${!#}"
 }
 
+# header_version: as 1.0.0.
+header_version() {
+  sed -n 's/^#define ROQ_VERSION_\(MAJOR\|MINOR\|PATCH\) //p' include/roqshyn.h | paste -sd .
+}
+
 # filled NAME FOLDER: puts packaging/NAME.in there, with the version and the way from LIBDIR to PREFIX.
 filled() {
   local way
   way=$(realpath -ms --relative-to="$libdir" -- "$prefix")
-  sed -e "s|@VERSION@|$version|" -e "s|@MINOR@|${version%.*}|" -e "s|@PREFIX@|$way|" "packaging/$1.in" >"$stage$2/$1"
+  sed -e "s|@VERSION@|$version|" -e "s|@MAJOR@|${version%%.*}|" -e "s|@PREFIX@|$way|" "packaging/$1.in" >"$stage$2/$1"
   chmod 644 "$stage$2/$1"
 }
 
@@ -42,7 +47,7 @@ commit() {
 
 files() {
   local version
-  version=$(sed -n 's/^version = "\(.*\)"$/\1/p' bindings/rust/Cargo.toml)
+  version=$(header_version)
   put include/roqshyn.h "$prefix/include"
   put "$archive" "$libdir"
   filled roqshyn.pc "$libdir/pkgconfig"
