@@ -11,7 +11,7 @@
 #include <stdlib.h>
 #include <string.h>
 
-enum { W = 800, H = 480, DISPLAYS = 8, WIDTH = DISPLAYS * W, SCREEN = WIDTH * H, C = W * H, STORE = 16 * C };
+enum { W = 800, H = 480, DISPLAYS = ROQ_DISPLAYS, WIDTH = DISPLAYS * W, SCREEN = WIDTH * H, C = W * H, STORE = ROQ_WINDOWS * C };
 enum { PW = 300, PH = 200, STEPS = 16 };         /* a panel, and the steps in which one is dragged */
 enum { STEP = 4, GAP = 12 };                     /* of the picture: one pixel of so many, and rows between both screens */
 enum { DARK = 0x141418, PAPER = 0xcdd4dc, BLUE = 0x285a96, GREEN = 0x3cbe5a, AMBER = 0xf0b428, RED = 0xdc3c32, WHITE = 0xffffff };
@@ -22,7 +22,7 @@ static uint32_t store[STORE], screen[SCREEN], before[SCREEN];
 
 /* Every call here is one that the library takes: another answer is a mistake of ours. */
 static void must(const char *call, uint32_t answer) {
-    if (answer == 0) return;
+    if (answer == ROQ_OK) return;
     fprintf(stderr, "displays: %s was answered by %u\n", call, (unsigned)answer);
     exit(1);
 }
@@ -71,7 +71,7 @@ static void paint_panel(uint32_t id) {
 
 /* A window that has another size paints itself, and is marked, or it would not be shown. */
 static void hear(void) {
-    for (uint32_t id = 0; id < 16; id++)
+    for (uint32_t id = 0; id < ROQ_WINDOWS; id++)
         while (roq_pop(&s, id).event.kind == ROQ_RESIZE) {
             if (id < DISPLAYS) paint_plan(id);
             else paint_panel(id);

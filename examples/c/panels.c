@@ -3,7 +3,7 @@
 
 #include <stdio.h>
 
-enum { C = 72, WIDTH = 12, HEIGHT = 6, STORE = 16 * C, SCREEN = WIDTH * HEIGHT };
+enum { C = 72, WIDTH = 12, HEIGHT = 6, STORE = ROQ_WINDOWS * C, SCREEN = WIDTH * HEIGHT };
 
 static RoqSession s;
 static uint32_t store[STORE];
@@ -24,12 +24,12 @@ static void say_numbers(uint32_t answer, const uint32_t *numbers, size_t count) 
 static void create(void) {
     RoqCreated made = roq_create(&s);
     uint32_t id = made.id;
-    say_numbers(made.answer, &id, made.answer == 0);
+    say_numbers(made.answer, &id, made.answer == ROQ_OK);
 }
 
 /* The answer of a call that writes pixels, and how many it altered. */
 static void say_altered(RoqAltered written) {
-    if (written.answer == 0)
+    if (written.answer == ROQ_OK)
         printf("0 %zu\n", written.altered);
     else
         say(written.answer);
@@ -41,9 +41,9 @@ static void fill(uint32_t id, uint32_t x, uint32_t y, uint32_t w, uint32_t h, ui
 }
 
 static void visible(uint32_t id) {
-    uint32_t list[1984];
-    RoqListing seen = roq_visible(&s, id, list, 1984);
-    if (seen.answer != 0) {
+    uint32_t list[ROQ_VISIBLE_LEN];
+    RoqListing seen = roq_visible(&s, id, list, ROQ_VISIBLE_LEN);
+    if (seen.answer != ROQ_OK) {
         say(seen.answer);
         return;
     }
@@ -72,13 +72,13 @@ static void pop(uint32_t id) {
     RoqPopped popped = roq_pop(&s, id);
     RoqEvent e = popped.event;
     printf("%u", (unsigned)popped.answer);
-    if (popped.answer == 0 && e.kind == ROQ_RESIZE)
+    if (popped.answer == ROQ_OK && e.kind == ROQ_RESIZE)
         printf(" Resize");
-    else if (popped.answer == 0 && e.kind == ROQ_MOUSE_DOWN)
+    else if (popped.answer == ROQ_OK && e.kind == ROQ_MOUSE_DOWN)
         printf(" MouseDown %u %u %u", (unsigned)e.x, (unsigned)e.y, (unsigned)e.button);
-    else if (popped.answer == 0 && e.kind == ROQ_MOUSE_UP)
+    else if (popped.answer == ROQ_OK && e.kind == ROQ_MOUSE_UP)
         printf(" MouseUp %u %u %u", (unsigned)e.x, (unsigned)e.y, (unsigned)e.button);
-    else if (popped.answer == 0 && e.kind == ROQ_MOUSE_MOVE)
+    else if (popped.answer == ROQ_OK && e.kind == ROQ_MOUSE_MOVE)
         printf(" MouseMove %u %u %d %d", (unsigned)e.x, (unsigned)e.y, e.dx, e.dy);
     printf("\n");
 }
@@ -134,6 +134,57 @@ static void press_panels(void) {
         pop(0);
 }
 
+/* Where a redraw or a portion will write. */
+static void stale(uint32_t which) {
+    const RoqRect whole = {{0, 0}, {WIDTH, HEIGHT}};
+    RoqStale stale = roq_stale(&s, which, whole);
+    RoqRect r = stale.rect;
+    uint32_t numbers[4] = {r.pos.x, r.pos.y, r.dims.w, r.dims.h};
+    if (stale.answer == 0 && !stale.due)
+        printf("0 none\n");
+    else
+        say_numbers(stale.answer, numbers, stale.due ? 4 : 0);
+}
+
+/* The button is painted; what the redraw will write, and what there is to write after it. */
+static void press_button(void) {
+    fill(1, 1, 1, 2, 1, 5);
+    say(roq_mark(&s, 1));
+    stale(ROQ_REDRAW);
+    stale(ROQ_PORTION);
+    say(roq_redraw(&s, false, WIDTH, HEIGHT, store, STORE, screen, SCREEN));
+    stale(ROQ_REDRAW);
+    say_numbers(0, screen, SCREEN);
+}
+
+static void window(uint32_t id) {
+    RoqWindow w = roq_window(&s, id);
+    RoqRect r = w.rect;
+    uint32_t numbers[11] = {r.pos.x, r.pos.y,     r.dims.w, r.dims.h, w.shown, w.place,
+                            w.layer, w.maximised, w.marked, w.queued, w.moved};
+    say_numbers(w.answer, numbers, w.answer == 0 ? 11 : 0);
+}
+
+static void session(void) {
+    RoqState t = roq_state(&s);
+    uint32_t walk = t.walk ? 1 + t.full : 0;
+    uint32_t numbers[9] = {t.c, t.shown, t.focus, t.grab, t.dimmed, t.owed, walk, t.left, t.displays};
+    say_numbers(0, numbers, 9);
+}
+
+/* A press and its release off the panel; what waits; and how things stand. */
+static void ask(void) {
+    press(5, 3);
+    release(1, 3);
+    printf("0 %u\n", (unsigned)roq_waiting(&s));
+    pop(1);
+    pop(1);
+    printf("0 %u\n", (unsigned)roq_waiting(&s));
+    window(1);
+    window(2);
+    session();
+}
+
 /* The plan is raised while the panel is pressed, and then the panel, which gets the release. */
 static void raise_both(void) {
     press(5, 3);
@@ -187,9 +238,8 @@ static void maximise(void) {
 int main(void) {
     draw_panels();
     press_panels();
-    fill(1, 1, 1, 2, 1, 5);
-    say(roq_mark(&s, 1));
-    redraw();
+    press_button();
+    ask();
     raise_both();
     drag_panel();
     keep_on_top();

@@ -9,15 +9,14 @@
 #include <stdlib.h>
 #include <string.h>
 
-enum { W = 40, H = 12, C = W * H, STORE = 16 * C };
-enum { BYTES = 2048, LIST = 1984 }; /* room for every sheet of a session, and for its rectangles */
+enum { W = 40, H = 12, C = W * H, STORE = ROQ_WINDOWS * C };
 
 static RoqSession s;
 static uint32_t store[STORE];
 
 /* Every call of the station is one that the library takes: another answer is a mistake of ours. */
 static void must(const char *call, uint32_t answer) {
-    if (answer == 0) return;
+    if (answer == ROQ_OK) return;
     fprintf(stderr, "sheet: %s was answered by %u\n", call, (unsigned)answer);
     exit(1);
 }
@@ -34,7 +33,7 @@ static uint32_t window(uint32_t x, uint32_t y, uint32_t w, uint32_t h) {
 }
 
 static size_t send_sheet(uint32_t id, uint8_t *bytes) {
-    RoqListing sheet = roq_sheet(&s, id, bytes, BYTES);
+    RoqListing sheet = roq_sheet(&s, id, bytes, ROQ_SHEET_LEN);
     must("sheet", sheet.answer);
     printf("bytes sent: %zu", sheet.count);
     for (size_t i = 0; i < sheet.count; i++)
@@ -61,9 +60,9 @@ static void picture(const uint32_t *list, size_t count) {
 }
 
 static void receive_sheet(const uint8_t *bytes, size_t len) {
-    static uint32_t list[LIST];
-    RoqListing read = roq_read_sheet(bytes, len, list, LIST);
-    if (read.answer != 0) {
+    static uint32_t list[ROQ_VISIBLE_LEN];
+    RoqListing read = roq_read_sheet(bytes, len, list, ROQ_VISIBLE_LEN);
+    if (read.answer != ROQ_OK) {
         printf("bytes received: %zu, refused by question %u\n", len, (unsigned)read.answer);
         return;
     }
@@ -76,7 +75,7 @@ static void receive_sheet(const uint8_t *bytes, size_t len) {
 }
 
 int main(void) {
-    static uint8_t bytes[BYTES + 1];
+    static uint8_t bytes[ROQ_SHEET_LEN + 1];
     must("start", roq_start(&s, C));
     uint32_t plan = window(0, 0, W, H);
     window(4, 2, 12, 5);

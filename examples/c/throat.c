@@ -5,7 +5,7 @@
 #include <stdio.h>
 #include <stdlib.h>
 
-enum { WIDTH = 480, HEIGHT = 240, C = WIDTH * HEIGHT, STORE = 16 * C, PLAN = 0, GLASS = 1 };
+enum { WIDTH = 480, HEIGHT = 240, C = WIDTH * HEIGHT, STORE = ROQ_WINDOWS * C, PLAN = 0, GLASS = 1 };
 /* The magnifier, its frame, and what it shows. */
 enum { FRAME = 4, W = 240, H = 160 };
 enum { GROUND = 0x181e26, TRACK = 0x96a0aa, POINTS = 0xf0b428, ROUTE = 0xffffff, TRAIN = 0xdc3c32, EDGE = 0x3c78c8 };
@@ -14,7 +14,7 @@ static RoqSession s;
 static uint32_t store[STORE], screen[C], target[W * H];
 
 static void must(uint32_t answer) {
-    if (answer != 0)
+    if (answer != ROQ_OK)
         exit((int)answer);
 }
 

@@ -9,7 +9,7 @@
 #include <string.h>
 #include <time.h>
 
-enum { W = 800, HEIGHT = 480, C = W * HEIGHT, STORE = 16 * C, WIDTH = 8 * W, SCREEN = WIDTH * HEIGHT };
+enum { W = 800, HEIGHT = 480, C = W * HEIGHT, STORE = ROQ_WINDOWS * C, WIDTH = 8 * W, SCREEN = WIDTH * HEIGHT };
 enum { KEYS = 100, EVERY = 5000000, THROTTLE = 15 };
 
 static RoqSession s;
@@ -22,7 +22,7 @@ typedef struct Run {
 } Run;
 
 static void must(uint32_t answer) {
-    if (answer != 0)
+    if (answer != ROQ_OK)
         exit((int)answer);
 }
 
@@ -83,7 +83,7 @@ static void draw_all(void) {
 
 /* One window; where the walk is over another begins. */
 static void draw_next(void) {
-    if (portion() == 20) {
+    if (portion() == ROQ_ERROR_NO_WALK) {
         must(roq_begin(&s, true));
         must(portion());
     }
@@ -112,7 +112,7 @@ int main(void) {
     draw_all();
     tell("portions", keys_between(draw_next));
     must(roq_begin(&s, true));
-    while (portion() == 0)
+    while (portion() == ROQ_OK)
         continue;
     bool differ = memcmp(undivided, divided, sizeof divided) != 0;
     printf("the screens are %s\n", differ ? "different" : "equal");

@@ -1,10 +1,10 @@
-use roqshyn::{Error, Event, Pos, Rect, Session};
+use roqshyn::{Error, Event, Pos, Rect, Session, WINDOWS};
 
 const BLUE: u32 = 0x28_5a96;
 const AMBER: u32 = 0xf0_b428;
 
 fn main() -> Result<(), Error> {
-    let (mut store, mut screen) = (vec![0; 16 * 160], vec![0; 160]);
+    let (mut store, mut screen) = (vec![0; WINDOWS * 160], vec![0; 160]);
     let mut session = Session::start(160)?; // 16 windows, each of at most 160 pixels
     let panel = session.create()?;
     session.resize(panel, 32, 5, &mut store)?;

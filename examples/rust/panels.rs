@@ -1,5 +1,5 @@
 //! The calls of panels.calls, made from Rust. Writes what the program `replay` writes for that script.
-use roqshyn::{Error, Event, Located, Pos, Rect, Session, MOST_RECTS, WINDOWS};
+use roqshyn::{Error, Event, Located, Meant, Pos, Rect, Session, MOST_RECTS, WINDOWS};
 
 const C: u32 = 72;
 const WIDTH: u32 = 12;
@@ -122,6 +122,55 @@ impl Panels {
         (0..3).for_each(|_| self.pop(PLAN));
     }
 
+    /// Where a redraw or a portion will write.
+    fn stale(&self, meant: Meant) {
+        let stale = self.session.stale(meant, Rect::new(0, 0, WIDTH, HEIGHT));
+        say(stale.map(|found| found.map_or(" none".to_string(), |r| rect(&r))));
+    }
+
+    /// The button is painted; what the redraw will write, and what there is to write after it.
+    fn press_button(&mut self) {
+        self.fill(PANEL, Rect::new(1, 1, 2, 1), 5);
+        done(self.session.mark(PANEL.into()));
+        self.stale(Meant::Redraw);
+        self.stale(Meant::Portion);
+        done(self.session.redraw(false, WIDTH, HEIGHT, &self.store, &mut self.screen));
+        self.stale(Meant::Redraw);
+        println!("0{}", numbers(&self.screen));
+    }
+
+    fn waiting(&self) {
+        println!("0 {}", self.session.waiting().map(|id| 1 << u32::from(id)).sum::<u32>());
+    }
+
+    fn window(&self, id: u32) {
+        say(self.session.window(id.into()).map(|w| {
+            let place = [w.place.is_some().into(), w.place.unwrap_or(0), w.layer];
+            let rest = [w.maximised.into(), w.marked.into(), w.queued, w.moved.into()];
+            rect(&w.rect) + &numbers(&place) + &numbers(&rest)
+        }));
+    }
+
+    fn session(&self) {
+        let s = self.session.state();
+        let [focus, grab] = [s.focus, s.grab].map(|id| id.map_or(16, u32::from));
+        let (walk, left) = s.walk.map_or((0, 0), |walk| (1 + u32::from(walk.full), walk.left));
+        println!("0{}", numbers(&[s.c, s.shown, focus, grab, s.dimmed.into(), s.owed.into(), walk, left, s.displays]));
+    }
+
+    /// A press and its release off the panel; what waits; and how things stand.
+    fn ask(&mut self) {
+        self.press(5, 3);
+        self.release(1, 3);
+        self.waiting();
+        self.pop(PANEL);
+        self.pop(PANEL);
+        self.waiting();
+        self.window(PANEL);
+        self.window(2);
+        self.session();
+    }
+
     /// The plan is raised while the panel is pressed, and then the panel, which gets the release.
     fn raise_both(&mut self) {
         self.press(5, 3);
@@ -175,9 +224,8 @@ fn main() -> Result<(), Error> {
     let mut panels = Panels { session, store, screen };
     panels.draw_panels();
     panels.press_panels();
-    panels.fill(PANEL, Rect::new(1, 1, 2, 1), 5);
-    done(panels.session.mark(PANEL.into()));
-    panels.redraw();
+    panels.press_button();
+    panels.ask();
     panels.raise_both();
     panels.drag_panel();
     panels.keep_on_top();
