@@ -24,6 +24,7 @@ from tree import ROOT, Tree, read_files
 
 ORIGINAL = pathlib.Path(os.environ.get("ROQSHYN_ORIGINAL") or ROOT.parent / "shared" / "docs" / "src")
 CHANGES, HEADER = "docs/CHANGES.md", "include/roqshyn.h"
+RECORDER = "tools/record/roqshyn_record.h"
 # Comments that are documents: those of the header, of the bindings and of the examples.
 COMMENTED = re.compile(
     r"include/roqshyn\.h|bindings/rust/src/\w+\.rs|examples/.*\.(?:c|rs|calls)|examples/(?:run|desk/\w+)"
@@ -43,6 +44,7 @@ QUOTING = ("docs/PROVING.md", "docs/PROMISES.md")
 # Names that are not there, and why a document has them.
 EXCEPTIONS = {
     "docs/ADDING-A-CALL.md": ("probe",),  # a word that was added to try it
+    "docs/CALL-SCRIPT.md": ("read-sheet BYTE…",),  # a stand-in for numbers
     # A file and a module of the kit, and a form that an example adds.
     "docs/PROVING.md": ("ListN.antt", "Lts", "PlaceLet.antt", "pub mod PlaceLet"),
     "docs/SAFETY-MANUAL.md": (".bss",),  # a section that an archive does not have
@@ -72,7 +74,8 @@ class Documents:
     def __init__(self, files, original, names=None):
         self.tree = Tree(files)
         self.names = names or Names(self.tree, original)
-        self.exported = set(re.findall(r"\b(?:roq_\w+|Roq[A-Z]\w*|ROQ_\w+)", without_comments(files[HEADER])))
+        headers = without_comments(files[HEADER] + files[RECORDER])
+        self.exported = set(re.findall(r"\b(?:roq_\w+|Roq[A-Z]\w*|ROQ_\w+)", headers))
         self.pages = {path: text for path, text in sorted(files.items()) if path.endswith(".md") or path == "NOTICE"}
         self.pages = {path: newest(text) if path == CHANGES else text for path, text in self.pages.items()}
         self.comments = {path: text for path, text in sorted(files.items()) if COMMENTED.fullmatch(path)}

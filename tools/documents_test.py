@@ -6,7 +6,7 @@ from documents import Documents
 from figures import FIGURES, stated, wrong_figures
 
 PAGE, HEADER, SCRIPT = "docs/COMMANDS.md", "include/roqshyn.h", "docs/CALL-SCRIPT.md"
-NOTICE, CRATES = "NOTICE", "crates.txt"
+NOTICE, CRATES, VERSION = "NOTICE", "crates.txt", "crates/roqshyn/src/version.rt"
 FIRST = "  crates/geom/src/      from"
 
 # A sentence that is put at the end of a page, and a part of what has to be said of it.
@@ -102,12 +102,26 @@ EDITS = [
     ("a word that CALL-SCRIPT.md lacks", [(SCRIPT, "| `focus` |", "| `focal` |")], "it has no line focus"),
     ("a line with another count", [(SCRIPT, "| `drag ID X Y` |", "| `drag ID X` |")], "`drag ID X` has 2 numbers"),
     ("a question in other words", [(HEADER, "w x h is at most C", "w x h is below C")], "question 6 has other words"),
-    ("a question that bindings lack", [("bindings/rust/src/error.rs", "    27 ", "    28 ")], "it has no question 27"),
+    ("a question that bindings lack", [("bindings/rust/src/error.rs", "    28 ", "    29 ")], "it has no question 28"),
     (
         "a question that the code lacks",
-        [("crates/geom/src/inner/answers.rt", "u32 = 27;", "u32 = 28;")],
-        "it has no question 28",
+        [("crates/geom/src/inner/answers.rt", "u32 = 28;", "u32 = 29;")],
+        "it has no question 29",
     ),
+    (
+        "an answer by another name",
+        [(HEADER, "ROQ_ERROR_LAYER = 17", "ROQ_ERROR_LAYERS = 17")],
+        "it has no answer LAYER: u32 = 17",
+    ),
+    (
+        "an answer by another number",
+        [(HEADER, "ROQ_ERROR_LAYER = 17", "ROQ_ERROR_LAYER = 71")],
+        "it has no answer LAYER: u32 = 17",
+    ),
+    ("a new version in the header", [(HEADER, "VERSION_MINOR 0", "VERSION_MINOR 1")], "Cargo.toml: version 1.0.0, and"),
+    ("another version in the code", [(VERSION, "MAJOR: u32 = 1", "MAJOR: u32 = 2")], f"{VERSION}: version 2.0.0, and"),
+    ("another version in a page", [("docs/LINKING.md", "roqshyn 1.0 ", "roqshyn 0.1 ")], "LINKING.md: version 0.1, and"),
+    ("a page without the version", [("docs/VERSIONS.md", "It is now ", "It is ")], "VERSIONS.md: version none, and"),
     (
         "a call that the header lacks",
         [(HEADER, "roq_focus(const", "roq_focused(const")],

@@ -55,6 +55,7 @@ def all_calls(tree):
 PLAYER, HITS = "crates/replay/src/player.rt", ("crates/rules/specs/Hits.antt", "leb given {} ")
 WINDOWS = "crates/windows/src/lib.rt", r"pub windows: \[Window; {}\]"
 SESSION = "include/layout.c", r"SIZE\(RoqSession, {}\)"
+PIXELS = "C is at most {}(?!\w)", "window has at most {} pixels", "#define ROQ_PIXELS {}"
 FIGURES = (
     Figure(
         "bytes of a session",
@@ -62,6 +63,8 @@ FIGURES = (
         "session takes {} bytes(?! more)",
         r"\| session \| {} bytes",
         r"/\* {} bytes\. \*/\ntypedef struct RoqSession",
+        "#define ROQ_SESSION_SIZE {}",
+        r"size of a session\*\*, {} bytes",
     ),
     Figure(
         "words of a session",
@@ -77,6 +80,8 @@ FIGURES = (
         "id is below {} and",
         "store of {} windows",
         "{} windows (?:of 348|and what they share)",
+        "#define ROQ_WINDOWS {}",
+        "#define ROQ_NOBODY {}",
     ),
     Figure("greatest id", at(*WINDOWS, lambda count: count - 1), "Ids are 0 to {}"),
     Figure(
@@ -86,6 +91,7 @@ FIGURES = (
         "fewer than {} displays",
         "up to {} of them in one session",
         "There are up to {}, in order",
+        "#define ROQ_DISPLAYS {}",
     ),
     Figure(
         "events of a queue",
@@ -93,7 +99,7 @@ FIGURES = (
         "a queue of {} (?:events|slots)",
         "fewer than {} events wait",
     ),
-    Figure("greatest C", at("crates/rules/specs/Group.antt", "allowedC c = leb 1 c && leb c {}"), "C is 1 to {}"),
+    Figure("greatest C", at("crates/rules/specs/Group.antt", "allowedC c = leb 1 c && leb c {}"), "C is 1 to {}", *PIXELS),
     Figure(
         "greatest coordinate",
         at("crates/geom/specs/Questions.antt", "small n = leb n {}"),
@@ -102,10 +108,12 @@ FIGURES = (
         "height are 1 to {}",
     ),
     Figure("points", at(*HITS, lambda numbers: numbers // 2), "at most {} points", "up to {} points"),
+    Figure("numbers that points are given by", at(*HITS), "#define ROQ_POINTS_LEN {}"),
     Figure(
         "numbers that points are answered by",
         at(*HITS, lambda numbers: 3 * numbers // 2),
         "answers; {} numbers always suffice",
+        "#define ROQ_HITS_LEN {}",
         r"lent {} numbers \| `ANSWER` and three",
     ),
     Figure(
@@ -118,12 +126,14 @@ FIGURES = (
         "numbers of a visible list",
         at("crates/replay/src/lend.rt", r"list_len\(p, {}\)"),
         "list; {} numbers always suffice. A hidden",
+        "#define ROQ_VISIBLE_LEN {}",
         "the visible list, lent {} numbers",
     ),
     Figure(
         "bytes of a sheet",
         at("crates/replay/src/sheets.rt", r"fn buffer\(\) -> \[u8; {}\]"),
         "buffer; {} bytes always suffice",
+        "#define ROQ_SHEET_LEN {}",
         "of the window, lent {} bytes",
         "a buffer of at most {} bytes",
     ),
@@ -133,6 +143,7 @@ FIGURES = (
         "a list of at most {} numbers",
         "else malformed; lent {} numbers",
         "list; {} numbers always suffice, and",
+        "#define ROQ_READ_SHEET_LEN {}",
     ),
     Figure("pixels of replay's store", at(PLAYER, r"store: &mut \[u32; {}\]"), "a store of at most {} pixels"),
     Figure(

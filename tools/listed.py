@@ -1,4 +1,7 @@
-"""Lists that have to be complete: crates, commands, scripts, words of scripts, questions, exported calls, documents."""
+"""Lists that have to be complete: crates, commands, scripts, words of scripts, questions, exported calls, documents.
+
+Also the places that have the version.
+"""
 import re
 
 import prose
@@ -8,6 +11,17 @@ from figures import number_of
 HEADER, ERRORS, ANSWERS = "include/roqshyn.h", "bindings/rust/src/error.rs", "crates/geom/src/inner/answers.rt"
 SCRIPT, NOTICE, MANUAL = "docs/CALL-SCRIPT.md", "NOTICE", "docs/SAFETY-MANUAL.md"
 DIFFERENCES = "docs/DIFFERENCES.md"
+LOCKED, FOUND = r'^name = "roqshyn"\nversion = "(.*)"$', r"find_package\(roqshyn (\S+) REQUIRED\)"
+# Where the version stands beside the header, and where its first two numbers do.
+VERSIONS = (
+    ("bindings/rust/Cargo.toml", r'^version = "(.*)"$'),
+    *((f"{folder}/Cargo.lock", LOCKED) for folder in ("bindings/rust", "examples/rust", "bench")),
+    ("crates/roqshyn/src/version.rt", r"^const (?:MAJOR|MINOR|PATCH): u32 = (\d+);$"),
+    ("crates/roqshyn/specs/Version.antt", r"^version = versionOf (\d+ \d+ \d+)$"),
+    ("README.md", r"^Version (\S+), "),
+    ("docs/VERSIONS.md", r"It is now \*\*(\S+)\*\*\."),
+)
+MINORS = tuple((path, FOUND) for path in ("docs/LINKING.md", "examples/cpp/CMakeLists.txt"))
 # Where a reader looks for commands and for scripts.
 COMMANDS = ("README.md", "docs/COMMANDS.md", "compare/README.md", "examples/README.md")
 # Rectangles of CALL-SCRIPT.md, A and perhaps B, are four numbers each.
@@ -43,7 +57,7 @@ def original(tree):
 def commands(tree):
     """Every command and every script of examples/ is named where a reader looks for it."""
     said = "\n".join(tree.files.get(path, "") for path in COMMANDS)
-    for command in sorted(path for path in tree.commands - {"play"} if not path.endswith(".py")):
+    for command in sorted(path for path in tree.commands - {"play", "play-station"} if not path.endswith(".py")):
         if f"`bash {command}" not in said:
             yield f"{command}: no `bash {command}` stands in {' or '.join(p for p in COMMANDS if p in tree.files)}"
     for path in sorted(tree.files):
@@ -91,8 +105,11 @@ def questions(tree):
         for number in sorted(set(said) & set(header)):
             if said[number] != header[number]:
                 yield f"{path}: question {number} has other words than in {HEADER}"
-    numbers = [int(number) for number in re.findall(r"^pub const \w+: u32 = (\d+);", tree.files[ANSWERS], re.M)]
-    yield from differ(HEADER, "question", header, set(numbers) - {0})
+    answers = re.findall(r"^pub const (\w+: u32 = (\d+));", tree.files[ANSWERS], re.M)
+    yield from differ(HEADER, "question", header, {int(number) for _, number in answers} - {0})
+    named = re.findall(r"^    ROQ_(?:ERROR_)?(OK|(?<=ERROR_)\w+) = (\d+),?$", tree.files[HEADER], re.M)
+    said = [f"{name}: u32 = {number}" for name, number in named]
+    yield from differ(HEADER, "answer", said, [name for name, _ in answers])
 
 
 def exported(tree):
@@ -100,6 +117,16 @@ def exported(tree):
     code = "\n".join(text for path, text in tree.files.items() if path.startswith("crates/roqshyn/src/"))
     declared = re.findall(r"^\w+ \*?(roq_\w+)\(", tree.files[HEADER], re.M)
     yield from differ(HEADER, "exported call", declared, re.findall(r'pub extern "C" fn (roq_\w+)', code))
+
+
+def version(tree):
+    """Every place that has the version has the header's."""
+    true = re.findall(r"^#define ROQ_VERSION_(?:MAJOR|MINOR|PATCH) (\d+)$", tree.files[HEADER], re.M)
+    for places, numbers in ((VERSIONS, true), (MINORS, true[:2])):
+        for path, words in places:
+            said = ".".join(re.findall(words, tree.files[path], re.M)).replace(" ", ".")
+            if said != ".".join(numbers):
+                yield f"{path}: version {said or 'none'}, and {HEADER} has {'.'.join(numbers)}"
 
 
 def tested(tree):
@@ -145,5 +172,5 @@ def in_gate(tree):
 
 def wrong_lists(tree):
     pages = crates, original, commands, differences, tested, doors, announced, in_gate
-    for part in (*pages, script_words, questions, exported):
+    for part in (*pages, script_words, questions, exported, version):
         yield from part(tree)

@@ -13,10 +13,12 @@ from sentences import sentences
 
 TRACE, ADDITIONS, SCRIPTS = "docs/TRACE.md", "docs/ADDITIONS.md", "docs/CALL-SCRIPT.md"
 DEMANDS, SCOPE, REQUESTS, OURS = "00-demands.md", "01-scope.md", "02-change-requests.md", "03-additions.md"
-LANDED = re.compile(r"^Of document 03 have landed: (.*)\.$", re.M)
+LANDED = re.compile(r"^Of document 03 have landed: ([^.]*)\.$", re.M)
 # What is known to be missing, as `03 Lines 3 (test)`. It is printed every time; what is missing elsewhere is refused.
 MISSING = re.compile(r"^Missing: (.*)\.$", re.M)
 ASKED = re.compile(r"\((\d+) is ")
+# Public calls that no document asks for: they say which library it is (docs/VERSIONS.md).
+OF_NO_SENTENCE = {"roqshyn::roq_session_size", "roqshyn::roq_version"}
 
 
 @functools.lru_cache(2)
@@ -162,8 +164,11 @@ class Matrix:
     def without_sentence(self, rows):
         """Public calls, questions and mistakes that belong to no sentence."""
         proofs, refused = ({name for row in rows for name in row.all[head]} for head in ("proof", "refused"))
-        for name in sorted(self.repository.public - proofs):
+        unsaid = self.repository.public - proofs
+        for name in sorted(unsaid - OF_NO_SENTENCE):
             yield f"{name}: no sentence in {TRACE} has this call"
+        for name in sorted(OF_NO_SENTENCE - unsaid):
+            yield f"{name}: it is no public call, or a sentence in {TRACE} has it"
         for name in sorted(set(self.repository.mistakes) - refused):
             yield f"{self.repository.mistakes[name][0]}: no sentence in {TRACE} has this mistake"
         for number, askers in sorted(questions(self.repository.nearness).items()):

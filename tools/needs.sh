@@ -27,7 +27,7 @@ origin() {
     rt) printf 'the Rattle kit, see README.md' ;;
     cc) printf 'Debian package gcc' ;;
     c++) printf 'Debian package g++' ;;
-    objdump) printf 'Debian package binutils' ;;
+    ar | objdump) printf 'Debian package binutils' ;;
     sdl2-config) printf 'Debian package libsdl2-dev' ;;
     Xvfb) printf 'Debian package xvfb' ;;
     cargo | cmake | pkg-config | python3 | rustc | valgrind | xdotool) printf 'Debian package %s' "$1" ;;

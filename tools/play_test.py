@@ -73,6 +73,6 @@ def heard(terminal, end):
 
 def played(room):
     page = PAGE.read_text()
-    expect("the questions", list(questions(page)) == [str(n) for n in range(1, 28)], questions(page))
+    expect("the questions", list(questions(page)) == [str(n) for n in range(1, 29)], questions(page))
     expect("the lines", all(len(row) in (2, 3) and row[0] for row in rows(page)), rows(page))
     return 2 + scripts(room) + pictures(room) + keyboard(room)

@@ -5,7 +5,7 @@ import sys
 from matrix import ADDITIONS, REQUESTS, SCOPE, TRACE, Matrix
 
 SPEC = "crates/busiest/specs/Busiest.antt"
-CODE = "crates/roqshyn/src/times.rt"
+CODE, VERSION = "crates/roqshyn/src/times.rt", "crates/roqshyn/src/version.rt"
 EDIT = "mistakes/busiest/one_more.edit"
 PEEK = '#[no_mangle]\npub extern "C" fn roq_peek() -> u32 ensures { λ r. ⌜ r ≡ 0 ⌝ } { 0 }\n'
 ROW = r"\| N13\.3 \|[^\n]*\n"
@@ -42,7 +42,10 @@ REFUSED = [
     ("no test", [(TRACE, r"rule \| `Examples\.fires`, ", "rule | ")], "N8.2: it is a rule, and has no test"),
     (
         "no proof",
-        [(TRACE, r"rule \| `replay::Player::line`, `Played\.Plays`", "rule |")],
+        [
+            (TRACE, r"rule \| `replay::Player::line`, `Played\.Plays`, ", "rule | "),
+            ("crates/replay/specs/Played.antt", r'"None of these lines uses up a pending lend\."', "no lend is used up"),
+        ],
         "03 Lines 3: it is a rule, and has no proof",
     ),
     ("no place of a form", [(TRACE, r"form \| `look::Zoom`", "form |")], "01 Places 6: it is a form, and has no code"),
@@ -53,6 +56,7 @@ REFUSED = [
         "question 27: no sentence",
     ),
     ("a new exported call", [(CODE, "", PEEK)], "roqshyn::roq_peek: no sentence"),
+    ("a call of no sentence that is gone", [(VERSION, "roq_version", "version")], "roqshyn::roq_version: it is no public"),
     ("a new mistake", [(EDIT, "", "file: src/main.rt\nold: a\nnew: b\n")], f"{EDIT}: no sentence"),
     (
         "a mistake that no row has",
@@ -61,8 +65,8 @@ REFUSED = [
     ),
     ("two rows of one sentence", [(TRACE, rf"({ROW})", r"\1\1")], "N13.3 has two rows"),
     ("no row of ours", [(TRACE, r"\| A1\.2 \|[^\n]*\n", "")], "A1.2 has no row"),
-    ("a row of what has not landed", [(TRACE, r"\| A1\.2 \|", "| A2.2 |")], "A2.2 is no sentence"),
-    ("a part that has landed", [(TRACE, r"Repair, A1,", "Repair, A1, A3,")], "A3.1 has no row"),
+    ("a row of what has not landed", [(TRACE, r"\| A1\.2 \|", "| A4.2 |")], "A4.2 is no sentence"),
+    ("a part that has landed", [(TRACE, r"Repair, A1,", "Repair, A1, A4,")], "A4.1 has no row"),
     (
         "a sentence of ours that changed",
         [(ADDITIONS, r"puts a shown window above", "puts a shown window over")],

@@ -17,8 +17,10 @@ CODE = {
     ".py": (r"(?<!\S)#[^\n]*", r"[\w-]+"),
     "": (r"(?<!\S)#[^\n]*", r"[\w-]+"),
 }
-# Here names stand that are tried, and names of the documents themselves; but play.py is what `./play` runs.
+# Here names stand that are tried, and names of the documents themselves; but play.py is what `./play` runs,
+# and a station is linked with the recorder.
 NO_CODE = ("tools/", "docs/", "mistakes/", "NOTICE", "LICENSE", "crates/replay/std")
+RECORDER = "tools/record/"
 CODE_TOO = {"tools/play.py": ".py", "examples/cpp/CMakeLists.txt": ".sh"}
 
 
@@ -67,7 +69,8 @@ class Tree:
         """Those of all code."""
         found = set()
         for path, text in self.files.items():
-            suffix = "no" if path.startswith(NO_CODE) else pathlib.PurePath(path).suffix
+            no_code = path.startswith(NO_CODE) and not path.startswith(RECORDER)
+            suffix = "no" if no_code else pathlib.PurePath(path).suffix
             suffix = CODE_TOO.get(path, suffix)
             if suffix in CODE:
                 found |= code_words(text, suffix)
