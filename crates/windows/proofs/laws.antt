@@ -40,4 +40,5 @@ pub mod Waiting
 pub mod State
 pub mod Telling
 pub mod Routing
+pub mod Taker
 pub mod Aimed

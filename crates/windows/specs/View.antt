@@ -24,10 +24,11 @@ use Rattle.rules.specs.Look.{look}
 use Rattle.rules.specs.DisplayAt.{displayAt}
 use Rattle.rules.specs.Stale.{StaleRect}
 use Rattle.rules.specs.State as Standing
+use Rattle.rules.specs.Taker as Taken
 use Rattle.rules.specs.Visible.{visibleList}
 use Rattle.rules.specs.Sheets.{sheet}
 use Rattle.rules.specs.Store.{dirtied, bounds}
-use Rattle.rules.specs.Calls.{Call, Mark, does, after}
+use Rattle.rules.specs.Calls.{Call, Mark, does, after, Route}
 use Rattle.rules.specs.Panels.{Write, fill, blit, mark, callOf}
 use Rattle.due.specs.declared.Walk.{Walk}
 use Rattle.order.specs.Ids.{ids, grabOf}
@@ -39,6 +40,7 @@ use Rattle.windows.specs.declared.NewId.{NewId}
 use Rattle.windows.specs.declared.NewId.the-variants.{Id, Absent}
 use Rattle.windows.specs.declared.Created.{Created}
 use Rattle.windows.specs.declared.NextEvent.{NextEvent}
+use Rattle.windows.specs.declared.Taker.{Taker}
 use Rattle.windows.specs.declared.NextEvent.the-variants as NextEvent
 use Rattle.windows.specs.declared.Popped.{Popped}
 use Rattle.windows.specs.declared.Placed.{Placed}
@@ -201,6 +203,16 @@ eventIn NextEvent.Absent = none
 pub record MeetsEvent (k : Call) (s : Session) (r : Popped) : Type 0 where
   pub meets : Meets k s (done (r .session) (r .answer))
   pub event : eventIn (r .event) ≡ does (group s) k .event
+
+-- who took an event
+abbrev pub takerIn : Taker → Taken.Taker
+takerIn (Taker.Window id x y) = record { id = some (id .0); x = x; y = y }
+takerIn Taker.Nobody = Taken.nobody
+
+-- the same of a route that tells who took the event: t, which is the rule's
+pub record MeetsTaker (e : Event) (s : Session) (r : Done) (t : Taken.Taker) : Type 0 where
+  pub meets : Meets (Route e) s r
+  pub taker : t ≡ Taken.taker (group s) e
 
 -- a start
 pub record Starts (c : ℕ) (r : Done) : Type 0 where

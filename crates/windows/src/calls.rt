@@ -4,12 +4,13 @@ ghost use mathlib.Core.Path.{_≡_};
 ghost use Prim.Native.Nat.{_<_};
 ghost use Rattle.rules.specs.Calls.{Call};
 ghost use Rattle.rules.specs.Panels.{Write};
-ghost use Rattle.windows.specs.View.{done, written, windowAt, Given, Meets, MeetsStore, MeetsAltered, MeetsMark, MeetsScreen, MeetsEvent};
+ghost use Rattle.windows.specs.View.{done, written, windowAt, Given, Meets, MeetsStore, MeetsAltered, MeetsMark, MeetsScreen, MeetsEvent, MeetsTaker, takerIn};
 ghost use Rattle.windows.specs.inner.One.{withWindow};
 ghost use Rattle.windows.specs.inner.Pixels.{setDamage};
 use crate::Changed;
 use crate::Done;
 use crate::Popped;
+use crate::Routed;
 use crate::Session;
 use crate::Written;
 use crate::inner::dimming;
@@ -225,9 +226,10 @@ impl Session {
         }
     }
 
-    pub fn route(self, e: Event) -> Done
+    // An event goes to the window that takes it, or to nobody.
+    pub fn route_to(self, e: Event) -> Routed
         requires { ⌜ Given self ⌝ }
-        ensures { λ r. ⌜ Meets (Call.Route e) self r ⌝ }
+        ensures { λ r. ⌜ MeetsTaker e self (done (r .session) (r .answer)) (takerIn (r .taker)) ⌝ }
     {
         let aim = events::aim_event(self, e);
         let at = aim.at;
@@ -250,7 +252,26 @@ impl Session {
             shared,
             answer: d.answer,
         };
-        self.with_window(at, told)
+        let taker = events::who_took(at, aim.what, d.answer);
+        let done = self.with_window(at, told);
+        let session = done.session;
+        Routed {
+            session,
+            answer: done.answer,
+            taker,
+        }
+    }
+
+    pub fn route(self, e: Event) -> Done
+        requires { ⌜ Given self ⌝ }
+        ensures { λ r. ⌜ Meets (Call.Route e) self r ⌝ }
+    {
+        let r = self.route_to(e);
+        let session = r.session;
+        Done {
+            session,
+            answer: r.answer,
+        }
     }
 
     pub fn pop(mut self, id: WinId) -> Popped

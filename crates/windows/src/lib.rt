@@ -125,6 +125,20 @@ pub struct Popped {
     pub event: NextEvent,
 }
 
+// Who took an event, and the point that it was given there, (0,0) for keys and Text. Nobody took a refused event or a
+// Resize.
+pub enum Taker {
+    Window { id: WinId, x: u32, y: u32 },
+    Nobody,
+}
+
+// What a route that tells who took the event hands back.
+pub struct Routed {
+    pub session: Session,
+    pub answer: u32,
+    pub taker: Taker,
+}
+
 // The share of a window that is in view, as whole percent and what is left over of w × h; both are 0 where the answer is 3 or 24.
 #[repr(C)]
 pub struct InView {

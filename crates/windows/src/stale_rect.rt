@@ -15,7 +15,7 @@ ghost use Rattle.rules.specs.Walk.{hitAny};
 ghost use Rattle.rules.specs.inner.Lent.{Lent};
 ghost use Rattle.visible.specs.inner.Extents.{Joins, Spans};
 ghost use Rattle.windows.specs.View.{group, Given, staleOf};
-ghost use Rattle.windows.specs.inner.Stale.{courseOf, between, seen, written, foundBy};
+ghost use Rattle.windows.specs.inner.Stale.{Gathered, courseOf, between, seen, written, foundBy};
 use crate::Session;
 use crate::Stale;
 use crate::inner::frames::frames;
@@ -141,28 +141,52 @@ fn join_window(
     extents::join(at.rect(), above, n, &entries, dirty.len, area, e)
 }
 
+// Which windows are marked, and their damage, by their numbers.
+struct Dirty {
+    marked: [bool; 16],
+    damage: [Damage; 16],
+}
+
+// The windows are read at places that are known when this is compiled, as in `frames`.
+fn dirty_of(s: Session) -> Dirty
+    ensures { λ d. ⌜ Gathered s 16 d ⌝ }
+{
+    let mut marked = [false; 16];
+    let mut damage = [Damage::none(); 16];
+    for i in 0..16 {
+        let w = s.windows[i];
+        let entries = w.damage;
+        damage[i] = entries;
+        marked[i] = w.marked;
+    }
+    Dirty { marked, damage }
+}
+
 // The extents of what would be written of the windows in the course, inside the area.
-// The windows are gone through by number, since a place that is known when compiling costs no copy of the session.
+// The windows are gone through by number. What is read of them is gathered before: this loop is too long to be unrolled,
+// and an index that is not known when compiling would have the session copied.
 fn extents_of(s: Session, course: Course, area: Rect) -> Extents
     requires { ⌜ Given s × Small area × (course .to ≤ 16) ⌝ }
     ensures { λ e. ⌜ Spans (λ px py. contains area px py && hitAny (group s) (course .full) (between (course .from) (course .to) (group s .order)) px py) e ⌝ }
 {
-    let shown = s.shared.shown;
     let order = s.shared.order;
     let frames = frames(s);
     let areas = frames.areas;
-    let all = rects::from(areas, order, shown, Place::lowest());
+    let all = rects::from(areas, order, s.shared.shown, Place::lowest());
     let numbers = all.numbers;
-    let places = places_of(order, shown);
+    let places = places_of(order, s.shared.shown);
+    let dirty = dirty_of(s);
+    let marked = dirty.marked;
+    let damages = dirty.damage;
     let mut e = Extents::none();
     for i in 0..16 {
         let p = places[i];
         if course.has(p) {
-            let w = s.windows[i];
-            if either(course.full, w.marked) {
-                let at = w.at;
-                let damage = w.damage;
+            if either(course.full, marked[i]) {
+                let at = areas[i];
+                let damage = damages[i];
                 let next = 4 * (p + 1);
+                let shown = s.shared.shown;
                 e = join_window(
                     at,
                     damage,

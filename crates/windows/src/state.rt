@@ -44,17 +44,19 @@ fn fields_of(w: Window) -> Fields
     }
 }
 
-// The windows are read at places that are known when this is compiled, as in `frames`.
+// The windows are read at places that are known when this is compiled, as in `frames`: a loop that is left by a return
+// is not unrolled, and would have the session copied.
 fn fields_at(s: Session, at: usize) -> Fields
     requires { ⌜ at < 16 ⌝ }
     ensures { λ f. ⌜ f ≡ fieldsOf (windowAt s at) ⌝ }
 {
-    for i in 0..15 {
+    let mut f = fields_of(s.windows[0]);
+    for i in 1..16 {
         if i == at {
-            return fields_of(s.windows[i]);
+            f = fields_of(s.windows[i]);
         }
     }
-    fields_of(s.windows[15])
+    f
 }
 
 // An id that is not in use.

@@ -8,19 +8,22 @@ use mathlib.Core.List.{List, [], _∷_, _++_, map, map-append}
 use mathlib.Core.Option.{Option, none, some}
 use native.Mathlib.Omega.{arith}
 use lib.Dec.{leb, ltb, eqb}
-use lib.ListN.{length, getD, take, drop}
+use lib.ListN.{length, getD, set, take, drop, length-set}
 use lib.Seq.{take-all}
 use borrow.Author.Tests.{lt-ltb, ltb-true, ltb-false, leb-true, le-leb, eq-eqb}
 use Rattle.geom.specs.declared.Rect.{Rect}
 use Rattle.geom.specs.Geom.{rect, left, top, width, height, right, bottom, smallRect, contains, meets}
 use Rattle.geom.specs.inner.Fits.{Fits}
 use Rattle.geom.specs.Lists.{outsideAll, relative, meetsOf, listIntersect, anyHas}
+use Rattle.geom.specs.declared.inner.rect16.Rect16.{Rect16}
 use Rattle.geom.specs.Rect16.{Small, rectOf}
 use Rattle.geom.proofs.basics.Tests.{is-false, clash, fst, snd, both, on-cond}
+use Rattle.geom.proofs.basics.Lists.{set-in}
 use Rattle.geom.proofs.geometry.Cover.{anyHas-append}
 use Rattle.geom.proofs.geometry.Facts.{In, says-in, says-meet}
 use Rattle.geom.proofs.geometry.Pieces.{left-within}
 use Rattle.window.specs.declared.Window.{Window}
+use Rattle.window.specs.declared.damage.Damage.{Damage}
 use Rattle.window.specs.declared.ids.WinId.{WinId}
 use Rattle.window.specs.Window.{Win}
 use Rattle.window.specs.Represents.{rects}
@@ -41,8 +44,8 @@ use Rattle.visible.proofs.laws.Extents.{spans-none, spans-same, joins-same}
 use Rattle.windows.specs.declared.Session.{Session}
 use Rattle.windows.specs.declared.Stale.{Stale}
 use Rattle.windows.specs.declared.stale_rect.Course.{Course}
-use Rattle.windows.specs.View.{walkOf, group, windowAt, Given, staleOf}
-use Rattle.windows.specs.inner.Stale.{between, courseOf, seen, written, foundBy}
+use Rattle.windows.specs.View.{walkOf, group, blank, windowAt, Given, staleOf}
+use Rattle.windows.specs.inner.Stale.{Gathered, between, courseOf, seen, written, foundBy}
 use Rattle.windows.proofs.laws.Session.{given-ok}
 use Rattle.windows.proofs.laws.Places.{order-length, order-low, id-at, shown-at, win-there, above-there}
 use Rattle.windows.proofs.laws.Above.{higher}
@@ -112,6 +115,20 @@ hit-at s h i l v read full px py =
     visible-is (group s) (v .0) (rectOf (windowAt s (v .0) .at)) (higher s (suc i)) (shown-at s h i l v read) (ap (λ (w : Win). w .at) (win-there s h i l v read))
     (ap (map (λ j. win (group s) j .at)) (above-there s h i l v read)) in
     rw (e, win-there s h i l v read) refl
+
+-- One window more -------------------------------------------------------------------------------------------------------
+
+pub dirty-more : (s : Session) (i : ℕ) (marked : List Bool) (damage : List Damage) → i < 16 → Gathered s i (record { marked = marked; damage = damage })
+    → Gathered s (i + 1) (record { marked = set marked i (windowAt s i .marked); damage = set damage i (windowAt s i .damage) })
+dirty-more s i marked damage low f =
+    record {
+      flags = length-set marked i (windowAt s i .marked) ∙ f .flags;
+      lists = length-set damage i (windowAt s i .damage) ∙ f .lists;
+      marked = λ j h. set-in (λ (b : Bool). b ≡ windowAt s j .marked) marked i j (windowAt s i .marked) false (λ _. omega (arith, f .flags))
+          (λ q. ap (λ (k : ℕ). windowAt s k .marked) (sym q)) (λ n. f .marked j (omega (arith, h, n)));
+      damage = λ j h. set-in (λ (d : Damage). d ≡ windowAt s j .damage) damage i j (windowAt s i .damage) (blank .damage) (λ _. omega (arith, f .lists))
+          (λ q. ap (λ (k : ℕ). windowAt s k .damage) (sym q)) (λ n. f .damage j (omega (arith, h, n)));
+    }
 
 -- The windows of a course -----------------------------------------------------------------------------------------------
 
@@ -237,6 +254,18 @@ module _ (s : Session) (h : Given s) (full : Bool) (area : Rect) (a b : ℕ) whe
             (λ px py. ap (λ (t : Bool). contains area px py && t)
             (ap (λ (bs : List Rect). anyHas (map (onto (rectOf (w .at))) (written (rectOf (w .at)) (rects (w .damage)) full bs)) px py) is
             ∙ sym (rw (among, hit-is px py, y) refl)))
+
+        -- the same by what was read of the window before
+        module _ (m : Bool) (marks : m ≡ w .marked) where
+          pub unmarked-as : full || m ≡ false → Joining s full area a b e (i + 1)
+          unmarked-as n = unmarked (sym (ap (λ (t : Bool). full || t) marks) ∙ n)
+
+          pub joined-as : (x : Rect16) → x ≡ w .at → (d : Damage) → d ≡ w .damage → full || m ≡ true → (above : List Rect) → above ≡ higher s (suc p) → (r : Extents)
+              → Joins (λ px py. contains area px py && anyHas (map (onto (rectOf x)) (written (rectOf x) (rects d) full above)) px py) e r
+              → Joining s full area a b r (i + 1)
+          joined-as x lies d dirty y above is r j =
+              joined (sym (ap (λ (t : Bool). full || t) marks) ∙ y) above is r
+              (subst₂ (λ (x : Rect16) (d : Damage). Joins (λ px py. contains area px py && anyHas (map (onto (rectOf x)) (written (rectOf x) (rects d) full above)) px py) e r) lies dirty j)
 
 -- The call --------------------------------------------------------------------------------------------------------------
 

@@ -2,28 +2,30 @@
 -- of functions that read and write the fields of that window.
 use Prim.Native.Nat.{ℕ, _<_}
 use mathlib.Core.Path.{_≡_}
-use mathlib.Core.Bool.{Bool, true, false, cond}
+use mathlib.Core.Bool.{Bool, true, false, cond, _&&_}
 use lib.Dec.{eqb}
 use lib.ListN.{set, getD}
 use Rattle.window.specs.declared.Event.{Event}
-use Rattle.window.specs.declared.Event.the-variants.{Resize}
+use Rattle.window.specs.declared.Event.the-variants.{Resize, KeyDown, KeyUp, KeyFire, Text, MouseMove, MouseDown, MouseClick, MouseUp}
 use Rattle.window.specs.declared.CursorPos.{CursorPos}
 use Rattle.window.specs.declared.slots.Slot.{Slot}
 use Rattle.window.specs.declared.Window.{Window}
 use Rattle.window.specs.declared.ids.WinId.{WinId}
 use Rattle.window.specs.Represents.{place, noSlot, RepWindow}
 use Rattle.rules.specs.Calls.{Pop}
+use Rattle.rules.specs.Taker as Taken
 use Rattle.topmost.specs.inner.Topmost.{nobody}
 use Rattle.windows.specs.declared.Session.{Session}
 use Rattle.windows.specs.declared.Shared.{Shared}
 use Rattle.windows.specs.declared.Changed.{Changed}
 use Rattle.windows.specs.declared.Done.{Done}
 use Rattle.windows.specs.declared.NextEvent.{NextEvent}
+use Rattle.windows.specs.declared.Taker.{Taker}
 use Rattle.windows.specs.declared.inner.events.Told.{Told}
 use Rattle.windows.specs.declared.inner.events.Aim.{Aim}
 use Rattle.windows.specs.declared.inner.events.Message.{Message}
 use Rattle.windows.specs.declared.inner.events.Front.{Front}
-use Rattle.windows.specs.View.{windowAt, Given, MeetsEvent, done}
+use Rattle.windows.specs.View.{windowAt, Given, MeetsEvent, done, takerIn}
 use Rattle.windows.specs.inner.One.{At, withWindow}
 use Rattle.windows.specs.inner.Sharing.{grabbing}
 use Rattle.windows.specs.inner.Events.{Tellable, ToldTo}
@@ -46,13 +48,44 @@ pub record Heard (w : Window) (k : Shared) (m : Message) (r : Changed) : Type 0 
   pub kept : m .told ≡ false → r ≡ record { window = w; shared = k; answer = m .answer }
   pub shared : m .told ≡ true → r .shared ≡ remembered (r .answer) (m .grab) k
 
--- Q holds of the session in which the window at that place was told, with what is then remembered, and of the session itself if no window is told
-pub record Aims (Q : Done → Type 0) (s : Session) (r : Aim) : Type 0 where
+-- the point of an event: (0,0) where its kind has none
+abbrev pub pointX : Event → ℕ
+pointX Resize = 0
+pointX (KeyDown v) = 0
+pointX (KeyUp v) = 0
+pointX (KeyFire v) = 0
+pointX (Text v) = 0
+pointX (MouseMove x y dx dy) = x
+pointX (MouseDown x y b) = x
+pointX (MouseClick x y b n) = x
+pointX (MouseUp x y b) = x
+
+abbrev pub pointY : Event → ℕ
+pointY Resize = 0
+pointY (KeyDown v) = 0
+pointY (KeyUp v) = 0
+pointY (KeyFire v) = 0
+pointY (Text v) = 0
+pointY (MouseMove x y dx dy) = y
+pointY (MouseDown x y b) = y
+pointY (MouseClick x y b n) = y
+pointY (MouseUp x y b) = y
+
+-- who took an event that the window at this place was told of or not, and the answer was n
+abbrev pub tookIf : Bool → ℕ → Message → ℕ → Taker
+tookIf told at m n = cond (told && eqb n 0) (Taker.Window (record { 0 = at }) (pointX (m .event)) (pointY (m .event))) Taker.Nobody
+
+abbrev pub whoTook : ℕ → Message → ℕ → Taker
+whoTook at m n = tookIf (m .told) at m n
+
+-- Q holds of the session in which the window at that place was told, with what is then remembered, and of who took the
+-- event; and of the session itself and nobody if no window is told
+pub record Aims (Q : Done → Taken.Taker → Type 0) (s : Session) (r : Aim) : Type 0 where
   pub inside : r .at < 16
   pub able : r .what .told ≡ true → Tellable (r .what .event)
   pub told : r .what .told ≡ true → (v : Window) (n : ℕ) → ToldTo (windowAt s (r .at)) (r .what .event) v n
-      → Q (done (withWindow (r .at) v (remembered n (r .what .grab) (s .shared)) s) n)
-  pub kept : r .what .told ≡ false → Q (done s (r .what .answer))
+      → Q (done (withWindow (r .at) v (remembered n (r .what .grab) (s .shared)) s) n) (takerIn (whoTook (r .at) (r .what) n))
+  pub kept : r .what .told ≡ false → Q (done s (r .what .answer)) Taken.nobody
 
 -- every session that holds the window w, with v put in its place, is the session that a pop promises
 abbrev pub PopsAt : ℕ → Window → Window → ℕ → NextEvent → Type 0

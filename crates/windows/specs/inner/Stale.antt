@@ -1,10 +1,11 @@
 -- What would be written of the windows at some places of the render order.
-use Prim.Native.Nat.{ℕ, _+_, _-_}
-use mathlib.Core.Bool.{Bool, cond, _||_}
+use Prim.Native.Nat.{ℕ, _+_, _-_, _<_}
+use mathlib.Core.Path.{_≡_}
+use mathlib.Core.Bool.{Bool, false, cond, _||_}
 use mathlib.Core.List.{List, [], _∷_, map}
 use mathlib.Core.Option.{Option, none, some}
 use lib.Dec.{ltb, eqb}
-use lib.ListN.{take, drop}
+use lib.ListN.{length, getD, take, drop}
 use Rattle.geom.specs.declared.Rect.{Rect}
 use Rattle.geom.specs.Geom.{rect}
 use Rattle.geom.specs.Lists.{outsideAll, relative, listIntersect}
@@ -12,7 +13,10 @@ use Rattle.rules.specs.Redraw.{none?}
 use Rattle.rules.specs.Stale.{StaleRect}
 use Rattle.due.specs.declared.Due.{Due}
 use Rattle.visible.specs.declared.extents.Extents.{Extents}
+use Rattle.windows.specs.declared.Session.{Session}
 use Rattle.windows.specs.declared.stale_rect.Course.{Course}
+use Rattle.windows.specs.declared.stale_rect.Dirty.{Dirty}
+use Rattle.windows.specs.View.{blank, windowAt}
 
 -- the windows at the places from a on to before b
 abbrev pub between : ℕ → ℕ → List ℕ → List ℕ
@@ -37,3 +41,10 @@ written at damage full above = cond (full || none? damage) (seen at above) (list
 abbrev pub foundBy : Extents → StaleRect
 foundBy e =
     record { answer = 0; rect = cond (ltb (e .left) (e .right)) (some (rect (e .left) (e .top) (e .right - e .left) (e .bottom - e .top))) none }
+
+-- the marks and the damage of the first n windows
+pub record Gathered (s : Session) (n : ℕ) (d : Dirty) : Type 0 where
+  pub flags : length (d .marked) ≡ 16
+  pub lists : length (d .damage) ≡ 16
+  pub marked : (i : ℕ) → i < n → getD (d .marked) i false ≡ windowAt s i .marked
+  pub damage : (i : ℕ) → i < n → getD (d .damage) i (blank .damage) ≡ windowAt s i .damage

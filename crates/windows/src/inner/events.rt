@@ -5,14 +5,15 @@ ghost use mathlib.Core.Bool.{true};
 ghost use mathlib.Core.Option.{some};
 ghost use Prim.Native.Nat.{_≤_, _<_};
 ghost use Rattle.window.specs.Represents.{RepCursor};
-ghost use Rattle.rules.specs.Calls.{Call};
 ghost use Rattle.order.specs.Ids.{grabOf};
-ghost use Rattle.windows.specs.View.{Given, Meets};
+ghost use Rattle.windows.specs.View.{Given, MeetsTaker};
 ghost use Rattle.windows.specs.inner.Events.{targetOf, atPoint, grabAfter, Tellable};
-ghost use Rattle.windows.specs.inner.Aimed.{toNobody, toWindow, Hears, Aims, PopsFront};
+ghost use Rattle.windows.specs.inner.Aimed.{toNobody, toWindow, Hears, Aims, pointX, pointY, whoTook, PopsFront};
 use crate::NextEvent;
 use crate::Session;
+use crate::Taker;
 use crate::inner::frames::frames;
+use geom::Pos;
 use geom::inner::answers::KEY_FIRE;
 use geom::inner::answers::NO_EVENT;
 use geom::inner::answers::NO_WINDOW;
@@ -217,7 +218,7 @@ fn to_window(at: usize, event: Event, grab: WinId) -> Aim
 // Where an event goes, and what the window there is told.
 pub fn aim_event(s: Session, e: Event) -> Aim
     requires { ⌜ Given s ⌝ }
-    ensures { λ r. ⌜ Aims (Meets (Call.Route e) s) s r ⌝ }
+    ensures { λ r. ⌜ Aims (MeetsTaker e s) s r ⌝ }
 {
     let target = target_of(e, s.shared.grab);
     match target {
@@ -230,7 +231,7 @@ pub fn aim_event(s: Session, e: Event) -> Aim
 // At the focus, if it is shown.
 fn aim_key(s: Session, e: Event) -> Aim
     requires { ⌜ Given s × (targetOf e (s .shared .grab) ≡ Target.Focus) ⌝ }
-    ensures { λ r. ⌜ Aims (Meets (Call.Route e) s) s r ⌝ }
+    ensures { λ r. ⌜ Aims (MeetsTaker e s) s r ⌝ }
 {
     let focus = s.shared.focus;
     let order = s.shared.order;
@@ -245,7 +246,7 @@ fn aim_key(s: Session, e: Event) -> Aim
 // point itself.
 fn aim_pointer(s: Session, e: Event, grab: WinId, x: u32, y: u32) -> Aim
     requires { ⌜ Given s × (targetOf e (s .shared .grab) ≡ Target.Point grab x y) ⌝ }
-    ensures { λ r. ⌜ Aims (Meets (Call.Route e) s) s r ⌝ }
+    ensures { λ r. ⌜ Aims (MeetsTaker e s) s r ⌝ }
 {
     if !small_point(x, y) {
         return nobody(TOO_LARGE);
@@ -263,6 +264,45 @@ fn aim_pointer(s: Session, e: Event, grab: WinId, x: u32, y: u32) -> Aim
     let row = nearest(area.y as u32, area.h as u32, y);
     let inside = at_point(e, column, row);
     to_window(at, inside, grab_after(e, id, s.shared.grab))
+}
+
+// The point of an event: (0,0) where its kind has none.
+fn point_of(e: Event) -> Pos
+    ensures { λ p. ⌜ (p .x ≡ pointX e) × (p .y ≡ pointY e) ⌝ }
+{
+    match e {
+        Event::MouseMove { x, y, dx: _, dy: _ } => Pos::new(x, y),
+        Event::MouseDown { x, y, button: _ } => Pos::new(x, y),
+        Event::MouseClick {
+            x,
+            y,
+            button: _,
+            count: _,
+        } => Pos::new(x, y),
+        Event::MouseUp { x, y, button: _ } => Pos::new(x, y),
+        _ => Pos::new(0, 0),
+    }
+}
+
+// The window at this place took the event, if it was told of it and the answer is 0.
+pub fn who_took(at: usize, m: Message, answer: u32) -> Taker
+    requires { ⌜ at < 16 ⌝ }
+    ensures { λ r. ⌜ r ≡ whoTook at m answer ⌝ }
+{
+    if !m.told {
+        return Taker::Nobody;
+    }
+    if answer != OK {
+        return Taker::Nobody;
+    }
+    let e = m.event;
+    let point = point_of(e);
+    let id = WinId(at as u32);
+    Taker::Window {
+        id,
+        x: point.x,
+        y: point.y,
+    }
 }
 
 // A refused pop.

@@ -1,6 +1,7 @@
 -- Each target has its end, which the callee meets for the focus and for a point.
 use mathlib.Core.Path.{sym, _∙_}
 use Rattle.windows.proofs.laws.Routing.{nobody}
+use Rattle.windows.proofs.laws.Taker.{nobody-taker}
 use Rattle.windows.proofs.laws.Aimed.{aims-nobody}
 use borrow.Author.Needs.{needs}
 use Rattle.windows.proofs.inner.events.aim_event.Statement.{statement}
@@ -36,8 +37,10 @@ returns c =
     let k = c .before .before in
     let t = k .before .before in
     let s = t .before in
+    let is = sym (t .target-of .ensures) ∙ k .target .given .1 in
     rw (c .nobody .ensures)
-    (aims-nobody _ (s .args .s) _ (nobody (s .args .s) (s .args .e) (s .pre) _ (sym (t .target-of .ensures) ∙ k .target .given .1)))
+    (aims-nobody _ (s .args .s) _
+    (nobody-taker (s .args .s) (s .args .e) _ is (nobody (s .args .s) (s .args .e) (s .pre) _ is)))
 
 returns-2 : tie.Need-returns-2
 returns-2 c = search needs

@@ -7,6 +7,7 @@ use Rattle.topmost.specs.inner.Topmost.{hitOf}
 use Rattle.windows.specs.inner.Events.{atPoint}
 use Rattle.windows.proofs.laws.Frames.{Found, order-lies, none-found, found}
 use Rattle.windows.proofs.laws.Routing.{too-far, nowhere}
+use Rattle.windows.proofs.laws.Taker.{refused-taker}
 use Rattle.windows.proofs.laws.Aimed.{grab-known, aims-point, aims-nobody}
 use Rattle.windows.proofs.laws.Asked.{passed, failed}
 use borrow.Author.Needs.{needs}
@@ -49,7 +50,9 @@ returns c =
     let a = s .args in
     rw (c .nobody .ensures)
     (aims-nobody _ (a .s) 5
-    (too-far (a .s) (a .e) (s .pre .0) (a .grab) (a .x) (a .y) (s .pre .1) (failed (c .before .before .small-point .ensures) (c .before .if1 .taken))))
+    (refused-taker (a .s) (a .e) 4
+    (too-far (a .s) (a .e) (s .pre .0) (a .grab) (a .x) (a .y) (s .pre .1)
+    (failed (c .before .before .small-point .ensures) (c .before .if1 .taken)))))
 
 frames-requires : tie.Need-frames-requires
 frames-requires c κs = search needs
@@ -79,7 +82,9 @@ returns-2 c =
     none-found (a .s) (s .pre .0) (f .frames .result) (f .frames .ensures) (a .x) (a .y) (grabOf (a .grab))
     (grab-known (a .e) (a .s) (a .grab) (a .x) (a .y) (s .pre .0) (s .pre .1)) (sym (ap hitOf (c .before .enum-told .given .1)) ∙ t .taker .ensures) in
     rw (c .nobody2 .ensures)
-    (aims-nobody _ (a .s) 11 (nowhere (a .s) (a .e) (s .pre .0) (a .grab) (a .x) (a .y) (s .pre .1) (is-small (f .before)) (no .0) (no .1)))
+    (aims-nobody _ (a .s) 11
+    (refused-taker (a .s) (a .e) 10
+    (nowhere (a .s) (a .e) (s .pre .0) (a .grab) (a .x) (a .y) (s .pre .1) (is-small (f .before)) (no .0) (no .1))))
 
 cast-at : tie.Need-cast-at
 cast-at c = search needs

@@ -1,11 +1,11 @@
--- The window that is aimed at is told, and put in its place.
+-- The window that is aimed at is told, and put in its place; who took the event goes by the same answer.
 use mathlib.Core.Path.{refl}
 use Rattle.window.specs.Represents.{RepWindow}
 use Rattle.windows.specs.View.{windowAt}
 use Rattle.windows.proofs.laws.Aimed.{told-there}
 use borrow.Author.Needs.{needs}
-use Rattle.windows.proofs.Session.route.Statement.{statement}
-use Rattle.windows.proofs.Session.route.Tie as tie
+use Rattle.windows.proofs.Session.route_to.Statement.{statement}
+use Rattle.windows.proofs.Session.route_to.Tie as tie
 
 -- what is kept of the window that is aimed at
 rep : (c : tie.After-aim-event) → RepWindow (windowAt (c .before .args .t1) (c .aim-event .result .at))
@@ -41,22 +41,26 @@ mul-slot c = search needs
 element-set-from-slot : tie.Need-element-set-from-slot
 element-set-from-slot c = search needs
 
+who-took-requires : tie.Need-who-took-requires
+who-took-requires c κs = search needs
+
 with-window-requires : tie.Need-with-window-requires
 with-window-requires c κs = search needs
 
 returns : tie.Need-returns
 returns c =
-    let t = c .before .before .before .before .before in
-    let b = t .before .before .before in
-    let a = b .before .before .before in
-    let s = a .before .args .t1 in
-    rw (c .with-window .ensures, b .back .ensures .0)
-    (told-there _ s (a .aim-event .result) _ (a .aim-event .ensures)
-    (t .tell .ensures _ (s .shared)
-    (record { rep = rep a; cursor = refl; len = refl; old = rw (b .back .ensures .0); grab = refl })))
+    let after-who = c .before .before in
+    let after-tell = after-who .before .before .before .before .before in
+    let after-back = after-tell .before .before .before in
+    let after-aim = after-back .before .before .before in
+    let s = after-aim .before .args .t1 in
+    rw (c .before .with-window .ensures, after-who .who-took .ensures, after-back .back .ensures .0)
+    (told-there _ s (after-aim .aim-event .result) _ (after-aim .aim-event .ensures)
+    (after-tell .tell .ensures _ (s .shared)
+    (record { rep = rep after-aim; cursor = refl; len = refl; old = rw (after-back .back .ensures .0); grab = refl })))
 
-pub route-spec : {M : Type 1} → statement M
-route-spec =
+pub route-to-spec : {M : Type 1} → statement M
+route-to-spec =
     tie.close
     (tie.spec
     aim-event-requires
@@ -68,5 +72,6 @@ route-spec =
     tell-requires
     mul-slot
     element-set-from-slot
+    who-took-requires
     with-window-requires
     returns)
