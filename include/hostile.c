@@ -34,6 +34,7 @@ static const struct call {
     {"roq_fill", 50, call_fill, {1, 3, 5}},
     {"roq_blit", 50, call_blit, {1, 3, 5, 7}},
     {"roq_route", 150, call_route, {5, 11, 12, 21}},
+    {"roq_route_to", 60, call_route_to, {5, 11, 12, 21}},
     {"roq_pop", 80, call_pop, {3, 10}},
     {"roq_waiting", 20, call_waiting, {0}},
     {"roq_redraw", 20, call_redraw, {1, 8}},

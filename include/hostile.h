@@ -109,6 +109,8 @@ void model_maximise(uint32_t id);
 void model_update_dims(void);
 /* The window that an event goes to, or NOBODY. */
 uint32_t taker_of(RoqEvent e);
+/* The event as its window gets it: only with the fields that its kind has. */
+RoqEvent handed(RoqEvent e, RoqRect r);
 void model_route(RoqEvent e);
 RoqEvent model_pop(uint32_t id);
 void model_redraw(void);

@@ -42,6 +42,7 @@ void call_dim(void);
 
 /* hostile_events.c */
 void call_route(void);
+void call_route_to(void);
 void call_pop(void);
 void call_hits(void);
 

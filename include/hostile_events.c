@@ -31,6 +31,27 @@ void call_route(void) {
         model_route(e);
 }
 
+/* What is due of a route that tells who took the event. */
+static RoqRouted due_route_to(RoqEvent e) {
+    RoqRouted due = {.answer = due_route(e), .id = ROQ_NO_ID};
+    if (due.answer != 0 || e.kind == ROQ_RESIZE)
+        return due;
+    due.id = taker_of(e);
+    RoqEvent h = handed(e, model.windows[due.id].rect);
+    due.x = h.x;
+    due.y = h.y;
+    return due;
+}
+
+void call_route_to(void) {
+    RoqEvent e = random_event();
+    GIVEN(e.kind, e.x, e.y, e.value, e.button, e.count);
+    RoqRouted due = due_route_to(e), routed = roq_route_to(session(), e);
+    if (accepted(routed.answer, due.answer))
+        model_route(e);
+    expect(routed.id == due.id && routed.x == due.x && routed.y == due.y, "another window took the event");
+}
+
 static bool same_event(RoqEvent a, RoqEvent b) {
     return a.kind == b.kind && a.x == b.x && a.y == b.y && a.value == b.value && a.dx == b.dx && a.dy == b.dy &&
            a.button == b.button && a.count == b.count;

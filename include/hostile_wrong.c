@@ -26,6 +26,8 @@
     MISTAKE(focus_late, "the focus is that of the call before")                                                        \
     MISTAKE(pop_button, "an event loses its button")                                                                   \
     MISTAKE(route_order, "a point is asked before the kind of an event")                                               \
+    MISTAKE(took_refused, "a window with a full queue took the event")                                                 \
+    MISTAKE(took_keys, "a key is taken at the mouse's point")                                                          \
     MISTAKE(waiting_moves, "an unread move does not wait")                                                             \
     MISTAKE(portion_over, "a portion is accepted after the walk is over")                                              \
     MISTAKE(stale_less, "what is stale has a column too few")                                                          \
@@ -185,6 +187,15 @@ WRAP(uint32_t, route, RoqSession *s, RoqEvent e) {
     if (is(route_order) && e.kind == ROQ_KEY_FIRE && e.x > 32767)
         return 5;
     return __real_roq_route(s, e);
+}
+
+WRAP(RoqRouted, route_to, RoqSession *s, RoqEvent e) {
+    RoqRouted got = __real_roq_route_to(s, e);
+    if (is(took_refused) && got.answer == 12)
+        got.id = roq_focus(s);
+    if (is(took_keys) && got.answer == 0 && e.kind == ROQ_KEY_DOWN)
+        got.x = e.x;
+    return got;
 }
 
 WRAP(uint32_t, waiting, const RoqSession *s) {

@@ -13,6 +13,7 @@ SIZE(RoqEvent, 20);
 SIZE(RoqSession, 5784);
 SIZE(RoqCreated, 8);
 SIZE(RoqPopped, 24);
+SIZE(RoqRouted, 16);
 SIZE(RoqAltered, 16);
 SIZE(RoqStale, 24);
 SIZE(RoqListing, 16);
@@ -302,6 +303,21 @@ static void waiting(void) {
     EXPECT(roq_waiting(s) == (1u << LAST | 1u) && roq_pop(s, LAST).answer == 0 && roq_pop(s, 0).answer == 0 && roq_waiting(s) == 0);
 }
 
+static bool is_routed(RoqRouted r, uint32_t answer, uint32_t id, uint32_t x, uint32_t y) {
+    return r.answer == answer && r.id == id && r.x == x && r.y == y;
+}
+
+/* Who took an event: a click, a move, a key; nobody took a Resize, a kind that is none, and a point too far. */
+static void takers(void) {
+    const RoqEvent key = {0, 0, 65, 0, 0, ROQ_KEY_DOWN, 0, 0}, resize = {3011, 4022, 0, 0, 0, ROQ_RESIZE, 0, 0};
+    EXPECT(is_routed(roq_route_to(s, mouse(ROQ_MOUSE_CLICK, 3011, 4022, 33, 44)), 0, LAST, 11, 22) && roq_pop(s, LAST).answer == 0);
+    EXPECT(is_routed(roq_route_to(s, mouse(ROQ_MOUSE_MOVE, 3055, 4066, 0, 0)), 0, LAST, 55, 66) && roq_pop(s, LAST).answer == 0);
+    EXPECT(is_routed(roq_route_to(s, key), 0, roq_focus(s), 0, 0) && roq_pop(s, roq_focus(s)).answer == 0);
+    EXPECT(is_routed(roq_route_to(s, resize), 0, ROQ_NO_ID, 0, 0));
+    EXPECT(is_routed(roq_route_to(s, mouse(200, 3011, 4022, 0, 0)), 11, ROQ_NO_ID, 0, 0));
+    EXPECT(is_routed(roq_route_to(s, mouse(ROQ_MOUSE_DOWN, 32768, 4022, 1, 0)), 5, ROQ_NO_ID, 0, 0));
+}
+
 /* The fields of an event, there and back. */
 static void events(void) {
     releases();
@@ -320,6 +336,7 @@ static void events(void) {
     RoqPopped none = roq_pop(s, LAST);
     EXPECT(none.answer == 10 && none.event.kind == ROQ_NO_EVENT);
     EXPECT(roq_route(s, mouse(200, 3052, 4070, 0, 0)) == 11);
+    takers();
     waiting();
 }
 

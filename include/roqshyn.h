@@ -115,7 +115,7 @@ extern "C" {
 
 /* The version of this header; docs/VERSIONS.md of the repository says when which number moves. */
 #define ROQ_VERSION_MAJOR 1
-#define ROQ_VERSION_MINOR 0
+#define ROQ_VERSION_MINOR 1
 #define ROQ_VERSION_PATCH 0
 #define ROQ_VERSION (ROQ_VERSION_MAJOR * 1000000 + ROQ_VERSION_MINOR * 1000 + ROQ_VERSION_PATCH)
 
@@ -326,6 +326,16 @@ RoqAltered roq_blit(RoqSession *s, uint32_t id, RoqRect area, size_t stride, con
  * repeats its keys itself, and no pop gives one. KeyDown, KeyUp and Text ask 11, 12; a MouseMove 5, 11; other pointer
  * events 5, 11, 12. */
 uint32_t roq_route(RoqSession *s, RoqEvent e);
+
+/* What a route gives that tells who took the event: the window, and the point that it was given there, (0,0) for keys
+ * and Text. Where nobody took it the id is ROQ_NO_ID and the point is (0,0): on a no, and of a Resize. */
+typedef struct RoqRouted {
+    uint32_t answer, id, x, y;
+} RoqRouted;
+
+/* Hands an event on as roq_route does, and tells who took it. A MouseMove is taken by the window whose cursor it moves.
+ * Asks as roq_route. */
+RoqRouted roq_route_to(RoqSession *s, RoqEvent e);
 
 /* What a pop gives: on a no the event is all zeros. */
 typedef struct RoqPopped {

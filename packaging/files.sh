@@ -15,7 +15,7 @@ put() {
   command install -m 644 -- "${@:1:$#-1}" "$stage${!#}"
 }
 
-# header_version: as 1.0.0.
+# header_version: as 1.1.0.
 header_version() {
   sed -n 's/^#define ROQ_VERSION_\(MAJOR\|MINOR\|PATCH\) //p' include/roqshyn.h | paste -sd .
 }

@@ -261,6 +261,15 @@ impl Session {
         Error::checked(unsafe { raw::roq_route(&mut self.0, event.numbers()) })
     }
 
+    /// Hands an event on as [`Session::route`] does, and gives the window that took it and the point that it was given,
+    /// (0,0) for keys and Text; of a Resize, nobody.
+    #[inline]
+    pub fn route_to(&mut self, event: Event) -> Result<Option<(Id, Pos)>, Error> {
+        let routed = unsafe { raw::roq_route_to(&mut self.0, event.numbers()) };
+        let taker = (routed.id < WINDOWS as u32).then_some((Id(routed.id), Pos::new(routed.x, routed.y)));
+        Error::checked(routed.answer).map(|()| taker)
+    }
+
     /// The oldest event of a window's queue, or else its unread MouseMove.
     #[inline]
     pub fn pop(&mut self, id: Id) -> Result<Event, Error> {

@@ -236,6 +236,19 @@ fn what_waits() {
 }
 
 #[test]
+fn who_took_it() {
+    let Station { mut session, panel, .. } = station();
+    let at = Pos::new(3, 4);
+    let corner = session.rect_of(panel).unwrap().pos;
+    let inside = Pos::new(at.x - corner.x, at.y - corner.y);
+    assert_eq!(session.route_to(Event::mouse_move(at)), Ok(Some((panel, inside))));
+    assert_eq!(session.route_to(Event::MouseDown { at, button: 1 }), Ok(Some((panel, inside))));
+    assert_eq!(session.route_to(Event::Text(9)), Ok(Some((panel, Pos::new(0, 0)))));
+    assert_eq!(session.route_to(Event::Resize), Ok(None));
+    assert_eq!(session.route_to(Event::KeyFire(9)), Err(Error::KeyFire));
+}
+
+#[test]
 fn what_is_stale() {
     let Station { mut session, mut store, mut screen, plan, panel } = station();
     let whole = Rect::new(0, 0, 8, 8);

@@ -3,7 +3,7 @@
 -- windows share in place (`Both`); `Fields`, `Front` and `Back` touch single fields of them; `Field` changes one other
 -- field alone, or the whole session. `Turns` goes through windows in a loop and puts each back whole. All of these are
 -- steps between the beginning and the end of `Run`. `Each` goes through windows and touches two places of each (`Spot`),
--- with the slices lent again in each turn (`Relend`). `Read` reads the session.
+-- with the slices lent again in each turn (`Relend`). `Read` reads the session. `Hand` hands it on to another call.
 pub mod Types
 pub mod Item
 pub mod Slots
@@ -40,3 +40,4 @@ pub mod Seek
 pub mod Turn
 pub mod Field
 pub mod Read
+pub mod Hand

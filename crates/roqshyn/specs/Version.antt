@@ -6,7 +6,7 @@ abbrev pub versionOf : ℕ → ℕ → ℕ → ℕ
 versionOf major minor patch = major * 1000000 + minor * 1000 + patch
 
 abbrev pub version : ℕ
-version = versionOf 1 0 0
+version = versionOf 1 1 0
 
 -- the bytes of the struct `Session`; the logic knows no sizes, so include/layout.c compares them
 abbrev pub sessionSize : ℕ

@@ -12,7 +12,7 @@ ghost use Rattle.rules.specs.DisplayAt.{displayAt};
 ghost use Rattle.rules.specs.Stale.{stale};
 ghost use Rattle.rules.specs.Waiting.{waiting};
 ghost use Rattle.rules.specs.State.{windowState, sessionState};
-ghost use Rattle.roqshyn.specs.Answers.{Creates, Pops, displayed};
+ghost use Rattle.roqshyn.specs.Answers.{Creates, Pops, RoutesTo, displayed};
 ghost use Rattle.roqshyn.specs.Events.{eventOf, Routes};
 ghost use Rattle.roqshyn.specs.Looks.{lookOf};
 use crate::events::RoqEvent;
@@ -23,6 +23,7 @@ use crate::values;
 use crate::values::RoqCreated;
 use crate::values::RoqDisplay;
 use crate::values::RoqPopped;
+use crate::values::RoqRouted;
 use geom::Listing;
 use geom::Rect;
 use winbuf::Altered;
@@ -301,9 +302,9 @@ pub extern "C" fn roq_update_dims(s: &mut Session, store: &mut [u32]) -> u32
 }
 
 #[no_mangle]
-pub extern "C" fn roq_route(s: &mut Session, e: RoqEvent) -> u32
+pub extern "C" fn roq_route_to(s: &mut Session, e: RoqEvent) -> RoqRouted
     requires { ⌜ Given (now s) ⌝ }
-    ensures { λ r. ⌜ Routes (eventOf e) (now (s .entry)) (done (now (s .exit)) r) ⌝ }
+    ensures { λ r. ⌜ RoutesTo (eventOf e) (now (s .entry)) (now (s .exit)) r ⌝ }
 {
     let aim = values::aim(*s, e);
     let at = aim.at;
@@ -315,6 +316,7 @@ pub extern "C" fn roq_route(s: &mut Session, e: RoqEvent) -> u32
         (*s).shared.grab,
         aim.what,
     );
+    let r = values::routed(at, aim.what, d.answer);
     let x = d.slot;
     (*s).windows[at].queue.slots[k] = x;
     let c = d.cursor;
@@ -322,7 +324,16 @@ pub extern "C" fn roq_route(s: &mut Session, e: RoqEvent) -> u32
     (*s).windows[at].queue.len = d.len;
     let h = d.grab;
     (*s).shared.grab = h;
-    d.answer
+    r
+}
+
+#[no_mangle]
+pub extern "C" fn roq_route(s: &mut Session, e: RoqEvent) -> u32
+    requires { ⌜ Given (now s) ⌝ }
+    ensures { λ r. ⌜ Routes (eventOf e) (now (s .entry)) (done (now (s .exit)) r) ⌝ }
+{
+    let r = roq_route_to(s, e);
+    r.answer
 }
 
 #[no_mangle]

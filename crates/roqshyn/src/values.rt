@@ -4,11 +4,11 @@ ghost use Prim.Native.Nat.{_≤_, _<_};
 ghost use Rattle.window.specs.Represents.{RepCursor};
 ghost use Rattle.rules.specs.Group.{idOr};
 ghost use Rattle.rules.specs.DisplayAt.{displayAt};
-ghost use Rattle.windows.specs.View.{group, Given, Starts, idOf};
-ghost use Rattle.windows.specs.inner.Aimed.{Aims};
-ghost use Rattle.roqshyn.specs.Events.{eventOf, Routes};
-ghost use Rattle.roqshyn.specs.Answers.{displayed};
-ghost use Rattle.roqshyn.specs.inner.One.{MakesAt, PopsFront};
+ghost use Rattle.windows.specs.View.{group, Given, Starts, idOf, takerIn};
+ghost use Rattle.windows.specs.inner.Aimed.{Aims, whoTook};
+ghost use Rattle.roqshyn.specs.Events.{eventOf};
+ghost use Rattle.roqshyn.specs.Answers.{displayed, routedAs};
+ghost use Rattle.roqshyn.specs.inner.One.{MakesAt, PopsFront, Reaches};
 use crate::events;
 use crate::events::RoqEvent;
 use display::Located;
@@ -24,9 +24,12 @@ use windows::NewId;
 use windows::NextEvent;
 use windows::Session;
 use windows::Shared;
+use windows::Taker;
 use windows::inner::events::Aim;
+use windows::inner::events::Message;
 use windows::inner::events::aim_event;
 use windows::inner::events::nobody;
+use windows::inner::events::who_took;
 use windows::inner::one;
 
 // The answer and the id: 4,294,967,295 where the call was refused.
@@ -34,6 +37,15 @@ use windows::inner::one;
 pub struct RoqCreated {
     pub answer: u32,
     pub id: WinId,
+}
+
+// The answer, the window that took the event, and the point that it was given there. Nobody is 4,294,967,295, at (0,0).
+#[repr(C)]
+pub struct RoqRouted {
+    pub answer: u32,
+    pub id: WinId,
+    pub x: u32,
+    pub y: u32,
 }
 
 // The answer and the event, whose numbers are all 0 where the call was refused.
@@ -149,11 +161,28 @@ pub fn pop(used: bool, cursor: CursorPos, head: u8, len: u8, first: Slot, id: Wi
 // Where the event goes that numbers stand for. Numbers that stand for none find no window to take it: 11.
 pub fn aim(s: Session, e: RoqEvent) -> Aim
     requires { ⌜ Given s ⌝ }
-    ensures { λ r. ⌜ Aims (Routes (eventOf e) s) s r ⌝ }
+    ensures { λ r. ⌜ Aims (Reaches (eventOf e) s) s r ⌝ }
 {
     let next = events::event_of(e);
     match next {
         NextEvent::Event(told) => aim_event(s, told),
         NextEvent::Absent => nobody(NO_WINDOW),
+    }
+}
+
+// The answer, and who took the event that the window at this place was told of.
+pub fn routed(at: usize, what: Message, answer: u32) -> RoqRouted
+    requires { ⌜ at < 16 ⌝ }
+    ensures { λ r. ⌜ r ≡ routedAs answer (takerIn (whoTook at what answer)) ⌝ }
+{
+    let taker = who_took(at, what, answer);
+    match taker {
+        Taker::Window { id, x, y } => RoqRouted { answer, id, x, y },
+        Taker::Nobody => RoqRouted {
+            answer,
+            id: WinId(4294967295),
+            x: 0,
+            y: 0,
+        },
     }
 }

@@ -4,7 +4,7 @@ ghost use Rattle.roqshyn.specs.Version.{version, sessionSize};
 
 const MAJOR: u32 = 1;
 
-const MINOR: u32 = 0;
+const MINOR: u32 = 1;
 
 const PATCH: u32 = 0;
 // The language has no size of a struct: include/layout.c compares this number with what the calls read and write.

@@ -1,8 +1,8 @@
 -- A call that adds to what an element keeps in a ring, in place, at the place that the session is asked for: `fn(s:
 -- &mut S, p: P) -> R { let t = f(*s, p); let at = t.0; let k = back((*s).items[at].h, (*s).items[at].l); let d =
--- g((*s).items[at].slots[k], (*s).items[at].c, (*s).items[at].l, (*s).shared.n, t.1); let x = d.0;
--- (*s).items[at].slots[k] = x; let c = d.1; (*s).items[at].c = c; (*s).items[at].l = d.2; let n = d.3; (*s).shared.n =
--- n; d.4 }`.
+-- g((*s).items[at].slots[k], (*s).items[at].c, (*s).items[at].l, (*s).shared.n, t.1); let r = made(at, t.1, d.4); let x =
+-- d.0; (*s).items[at].slots[k] = x; let c = d.1; (*s).items[at].c = c; (*s).items[at].l = d.2; let n = d.3;
+-- (*s).shared.n = n; r }`.
 use mathlib.Core.Path.{_≡_, refl}
 use Prim.Native.Nat.{ℕ, _<_, _+_, _*_}
 use mathlib.Core.List.{[], _∷_, List}
@@ -36,13 +36,14 @@ use Rattle.roqshyn.proofs.forms.Inside.{Way, Row, elements, shared, her
 use Rattle.roqshyn.proofs.forms.Touch.{Address, points-by, loads, stores, loads-by, stores-by, aimed, fetched, aims, fetch, fetch-by}
 use Rattle.roqshyn.proofs.forms.Touch.{restore, restore-again, of-local, of-field}
 use Rattle.roqshyn.proofs.forms.Ask as ask
-use Rattle.roqshyn.proofs.forms.Ask.{Tuple, ofPlain, ofTuple, Passing, Asked, asks}
+use Rattle.roqshyn.proofs.forms.Ask.{Tuple, ofPlain, ofTuple, Passing, Asked, asks, valued}
 use Rattle.roqshyn.proofs.forms.Both.{answer, pointer}
 use Rattle.roqshyn.proofs.forms.Run as run
 use Rattle.roqshyn.proofs.forms.Run.{Shape, Promise, Entry}
 
 -- Where the locals lie: the place that was found, and the index in it; the index of the slot; what the function handed
--- back, and three parts of it; the copy of the session; what is read; and how each is reached to be read and written
+-- back, what was made of it, and three parts of it; the copy of the session; what is read; and how each is reached to be
+-- read and written
 abbrev found-at : ℕ
 found-at = 2
 
@@ -55,70 +56,73 @@ slot-index = 4
 abbrev handed : ℕ
 handed = 5
 
+abbrev made-at : ℕ
+made-at = 6
+
 abbrev new-slot : ℕ
-new-slot = 6
+new-slot = 7
 
 abbrev new-cursor : ℕ
-new-cursor = 7
+new-cursor = 8
 
 abbrev new-shared : ℕ
-new-shared = 8
+new-shared = 9
 
 abbrev session : ℕ
-session = 9
+session = 10
 
 abbrev head : ℕ
-head = 13
+head = 14
 
 abbrev len : ℕ
-len = 17
+len = 18
 
 abbrev slot : ℕ
-slot = 22
+slot = 23
 
 abbrev cursor : ℕ
-cursor = 26
+cursor = 27
 
 abbrev shared-field : ℕ
-shared-field = 30
+shared-field = 31
 
 abbrev to-head : Address
-to-head = record { offset = 10; array = 11; at = 12 }
+to-head = record { offset = 11; array = 12; at = 13 }
 
 abbrev to-len : Address
-to-len = record { offset = 14; array = 15; at = 16 }
+to-len = record { offset = 15; array = 16; at = 17 }
 
 abbrev to-ring : Address
-to-ring = record { offset = 10; array = 18; at = 19 }
+to-ring = record { offset = 11; array = 19; at = 20 }
 
 abbrev to-slot : Address
-to-slot = record { offset = 14; array = 20; at = 21 }
+to-slot = record { offset = 15; array = 21; at = 22 }
 
 abbrev to-cursor : Address
-to-cursor = record { offset = 23; array = 24; at = 25 }
+to-cursor = record { offset = 24; array = 25; at = 26 }
 
 abbrev to-len-again : Address
-to-len-again = record { offset = 27; array = 28; at = 29 }
+to-len-again = record { offset = 28; array = 29; at = 30 }
 
 abbrev write-ring : Address
-write-ring = record { offset = 10; array = 31; at = 32 }
+write-ring = record { offset = 11; array = 32; at = 33 }
 
 abbrev write-slot : Address
-write-slot = record { offset = 14; array = 33; at = 34 }
+write-slot = record { offset = 15; array = 34; at = 35 }
 
 abbrev write-cursor : Address
-write-cursor = record { offset = 23; array = 35; at = 36 }
+write-cursor = record { offset = 24; array = 36; at = 37 }
 
 abbrev write-len : Address
-write-len = record { offset = 14; array = 37; at = 38 }
+write-len = record { offset = 15; array = 38; at = 39 }
 
 -- E is the element's type, K the other field's, O that of the field which stays; G and B are those of fields of the
 -- element, of which two are of type B, F that of the slots of its ring, and N that of a field of K; X is that of what
--- the function is handed beside them, P the argument's and R the answer's; I is the struct of place and X, and D the
--- struct of five that the function hands back
-module _ (E K O G B F N X P R : Plain) (L : Slots E K O) (c : Way E G) (h l : Way E B) (ring : Row E F) (m : Way K N)
+-- the function is handed beside them, P the argument's, Y the answer's, and R that of the result, which is made of the
+-- place, X and the answer; I is the struct of place and X, and D the struct of five that the function hands back
+module _ (E K O G B F N X P Y R : Plain) (L : Slots E K O) (c : Way E G) (h l : Way E B) (ring : Row E F) (m : Way K N)
     (I : Tuple (index ∷ X ∷ []))
-    (D : Tuple (F ∷ G ∷ B ∷ N ∷ R ∷ [])) where
+    (D : Tuple (F ∷ G ∷ B ∷ N ∷ Y ∷ [])) where
   abbrev S : Plain
   S = slots.plain L
 
@@ -139,7 +143,7 @@ module _ (E K O G B F N X P R : Plain) (L : Slots E K O) (c : Way E G) (h l : Wa
     n = 0;
     ps = all-args;
     own = local (ofTuple I .ty) valueLocal ∷ local (tyInt w64) valueLocal ∷ local (tyInt w64) valueLocal
-        ∷ local (ofTuple D .ty) valueLocal ∷ local (F .ty) valueLocal ∷ local (G .ty) valueLocal
+        ∷ local (ofTuple D .ty) valueLocal ∷ local (R .ty) valueLocal ∷ local (F .ty) valueLocal ∷ local (G .ty) valueLocal
         ∷ local (N .ty) valueLocal ∷ local (S .ty) valueLocal ∷ address (local (B .ty) valueLocal
         ∷ address (local (B .ty) valueLocal ∷ pointers (pointers (local (F .ty) valueLocal
         ∷ address (local (G .ty) valueLocal ∷ address (local (N .ty) valueLocal
@@ -154,8 +158,8 @@ module _ (E K O G B F N X P R : Plain) (L : Slots E K O) (c : Way E G) (h l : Wa
   abbrev m′ : Way S N
   m′ = then (shared L) m
 
-  abbrev code : Name → Name → Name → Fn
-  code f back g =
+  abbrev code : Name → Name → Name → Name → Fn
+  code f back g made =
       run.code shape
       (loads (here S) (number pointer) (number session)
       (run.passes shape found-at f (run.local-at shape session ∷ [])
@@ -170,6 +174,8 @@ module _ (E K O G B F N X P R : Plain) (L : Slots E K O) (c : Way E G) (h l : Wa
       (loads m′ (number pointer) (number shared-field)
       (run.calls shape handed g (run.local-at shape slot ∷ run.local-at shape cursor ∷ run.local-at shape len
       ∷ run.local-at shape shared-field ∷ run.field-at shape found-at 1 ∷ [])
+      (run.calls shape made-at made (run.local-at shape index-of ∷ run.field-at shape found-at 1
+      ∷ run.field-at shape handed 4 ∷ [])
       (run.lets shape new-slot (run.field-at shape handed 0)
       (points-by (elements L) number pointer index-of write-ring
       (stores-by ring (here F) number (write-ring .at) slot-index write-slot (run.local-at shape new-slot)
@@ -178,8 +184,8 @@ module _ (E K O G B F N X P R : Plain) (L : Slots E K O) (c : Way E G) (h l : Wa
       (stores-by (elements L) l number pointer index-of write-len (run.field-at shape handed 2)
       (run.lets shape new-shared (run.field-at shape handed 3)
       (stores m′ (number pointer) (run.local-at shape new-shared)
-      (run.lets shape answer (run.field-at shape handed 4)
-      return)))))))))))))))))))))
+      (run.lets shape answer (run.local-at shape made-at)
+      return))))))))))))))))))))))
 
   -- the session as the function leaves it, k being the place of the element and j that of the slot
   abbrev left : ℕ → ℕ → D .type .Denot → Of S → Of S
@@ -189,11 +195,12 @@ module _ (E K O G B F N X P R : Plain) (L : Slots E K O) (c : Way E G) (h l : Wa
       (slots.at L s k)))) s)
 
   -- what is known of the session and of the place; what `back` asks and promises; what the function asks and promises;
-  -- and what the call promises
+  -- what `made` asks and promises; and what the call promises
   module _ (Ok : Of S → Type 0) (Found : Of S → Of P → I .type .Denot → Type 0) (Low : Of B → Of B → Type 0) (At : Of B
       → Of B → ℕ → Type 0)
       (Pre : Of F → Of G → Of B → Of N → Of X → Type 0) (Does : Of F → Of G → Of B → Of N → Of X → D .type .Denot
       → Type 0)
+      (Fit : ℕ → Of X → Of Y → Type 0) (Makes : ℕ → Of X → Of Y → Of R → Type 0)
       (Q : (κs : Lfts 1) → Of S → args.Given all-args κs → Of R → Of S → call.AtExit S R 0 all-args κs → Type 0)
       (inside : (s : Of S) (p : Of P) (i : I .type .Denot) → Ok s → Found s p i → I .parts i .0 < L .n)
       (low : (s : Of S) (p : Of P) (i : I .type .Denot) → Ok s → Found s p i → (let w = slots.at L s
@@ -204,12 +211,15 @@ module _ (E K O G B F N X P R : Plain) (L : Slots E K O) (c : Way E G) (h l : Wa
       → (let w = slots.at L s (I .parts i .0) in At (h .get w) (l .get w) j)
       → (let w = slots.at L s (I .parts i .0) in Pre (ring .get j w) (c .get w) (l .get w) (m .get (L .shared s))
       (I .parts i .1 .0)))
+      (fit : (s : Of S) (p : Of P) (i : I .type .Denot) (v : Of Y) → Ok s → Found s p i
+      → Fit (I .parts i .0) (I .parts i .1 .0) v)
       (law : (κs : Lfts 1) (s : Of S) (a : args.Given all-args κs) (i : I .type .Denot) (j : ℕ) (d : D .type .Denot)
-      (ws : Left all-args κs a) → Ok s
+      (r : Of R) (ws : Left all-args κs a) → Ok s
       → Found s (a .0) i → (let w = slots.at L s (I .parts i .0) in At (h .get w) (l .get w) j)
       → (let w = slots.at L s (I .parts i .0) in Does (ring .get j w) (c .get w) (l .get w) (m .get (L .shared s))
       (I .parts i .1 .0) d)
-      → Q κs s a (D .parts d .1 .1 .1 .1 .0) (left (I .parts i .0) j d s) (call.at-exit S R 0 all-args κs a ws)) where
+      → Makes (I .parts i .0) (I .parts i .1 .0) (D .parts d .1 .1 .1 .1 .0) r
+      → Q κs s a r (left (I .parts i .0) j d s) (call.at-exit S R 0 all-args κs a ws)) where
     abbrev finds-pre : (κs : Lfts 0) → Args (ask.sig (S ∷ []) all-args (ofTuple I)) κs → Type 0
     finds-pre κs a = Ok (a .0)
 
@@ -226,6 +236,15 @@ module _ (E K O G B F N X P R : Plain) (L : Slots E K O) (c : Way E G) (h l : Wa
     abbrev does : (κs : Lfts 0) → Args (ask.sig read ask.no-args (ofTuple D)) κs → D .type .Denot → Type 0
     does κs a d = Does (a .0) (a .1 .0) (a .1 .1 .0) (a .1 .1 .1 .0) (a .1 .1 .1 .1 .0) d
 
+    abbrev told : List Plain
+    told = index ∷ X ∷ Y ∷ []
+
+    abbrev made-pre : (κs : Lfts 0) → Args (ask.sig told ask.no-args (ofPlain R)) κs → Type 0
+    made-pre κs a = Fit (a .0) (a .1 .0) (a .1 .1 .0)
+
+    abbrev made-does : (κs : Lfts 0) → Args (ask.sig told ask.no-args (ofPlain R)) κs → Of R → Type 0
+    made-does κs a r = Makes (a .0) (a .1 .0) (a .1 .1 .0) r
+
     abbrev promise : Promise shape
     promise = record { Ok = Ok; Q = Q }
 
@@ -239,14 +258,17 @@ module _ (E K O G B F N X P R : Plain) (L : Slots E K O) (c : Way E G) (h l : Wa
       abbrev Value : Contract 𝓤
       Value = Asked read (ofTuple D) pre does 𝓤 H A
 
+      abbrev Made : Contract 𝓤
+      Made = Asked told (ofPlain R) made-pre made-does 𝓤 H A
+
     module _ {M : Type 1} (𝓤 : URA M) (H : Heap 𝓤) (A : Atoms 𝓤) (W : Given 𝓤 H A) (κs : Lfts 1) (qs : Shares 1)
         (a : Args (call.sig S R 0 all-args) κs) (C : Calls 𝓤 H) (Λ : Loops 𝓤 H) (fm : FmC 𝓤 H (W .laws) C)
-        (f back g : Name) (place-known : Triple 𝓤 (C f) (Find 𝓤 H A)) (back-known : Triple 𝓤 (C back) (Back 𝓤 H A))
-        (known : Triple 𝓤 (C g) (Value 𝓤 H A)) where
+        (f back g made : Name) (place-known : Triple 𝓤 (C f) (Find 𝓤 H A)) (back-known : Triple 𝓤 (C back) (Back 𝓤 H A))
+        (known : Triple 𝓤 (C g) (Value 𝓤 H A)) (made-known : Triple 𝓤 (C made) (Made 𝓤 H A)) where
       abbrev Z : Entry shape promise
       Z = record { M = M; 𝓤 = 𝓤; H = H; A = A; W = W; κs = κs; qs = qs; a = a }
 
-      runs : call.Runs S R 0 all-args Ok Q 𝓤 H A κs qs a (WpFn 𝓤 H C Λ (code f back g))
+      runs : call.Runs S R 0 all-args Ok Q 𝓤 H A κs qs a (WpFn 𝓤 H C Λ (code f back g made))
       runs are ok =
           let s = run.s₀ Z in
           let b = run.b Z in
@@ -314,8 +336,16 @@ module _ (E K O G B F N X P R : Plain) (L : Slots E K O) (c : Way E G) (h l : Wa
           -- what it handed back is put in its place: the slot
           let is = D .owed d y d-is in
           let new = D .parts d in
-          let ps = F ∷ G ∷ B ∷ N ∷ R ∷ [] in
-          let σ₁₂ = set σ₁₁ handed (ofTuple D .val d) in
+          let ps = F ∷ G ∷ B ∷ N ∷ Y ∷ [] in
+          let σₜ = set σ₁₁ handed (ofTuple D .val d) in
+          let v = new .1 .1 .1 .1 .0 in
+          asks told (ofPlain R) made-pre made-does ! T σₜ made-at fm made made-known (k, (I .parts i .1 .0, (v, tt)))
+          (i-owed .0, (i-owed .1 .0, (is .1 .1 .1 .1 .0, tt))) (fit s p i v ok found) refl
+          (and-then ! (of-local T ! 1 σₜ index-of refl refl refl)
+          (and-then ! (of-field T ! 1 σₜ found-at 1 (I .name) (index ∷ X ∷ []) (I .parts i) refl refl refl refl)
+          (and-then ! (of-field T ! 1 σₜ handed 4 (D .name) ps new refl refl refl refl) (no-more !)))) (λ res u res-is makes.
+          let made-is = valued R res u res-is in
+          let σ₁₂ = set σₜ made-at (R .val res) in
           assigns ! (of-opd ! (of-field T ! 0 σ₁₂ handed 0 (D .name) ps new refl refl refl refl))
           (vars.at T ! new-slot refl (stop !)) (into T ! σ₁₂ new-slot refl (F .typed 𝓤 H A W (new .0) (is .0))) $
           let σ₁₃ = set σ₁₂ new-slot (F .val (new .0)) in
@@ -352,13 +382,12 @@ module _ (E K O G B F N X P R : Plain) (L : Slots E K O) (c : Way E G) (h l : Wa
           let σ₁₉ = set σ₁₈ new-shared (N .val (new .1 .1 .1 .0)) in
           restore T m′ b o s₃ s₃-is (itself ! S b o s₃) ! σ₁₉ pointer (refl, refl) (new .1 .1 .1 .0) (is .1 .1 .1 .0)
           (of-local T ! 0 σ₁₉ new-shared refl refl refl) $
-          -- and the answer
-          assigns ! (of-opd ! (of-field T ! 0 σ₁₉ handed 4 (D .name) ps new refl refl refl refl))
-          (vars.at T ! answer refl (stop !))
-          (into T ! σ₁₉ answer refl (R .typed 𝓤 H A W (new .1 .1 .1 .1 .0) (is .1 .1 .1 .1 .0))) $
-          run.ends Z blocks (set σ₁₉ answer (R .val (new .1 .1 .1 .1 .0))) (left k j d s) (new .1 .1 .1 .1 .0) (ws .1) refl
-          (m′ .is-put s₃ (new .1 .1 .1 .0) s₃-is (is .1 .1 .1 .0)) (is .1 .1 .1 .1 .0)
-          (law κs s (a .1) i j d (ws .1) ok found at-j done)))))
+          -- and the result
+          assigns ! (of-opd ! (of-local T ! 0 σ₁₉ made-at refl refl refl)) (vars.at T ! answer refl (stop !))
+          (into T ! σ₁₉ answer refl (R .typed 𝓤 H A W res made-is)) $
+          run.ends Z blocks (set σ₁₉ answer (R .val res)) (left k j d s) res (ws .1) refl
+          (m′ .is-put s₃ (new .1 .1 .1 .0) s₃-is (is .1 .1 .1 .0)) made-is
+          (law κs s (a .1) i j d res (ws .1) ok found at-j done makes))))))
 
     -- a caller that is this code, of callees that meet their contracts, meets its own
     pub meets : {M : Type 1} (𝓤 : URA M) (H : Heap 𝓤) (𝓜 : Model 𝓤 H) (𝓖 : GhostRules 𝓤 H) (𝓡 : Running 𝓤 H 𝓜)
@@ -366,14 +395,16 @@ module _ (E K O G B F N X P R : Plain) (L : Slots E K O) (c : Way E G) (h l : Wa
         (f : Name) (r : Routine) → env f ≡ r → Triple 𝓤 (𝓡 .run r) (Find 𝓤 H (𝓖 .A))
         → (back : Name) (r′ : Routine) → env back ≡ r′ → Triple 𝓤 (𝓡 .run r′) (Back 𝓤 H (𝓖 .A))
         → (g : Name) (r″ : Routine) → env g ≡ r″ → Triple 𝓤 (𝓡 .run r″) (Value 𝓤 H (𝓖 .A))
+        → (made : Name) (r‴ : Routine) → env made ≡ r‴ → Triple 𝓤 (𝓡 .run r‴) (Made 𝓤 H (𝓖 .A))
         → Meets 𝓤 H (𝓖 .A) (call.sig S R 0 all-args) (WpFn 𝓤 H (tables 𝓤 H 𝓜 𝓡 env .C) (tables 𝓤 H 𝓜 𝓡 env .Λ)
-        (code f back g))
+        (code f back g made))
         (closing 𝓤 H (𝓖 .A) (call.ended S R 0 all-args) (call.clauses S R 0 all-args Ok Q 𝓤))
     unfolding tablesOf
-    meets 𝓤 H 𝓜 𝓖 𝓡 env f r is met back r′ is′ met′ g r″ is″ met″ =
+    meets 𝓤 H 𝓜 𝓖 𝓡 env f r is met back r′ is′ met′ g r″ is″ met″ made r‴ is‴ met‴ =
         let W = givenOf 𝓤 H 𝓜 𝓖 in
         let 𝓣 = tablesOf 𝓤 H 𝓜 (tables 𝓤 H 𝓜 𝓡 env) in
-        call.meets S R 0 all-args Ok Q 𝓤 H (𝓖 .A) W (WpFn 𝓤 H (𝓣 .C) (𝓣 .Λ) (code f back g)) (λ κs qs a. runs 𝓤 H
+        call.meets S R 0 all-args Ok Q 𝓤 H (𝓖 .A) W (WpFn 𝓤 H (𝓣 .C) (𝓣 .Λ) (code f back g made)) (λ κs qs a. runs 𝓤 H
         (𝓖 .A) W κs qs a (𝓣 .C) (𝓣 .Λ)
-        (fmOf 𝓤 H (W .laws) 𝓣) f back g (cited 𝓤 H (Find 𝓤 H (𝓖 .A)) 𝓜 𝓡 env f r is met)
-        (cited 𝓤 H (Back 𝓤 H (𝓖 .A)) 𝓜 𝓡 env back r′ is′ met′) (cited 𝓤 H (Value 𝓤 H (𝓖 .A)) 𝓜 𝓡 env g r″ is″ met″))
+        (fmOf 𝓤 H (W .laws) 𝓣) f back g made (cited 𝓤 H (Find 𝓤 H (𝓖 .A)) 𝓜 𝓡 env f r is met)
+        (cited 𝓤 H (Back 𝓤 H (𝓖 .A)) 𝓜 𝓡 env back r′ is′ met′) (cited 𝓤 H (Value 𝓤 H (𝓖 .A)) 𝓜 𝓡 env g r″ is″ met″)
+        (cited 𝓤 H (Made 𝓤 H (𝓖 .A)) 𝓜 𝓡 env made r‴ is‴ met‴))

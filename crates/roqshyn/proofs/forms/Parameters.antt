@@ -75,6 +75,8 @@ use Rattle.roqshyn.proofs.values.RoqCreated as RoqCreated
 use Rattle.roqshyn.proofs.values.RoqCreated.Laws as RoqCreated′
 use Rattle.roqshyn.proofs.values.RoqPopped as RoqPopped
 use Rattle.roqshyn.proofs.values.RoqPopped.Laws as RoqPopped′
+use Rattle.roqshyn.proofs.values.RoqRouted as RoqRouted
+use Rattle.roqshyn.proofs.values.RoqRouted.Laws as RoqRouted′
 use Rattle.roqshyn.proofs.values.RoqDisplay as RoqDisplay
 use Rattle.roqshyn.proofs.values.RoqDisplay.Laws as RoqDisplay′
 use Rattle.roqshyn.proofs.values.Made as Made
@@ -164,6 +166,9 @@ created = ofStruct RoqCreated.the-type RoqCreated′.the-laws RoqCreated′.the-
 
 abbrev pub popped : Plain
 popped = ofStruct RoqPopped.the-type RoqPopped′.the-laws RoqPopped′.the-plain RoqPopped′.mir refl
+
+abbrev pub routedTo : Plain
+routedTo = ofStruct RoqRouted.the-type RoqRouted′.the-laws RoqRouted′.the-plain RoqRouted′.mir refl
 
 -- The session as sixteen windows, what they share and the displays -----------------------------------------------------------------
 

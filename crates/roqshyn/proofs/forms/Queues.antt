@@ -16,6 +16,8 @@ use Rattle.windows.proofs.inner.events.Aim as Aim
 use Rattle.windows.proofs.inner.events.Aim.Laws as Aim′
 use Rattle.windows.proofs.inner.events.Told as Told
 use Rattle.windows.proofs.inner.events.Told.Laws as Told′
+use Rattle.roqshyn.proofs.values.RoqRouted as RoqRouted
+use Rattle.roqshyn.proofs.values.RoqRouted.Laws as RoqRouted′
 use Rattle.roqshyn.proofs.values.AfterPop as AfterPop
 use Rattle.roqshyn.proofs.values.AfterPop.Laws as AfterPop′
 use Rattle.roqshyn.proofs.forms.Types.{Plain, Of, index, ofStruct}
@@ -134,4 +136,15 @@ afterPop = record {
   tells = Laws.tells AfterPop.the-type AfterPop′.the-laws;
   typed = λ 𝓤 H A W d v is. Laws.lawful AfterPop.the-type AfterPop′.the-laws 𝓤 H A W .typed d (v ∷ []) is .0;
   owed = λ d v is. Laws.owed AfterPop.the-type AfterPop′.the-laws d (v ∷ []) is;
+}
+
+-- what a route hands back that tells who took the event: the answer, the window, and the point
+abbrev pub whoTook : Tuple (number ∷ winId ∷ number ∷ number ∷ [])
+whoTook = record {
+  type = RoqRouted.the-row;
+  name = RoqRouted.struct .name;
+  parts = λ d. (d .answer, (d .id, (d .x, (d .y, tt))));
+  tells = Laws.tells RoqRouted.the-type RoqRouted′.the-laws;
+  typed = λ 𝓤 H A W d v is. Laws.lawful RoqRouted.the-type RoqRouted′.the-laws 𝓤 H A W .typed d (v ∷ []) is .0;
+  owed = λ d v is. Laws.owed RoqRouted.the-type RoqRouted′.the-laws d (v ∷ []) is;
 }

@@ -1,14 +1,18 @@
--- Create as a function of one window, and pop as one of a window's fields.
+-- Create as a function of one window, pop as one of a window's fields, and what a route reaches.
 use Prim.Native.Nat.{ℕ}
 use mathlib.Core.Bool.{Bool}
 use mathlib.Core.Path.{_≡_}
+use mathlib.Core.Option.{Option, none, some}
 use Rattle.window.specs.declared.CursorPos.{CursorPos}
 use Rattle.window.specs.declared.slots.Slot.{Slot}
+use Rattle.window.specs.declared.Event.{Event}
 use Rattle.window.specs.declared.Window.{Window}
+use Rattle.rules.specs.Taker as Taken
 use Rattle.windows.specs.declared.Session.{Session}
 use Rattle.windows.specs.declared.Shared.{Shared}
 use Rattle.windows.specs.declared.FreeSlot.{FreeSlot}
-use Rattle.windows.specs.View.{windowAt, Given}
+use Rattle.windows.specs.declared.Done.{Done}
+use Rattle.windows.specs.View.{windowAt, Given, MeetsTaker, done}
 use Rattle.windows.specs.inner.One.{At, Free, withWindow}
 use Rattle.windows.specs.inner.Aimed.{AtFront}
 use Rattle.roqshyn.specs.declared.values.Made.{Made}
@@ -39,3 +43,8 @@ PopsFront id used cursor head len first r =
     (w : Window) → AtFront used cursor head len first w
     → (s : Session) (at : ℕ) → Given s → At id at → windowAt s at ≡ w
     → Pops id s (withWindow at (afterPop r w) (s .shared) s) (r .popped)
+
+-- what routing an event promises of the session, and of who took it
+abbrev pub Reaches : Option Event → Session → Done → Taken.Taker → Type 0
+Reaches (some e) s r t = MeetsTaker e s r t
+Reaches none s r t = (r ≡ done s 11) × (t ≡ Taken.nobody)
