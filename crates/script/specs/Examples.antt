@@ -5,7 +5,7 @@ use mathlib.Core.Path.{_≡_, refl}
 use mathlib.Core.List.{[], _∷_}
 use Rattle.script.specs.Text.{bytes}
 use Rattle.script.specs.Kind as Kind
-use Rattle.script.specs.Script.{split, words, value, number, nameByte, isName, table, kindOf, counted, ranged, nameFits, accepts, Heard, silent, malformed, call, withWord, complete, hears}
+use Rattle.script.specs.Script.{split, words, value, number, nameByte, isName, table, kindOf, counted, isEvent, ranged, nameFits, accepts, Heard, silent, malformed, call, withWord, complete, hears}
 
 infix 20 _means_
 abbrev _means_ : String → Heard → Type 0
@@ -31,8 +31,10 @@ pub calls : ("start 4294967295" means call Kind.start (4294967295 ∷ []) [])
     × ("waiting" means call Kind.waiting [] [])
     × ("window 16" means call Kind.window (16 ∷ []) [])
     × ("session" means call Kind.session [] [])
-unfolding split words value number nameByte isName table kindOf counted ranged nameFits accepts withWord complete hears
-calls = (refl, refl, refl, refl, refl, refl, refl, refl, refl, refl, refl, refl, refl, refl, refl, refl, refl, refl, refl, refl)
+    × ("who 1 0 0 0 0" means call Kind.who (1 ∷ 0 ∷ 0 ∷ 0 ∷ 0 ∷ []) [])
+    × ("who 9 3 4294967295 255 255" means call Kind.who (9 ∷ 3 ∷ 4294967295 ∷ 255 ∷ 255 ∷ []) [])
+unfolding split words value number nameByte isName table kindOf counted isEvent ranged nameFits accepts withWord complete hears
+calls = (refl, refl, refl, refl, refl, refl, refl, refl, refl, refl, refl, refl, refl, refl, refl, refl, refl, refl, refl, refl, refl, refl)
 
 pub no-calls : ("" means silent)
     × ("# start 1" means silent)
@@ -49,18 +51,28 @@ pub no-calls : ("" means silent)
     × ("layer 3" means malformed)
     × ("read-sheet 4 256" means malformed)
     × ("stale 0 0 0 8" means malformed)
+    × ("who 0 0 0 0 0" means malformed)
+    × ("who 10 0 0 0 0" means malformed)
+    × ("who 2 7 0 256 0" means malformed)
+    × ("who 1 0 0 0 256" means malformed)
+    × ("who 2 7 0 0" means malformed)
     × ("set-scanline 2 2 0 0 1 2 7" means malformed)
     × ("picture 8 4 .ppm" means malformed)
     × ("picture 8 4" means malformed)
-unfolding split words value number nameByte isName table kindOf counted ranged nameFits accepts withWord complete hears
-no-calls = (refl, refl, refl, refl, refl, refl, refl, refl, refl, refl, refl, refl, refl, refl, refl, refl, refl, refl)
+unfolding split words value number nameByte isName table kindOf counted isEvent ranged nameFits accepts withWord complete hears
+no-calls = (refl, refl, refl, refl, refl, refl, refl, refl, refl, refl, refl, refl, refl, refl, refl, refl, refl, refl, refl, refl, refl, refl, refl)
 
 -- the most numbers of a line
-pub most : (counted Kind.blit 4102 ≡ true)
-    × (counted Kind.blit 4103 ≡ false)
+pub most : (counted Kind.blit 4103 ≡ true)
+    × (counted Kind.blit 384006 ≡ true)
+    × (counted Kind.blit 384007 ≡ false)
+    × (counted Kind.set-scanline 4102 ≡ true)
+    × (counted Kind.set-scanline 4103 ≡ false)
     × (counted Kind.busiest 4200 ≡ true)
     × (counted Kind.busiest 4201 ≡ false)
     × (counted Kind.read-sheet 4096 ≡ true)
     × (counted Kind.read-sheet 4097 ≡ false)
+    × (counted Kind.hits 4096 ≡ true)
+    × (counted Kind.hits 4097 ≡ false)
 unfolding table counted
-most = (refl, refl, refl, refl, refl, refl)
+most = (refl, refl, refl, refl, refl, refl, refl, refl, refl, refl, refl)

@@ -193,6 +193,9 @@ window = 62
 abbrev pub session : ℕ
 session = 63
 
+abbrev pub who : ℕ
+who = 64
+
 -- the last of them
 abbrev pub last : ℕ
-last = session
+last = who

@@ -37,9 +37,9 @@ abbrev pub grown : ℕ → List ℕ → Option ℕ → State
 grown k ns none = spoiled
 grown k ns (some n) = inNumber k ns n
 
--- one more byte of a number, which is there for at most 4,200
+-- one more byte of a number, which is there for at most 384,006
 abbrev pub longer : ℕ → List ℕ → ℕ → ℕ → State
-longer k ns n b = cond (ltb (length ns) 4200) (grown k ns (digit (some n) b)) spoiled
+longer k ns n b = cond (ltb (length ns) 384006) (grown k ns (digit (some n) b)) spoiled
 
 -- a byte of a name, which has n already
 unfoldable pub mayFollow : ℕ → ℕ → Bool
@@ -54,7 +54,7 @@ space atStart = spaces
 space spaces = spaces
 space (inWord w) = opened (kindOf w)
 space (between k ns) = between k ns
-space (inNumber k ns n) = cond (ltb (length ns) 4200) (between k (ns ++ (n ∷ []))) spoiled
+space (inNumber k ns n) = cond (ltb (length ns) 384006) (between k (ns ++ (n ∷ []))) spoiled
 space (inName k ns name) = afterName k ns name
 space (afterName k ns name) = afterName k ns name
 space inComment = inComment
@@ -84,7 +84,7 @@ ends atStart = silent
 ends spaces = malformed
 ends (inWord w) = complete (begun (kindOf w))
 ends (between k ns) = complete (call k ns [])
-ends (inNumber k ns n) = cond (ltb (length ns) 4200) (complete (call k (ns ++ (n ∷ [])) [])) malformed
+ends (inNumber k ns n) = cond (ltb (length ns) 384006) (complete (call k (ns ++ (n ∷ [])) [])) malformed
 ends (inName k ns name) = complete (call k ns name)
 ends (afterName k ns name) = complete (call k ns name)
 ends inComment = silent

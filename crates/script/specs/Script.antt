@@ -87,10 +87,13 @@ pub record Row : Type 0 where
 abbrev pub row : String → ℕ → ℕ → Row
 row w k n = record { word = bytes w; kind = k; numbers = n; more = 0 }
 
--- "DATA is 0 to 4,096 numbers"; "PIXELS and DATA are at most 4,096 numbers together"; "0 to 4,096 numbers, x and y in turn"; "0 to 4,096
--- numbers, each 0 to 255"
+-- "PIXELS and DATA are at most 4,096 numbers together"; "0 to 4,096 numbers, x and y in turn"; "0 to 4,096 numbers, each 0 to 255"
 abbrev pub rowMore : String → ℕ → ℕ → Row
 rowMore w k n = record { word = bytes w; kind = k; numbers = n; more = 4096 }
+
+-- "DATA is 0 to 384,000 numbers"
+abbrev pub rowBlit : String → ℕ → ℕ → Row
+rowBlit w k n = record { word = bytes w; kind = k; numbers = n; more = 384000 }
 
 -- "0 to 4,200 times"
 abbrev pub rowTimes : String → ℕ → Row
@@ -107,7 +110,7 @@ table =
     ∷ row "move" Kind.move 3
     ∷ row "resize" Kind.resize 3
     ∷ row "fill" Kind.fill 6
-    ∷ rowMore "blit" Kind.blit 6
+    ∷ rowBlit "blit" Kind.blit 6
     ∷ row "keydown" Kind.keydown 1
     ∷ row "keyup" Kind.keyup 1
     ∷ row "keyfire" Kind.keyfire 1
@@ -160,6 +163,7 @@ table =
     ∷ row "waiting" Kind.waiting 0
     ∷ row "window" Kind.window 1
     ∷ row "session" Kind.session 0
+    ∷ row "who" Kind.who 5
     ∷ []
 
 abbrev pub sameWord : List ℕ → List ℕ → Bool
@@ -189,6 +193,11 @@ countedBy (some r) n = leb (r .numbers) n && leb n (r .numbers + r .more)
 unfoldable pub counted : ℕ → ℕ → Bool
 counted k n = countedBy (rowIn k table) n
 
+-- `who KIND A B C D`: "KIND is 1 Resize, … 9 MouseUp, else malformed"; "C is the button and D the count, each 0 to 255,
+-- else malformed, of every kind"
+unfoldable pub isEvent : List ℕ → Bool
+isEvent ns = leb 1 (getD ns 0 0) && (leb (getD ns 0 0) 9 && (leb (getD ns 3 0) 255 && leb (getD ns 4 0) 255))
+
 -- "B is 0 to 255, else malformed", "B and N are 0 to 255", "FULL is 0 or 1, else malformed", `dim`'s "B is 0 or 1, else malformed",
 -- "N is how many DATA come"; "each 0 to 255, else malformed"
 unfoldable pub ranged : ℕ → ℕ → List ℕ → Bool
@@ -200,7 +209,8 @@ ranged k n ns =
     (cond (eqb k Kind.begin) (leb (getD ns 0 0) 1)
     (cond (eqb k Kind.dim) (leb (getD ns 0 0) 1)
     (cond (eqb k Kind.set-scanline) (leb (6 + getD ns 5 0) n)
-    (cond (eqb k Kind.read-sheet) (all isByte (take n ns)) true)))))))
+    (cond (eqb k Kind.read-sheet) (all isByte (take n ns))
+    (cond (eqb k Kind.who) (isEvent ns) true))))))))
 
 -- a `picture` has a name, and no other line has
 unfoldable pub nameFits : ℕ → ℕ → Bool
@@ -260,7 +270,7 @@ heardOf l ns name =
 
 -- what a program may rely on of any line: of its kind k, its n numbers, the m bytes of its name, and the numbers
 pub record Shaped (k n m : ℕ) (ns : List ℕ) : Type 0 where
-  pub few : n ≤ 4200
+  pub few : n ≤ 384006
   pub named : m ≤ 64
   pub kinds : k ≤ Kind.last
   pub blit : k ≡ Kind.blit → 6 ≤ n
@@ -272,4 +282,5 @@ pub record Shaped (k n m : ℕ) (ns : List ℕ) : Type 0 where
   pub up : k ≡ Kind.mouseup → getD ns 2 0 ≤ 255
   pub click : k ≡ Kind.mouseclick → (getD ns 2 0 ≤ 255) × (getD ns 3 0 ≤ 255)
   pub forced : k ≡ Kind.redraw → getD ns 0 0 ≤ 1
+  pub who : k ≡ Kind.who → (1 ≤ getD ns 0 0) × (getD ns 0 0 ≤ 9) × (getD ns 3 0 ≤ 255) × (getD ns 4 0 ≤ 255)
   pub bytes : k ≡ Kind.read-sheet → (n ≤ 4096) × ((i : ℕ) → i < n → getD ns i 0 ≤ 255)

@@ -3,7 +3,7 @@ ghost use mathlib.Core.Path.{_≡_};
 ghost use mathlib.Core.Bool.{_&&_};
 ghost use lib.ListN.{length};
 ghost use Prim.Native.Nat.{_≤_, _<_, min};
-ghost use Rattle.script.specs.Script.{all, isByte, counted, ranged, nameFits};
+ghost use Rattle.script.specs.Script.{all, isByte, counted, isEvent, ranged, nameFits};
 ghost use Rattle.script.specs.Machine.{noCall, Checked, Ended};
 use crate::Line;
 use crate::Reading;
@@ -20,6 +20,7 @@ use crate::kind::PICTURE;
 use crate::kind::READ_SHEET;
 use crate::kind::REDRAW;
 use crate::kind::SET_SCANLINE;
+use crate::kind::WHO;
 use crate::number::MOST;
 use crate::stage;
 use crate::stage::AFTER_NAME;
@@ -50,9 +51,26 @@ fn are_bytes(numbers: &[u32]) -> bool
     true
 }
 
+// Of `who KIND A B C D`: is there such a kind, and are button and count a byte's?
+fn is_event(numbers: &[u32]) -> bool
+    requires { ⌜ length (now numbers) ≡ 384006 ⌝ }
+    ensures { λ r. ⌜ r ≡ isEvent (now (numbers .entry)) ⌝ }
+{
+    if numbers[0] < 1 {
+        return false;
+    }
+    if numbers[0] > 9 {
+        return false;
+    }
+    if numbers[3] > 255 {
+        return false;
+    }
+    numbers[4] <= 255
+}
+
 // Are the numbers of the line those that may stand there?
 fn is_ranged(kind: u8, count: usize, numbers: &[u32]) -> bool
-    requires { ⌜ (count ≤ 4200) × (length (now numbers) ≡ 4200) ⌝ }
+    requires { ⌜ (count ≤ 384006) × (length (now numbers) ≡ 384006) ⌝ }
     ensures { λ r. ⌜ r ≡ ranged kind count (now (numbers .entry)) ⌝ }
 {
     if kind == MOUSEDOWN {
@@ -82,6 +100,9 @@ fn is_ranged(kind: u8, count: usize, numbers: &[u32]) -> bool
     if kind == READ_SHEET {
         return are_bytes(&numbers[..count]);
     }
+    if kind == WHO {
+        return is_event(numbers);
+    }
     true
 }
 
@@ -107,7 +128,7 @@ fn no_call(kind: u8) -> Line
 
 // Are they, and has it a name if it must?
 fn is_right(kind: u8, count: usize, name: usize, numbers: &[u32]) -> bool
-    requires { ⌜ (count ≤ 4200) × (length (now numbers) ≡ 4200) ⌝ }
+    requires { ⌜ (count ≤ 384006) × (length (now numbers) ≡ 384006) ⌝ }
     ensures { λ r. ⌜ r ≡ ranged kind count (now (numbers .entry)) && nameFits kind name ⌝ }
 {
     if is_ranged(kind, count, numbers) {
@@ -117,7 +138,7 @@ fn is_right(kind: u8, count: usize, name: usize, numbers: &[u32]) -> bool
 }
 
 fn is_call(kind: u8, count: usize, name: usize, numbers: &[u32]) -> bool
-    requires { ⌜ (count ≤ 4200) × (length (now numbers) ≡ 4200) ⌝ }
+    requires { ⌜ (count ≤ 384006) × (length (now numbers) ≡ 384006) ⌝ }
     ensures { λ r. ⌜ r ≡ counted kind count && (ranged kind count (now (numbers .entry)) && nameFits kind name) ⌝ }
 {
     if count::is_counted(kind, count) {
@@ -128,7 +149,7 @@ fn is_call(kind: u8, count: usize, name: usize, numbers: &[u32]) -> bool
 
 // The line of this kind with so many numbers and so long a name, if it is a call; else it is malformed.
 fn checked(kind: u8, count: usize, name: usize, numbers: &[u32]) -> Line
-    requires { ⌜ (count ≤ 4200) × (name ≤ 64) × (length (now numbers) ≡ 4200) ⌝ }
+    requires { ⌜ (count ≤ 384006) × (name ≤ 64) × (length (now numbers) ≡ 384006) ⌝ }
     ensures { λ l. ⌜ Checked kind count name (now (numbers .entry)) l ⌝ }
 {
     if is_call(kind, count, name, numbers) {
@@ -147,7 +168,7 @@ fn at_most(n: usize, limit: usize) -> usize
 }
 
 pub fn line_of(reading: Reading, word: &[u8], numbers: &[u32]) -> Line
-    requires { ⌜ length (now numbers) ≡ 4200 ⌝ }
+    requires { ⌜ length (now numbers) ≡ 384006 ⌝ }
     ensures { λ l. ⌜ Ended reading (now (word .entry)) (now (numbers .entry)) l ⌝ }
 {
     let stage = reading.stage;

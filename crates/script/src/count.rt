@@ -10,21 +10,27 @@ use crate::kind::ROWS;
 use crate::kind::START;
 use crate::kind::wide;
 
-// The most that PIXELS and DATA are together.
+// The most that PIXELS and DATA are together, but for a blit.
 const DATA: usize = 4096;
+
+// The most DATA of a blit: the pixels of a whole window of 800 by 480.
+const BLIT: usize = 384000;
 
 // The most times.
 const TIMES: usize = 4200;
 
 // How many numbers may follow those that every line of a row has.
 fn most_more(b: u8) -> usize
-    ensures { λ r. ⌜ (r ≡ follows b) × (r ≤ 4200) ⌝ }
+    ensures { λ r. ⌜ (r ≡ follows b) × (r ≤ 384000) ⌝ }
 {
     if b == b'+' {
         return DATA;
     }
     if b == b'*' {
         return TIMES;
+    }
+    if b == b'@' {
+        return BLIT;
     }
     0
 }

@@ -36,7 +36,7 @@ fn name_next(kind: u8, count: usize) -> bool
 
 // A byte between two words.
 fn between_words(reading: Reading, b: u8, numbers: &mut [u32], name: &mut [u8]) -> Reading
-    requires { ⌜ (reading .stage ≡ 3) × (length (now numbers) ≡ 4200) × (length (now name) ≡ 64) ⌝ }
+    requires { ⌜ (reading .stage ≡ 3) × (length (now numbers) ≡ 384006) × (length (now name) ≡ 64) ⌝ }
     ensures { λ r. ⌜ ((w : List ℕ) → stateOf r w (now (numbers .exit)) (now (name .exit))
         ≡ step (between (reading .kind) (take (reading .count) (now (numbers .entry)))) b) ⌝ }
 {
@@ -68,7 +68,7 @@ pub fn feed(
     numbers: &mut [u32],
     name: &mut [u8],
 ) -> Reading
-    requires { ⌜ (length (now word) ≡ 16) × (length (now numbers) ≡ 4200) × (length (now name) ≡ 64) ⌝ }
+    requires { ⌜ (length (now word) ≡ 16) × (length (now numbers) ≡ 384006) × (length (now name) ≡ 64) ⌝ }
     ensures { λ r. ⌜ stateOf r (now (word .exit)) (now (numbers .exit)) (now (name .exit))
         ≡ step (stateOf reading (now (word .entry)) (now (numbers .entry)) (now (name .entry))) b ⌝ }
 {
@@ -106,7 +106,7 @@ pub fn feed_all(
     numbers: &mut [u32],
     name: &mut [u8],
 ) -> Step
-    requires { ⌜ (from ≤ length (now block)) × (length (now word) ≡ 16) × (length (now numbers) ≡ 4200) × (length (now name) ≡ 64) ⌝ }
+    requires { ⌜ (from ≤ length (now block)) × (length (now word) ≡ 16) × (length (now numbers) ≡ 384006) × (length (now name) ≡ 64) ⌝ }
     ensures { λ r. ⌜ ReadTo (now (block .entry)) from (r .at) ⌝ }
     ensures { λ r. ⌜ stateOf (r .reading) (now (word .exit)) (now (numbers .exit)) (now (name .exit))
         ≡ foldl step (stateOf reading (now (word .entry)) (now (numbers .entry)) (now (name .entry)))

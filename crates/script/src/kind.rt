@@ -134,8 +134,10 @@ pub const WINDOW: u8 = 62;
 
 pub const SESSION: u8 = 63;
 
+pub const WHO: u8 = 64;
+
 // The last of them.
-pub const LAST: u8 = SESSION;
+pub const LAST: u8 = WHO;
 
 const WORDS: usize = LAST as usize - 1;
 
@@ -154,7 +156,7 @@ pub const ROWS: [u8; WORDS * ROW] = *b"\
     \x04\x03 move            \
     \x06\x03 resize          \
     \x04\x06 fill            \
-    \x04\x06+blit            \
+    \x04\x06@blit            \
     \x07\x01 keydown         \
     \x05\x01 keyup           \
     \x07\x01 keyfire         \
@@ -207,6 +209,7 @@ pub const ROWS: [u8; WORDS * ROW] = *b"\
     \x07\x00 waiting         \
     \x06\x01 window          \
     \x07\x00 session         \
+    \x03\x05 who             \
     ";
 
 pub fn wide(b: u8) -> usize

@@ -56,7 +56,7 @@ pub fn read(
     block: &[u8],
     from: usize,
     word: &mut [u8; 16],
-    numbers: &mut [u32; 4200],
+    numbers: &mut [u32; 384006],
     name: &mut [u8; 64],
 ) -> Step
     requires { ⌜ from ≤ length (now block) ⌝ }
@@ -68,7 +68,7 @@ pub fn read(
 }
 
 // The line that has been read, at its newline or at the end of the input.
-pub fn line(reading: Reading, word: &[u8; 16], numbers: &[u32; 4200]) -> Line
+pub fn line(reading: Reading, word: &[u8; 16], numbers: &[u32; 384006]) -> Line
     ensures { λ l. ⌜ Shaped (l .kind) (l .count) (l .name) (now (numbers .entry)) ⌝ }
     ensures { λ l. ⌜ ((bs name : List ℕ) → length name ≡ 64 → Reads bs reading (now (word .entry)) (now (numbers .entry)) name
         → hears bs ≡ heardOf l (now (numbers .entry)) name) ⌝ }

@@ -12,8 +12,8 @@ use crate::stage::BETWEEN;
 use crate::stage::IN_NUMBER;
 use crate::stage::SPACE;
 
-// The most numbers of a line: the times of `busiest`.
-pub const MOST: usize = 4200;
+// The most numbers of a line: those of a blit, six and its DATA.
+pub const MOST: usize = 384006;
 
 pub const LARGEST: u64 = 4294967295;
 
@@ -32,7 +32,7 @@ fn with_digit(n: u32, b: u8) -> u64
 
 // A byte, no space, of the number that is being read.
 fn more(reading: Reading, b: u8, numbers: &mut [u32]) -> Reading
-    requires { ⌜ length (now numbers) ≡ 4200 ⌝ }
+    requires { ⌜ length (now numbers) ≡ 384006 ⌝ }
     ensures { λ r. ⌜ ((w name : List ℕ) → stateOf r w (now (numbers .exit)) name
         ≡ longer (reading .kind) (take (reading .count) (now (numbers .entry))) (getD (now (numbers .entry)) (reading .count) 0) b) ⌝ }
 {
@@ -56,7 +56,7 @@ fn more(reading: Reading, b: u8, numbers: &mut [u32]) -> Reading
 
 // The first byte of a number.
 pub fn first(reading: Reading, b: u8, numbers: &mut [u32]) -> Reading
-    requires { ⌜ length (now numbers) ≡ 4200 ⌝ }
+    requires { ⌜ length (now numbers) ≡ 384006 ⌝ }
     ensures { λ r. ⌜ ((w name : List ℕ) → stateOf r w (now (numbers .exit)) name
         ≡ longer (reading .kind) (take (reading .count) (now (numbers .entry))) 0 b) ⌝ }
 {
@@ -70,7 +70,7 @@ pub fn first(reading: Reading, b: u8, numbers: &mut [u32]) -> Reading
 
 // A byte after a digit.
 pub fn next(reading: Reading, b: u8, numbers: &mut [u32]) -> Reading
-    requires { ⌜ length (now numbers) ≡ 4200 ⌝ }
+    requires { ⌜ length (now numbers) ≡ 384006 ⌝ }
     ensures { λ r. ⌜ ((w name : List ℕ) → stateOf r w (now (numbers .exit)) name
         ≡ step (inNumber (reading .kind) (take (reading .count) (now (numbers .entry))) (getD (now (numbers .entry)) (reading .count) 0)) b) ⌝ }
 {

@@ -22,11 +22,11 @@ pub record Fed (block : List ℕ) (a : ℕ) (s : State) (w ns name : List ℕ) (
   pub inside : t ≤ length block
   pub none : (i : ℕ) → i < t → a ≤ i → getD block i 0 ≡ 10 → ⊥
   pub word-room : length w ≡ 16
-  pub number-room : length ns ≡ 4200
+  pub number-room : length ns ≡ 384006
   pub name-room : length name ≡ 64
   pub state : stateOf r w ns name ≡ foldl step s (slice a t block)
 
-pub fed-starts : {block w ns name : List ℕ} {a : ℕ} {r : Reading} → a ≤ length block → length w ≡ 16 → length ns ≡ 4200 → length name ≡ 64
+pub fed-starts : {block w ns name : List ℕ} {a : ℕ} {r : Reading} → a ≤ length block → length w ≡ 16 → length ns ≡ 384006 → length name ≡ 64
     → Fed block a (stateOf r w ns name) w ns name r a
 fed-starts {block} {w} {ns} {name} {a} {r} h e f g =
     record {

@@ -18,7 +18,7 @@ use Rattle.script.specs.declared.Reading.{Reading}
 use Rattle.script.specs.declared.shape.Line.{Line}
 use Rattle.script.specs.Kind as Kind
 use Rattle.script.specs.inner.Table.{rowAt, byte, follows, RowHas}
-use Rattle.script.specs.Script.{malformed, call, begun, Row, table, rowIn, countedBy, counted, ranged, nameFits, accepts, complete, heardOf, Shaped, kindOf}
+use Rattle.script.specs.Script.{malformed, call, begun, Row, table, rowIn, countedBy, counted, isEvent, ranged, nameFits, accepts, complete, heardOf, Shaped, kindOf}
 use Rattle.script.specs.Machine.{spaces, spoiled, ends, standing, stateOf, noCall, Checked, Ended}
 
 -- A call ---------------------------------------------------------------------------------------------------------------
@@ -77,8 +77,8 @@ module _ (k n : ℕ) (h : counted k n ≡ true) where
       go none c = clash c refl
       go (some r) c = leb-true n (r .numbers + r .more) (snd (leb (r .numbers) n) _ c)
 
-  -- no line has more than 4,200 numbers
-  pub not-over : n ≤ 4200
+  -- no line has more than 384,006 numbers
+  pub not-over : n ≤ 384006
   unfolding counted table
   not-over =
       let r : Row = rowAt (k - Kind.start) in
@@ -86,12 +86,12 @@ module _ (k n : ℕ) (h : counted k n ≡ true) where
       omega (
         arith,
         leb-true n (r .numbers + r .more) (snd (leb (r .numbers) n) _ c),
-        leb-true (r .numbers + r .more) 4200 (at-row (λ _ q. leb (q .numbers + q .more) 4200) refl (k - Kind.start) (omega (arith, known))),
+        leb-true (r .numbers + r .more) 384006 (at-row (λ _ q. leb (q .numbers + q .more) 384006) refl (k - Kind.start) (omega (arith, known))),
       )
 
   -- the numbers that are tested are among the first n
   ranged-take : (ns : List ℕ) → ranged k n (take n ns) ≡ ranged k n ns
-  unfolding ranged table
+  unfolding isEvent ranged table
   ranged-take ns =
       cond-same (eqb k Kind.mousedown) (λ e. at 2 (enough Kind.mousedown (eqb-true k Kind.mousedown e)))
       (cond-same (eqb k Kind.mouseup) (λ e. at 2 (enough Kind.mouseup (eqb-true k Kind.mouseup e)))
@@ -101,10 +101,14 @@ module _ (k n : ℕ) (h : counted k n ≡ true) where
       (cond-same (eqb k Kind.begin) (λ e. rw (getD-take n ns 0 0 (omega (arith, enough Kind.begin (eqb-true k Kind.begin e)))))
       (cond-same (eqb k Kind.dim) (λ e. rw (getD-take n ns 0 0 (omega (arith, enough Kind.dim (eqb-true k Kind.dim e)))))
       (cond-same (eqb k Kind.set-scanline) (λ e. rw (getD-take n ns 5 0 (omega (arith, enough Kind.set-scanline (eqb-true k Kind.set-scanline e)))))
-      (cond-same (eqb k Kind.read-sheet) (λ e. rw (take-take n n ns (omega arith))) refl)))))))
+      (cond-same (eqb k Kind.read-sheet) (λ e. rw (take-take n n ns (omega arith)))
+      (cond-same (eqb k Kind.who) (λ e. event-take (enough Kind.who (eqb-true k Kind.who e))) refl))))))))
     where
       at : (i : ℕ) → suc i ≤ n → leb (getD (take n ns) i 0) 255 ≡ leb (getD ns i 0) 255
       at i g = rw (getD-take n ns i 0 g)
+
+      event-take : 5 ≤ n → isEvent (take n ns) ≡ isEvent ns
+      event-take g = rw (getD-take n ns 0 0 (omega arith), getD-take n ns 3 0 (omega arith), getD-take n ns 4 0 (omega arith))
 
 -- the row as the code reads it
 module _ {rows : List ℕ} {k : ℕ} {r : Row} (q : RowHas rows k r) {a : ℕ} (e : a ≡ byte rows k 1) where
@@ -137,10 +141,26 @@ no-shape k ns h =
       up = λ e. omega arith;
       click = λ e. omega arith;
       forced = λ e. omega arith;
+      who = λ e. omega arith;
       bytes = λ e. omega arith;
     }
 
-module _ (k n m : ℕ) (ns : List ℕ) (few : n ≤ 4200) (long : m ≤ 64) (room : length ns ≡ 4200) where
+-- the numbers of `who`
+event-fits : (ns : List ℕ) → isEvent ns ≡ true → (1 ≤ getD ns 0 0) × (getD ns 0 0 ≤ 9) × (getD ns 3 0 ≤ 255) × (getD ns 4 0 ≤ 255)
+unfolding isEvent
+event-fits ns h =
+    let low = leb 1 (getD ns 0 0) in
+    let high = leb (getD ns 0 0) 9 in
+    let button = leb (getD ns 3 0) 255 in
+    let count = leb (getD ns 4 0) 255 in
+    let bytes = snd high (button && count) (snd low (high && (button && count)) h) in (
+      leb-true 1 (getD ns 0 0) (fst low (high && (button && count)) h),
+      leb-true (getD ns 0 0) 9 (fst high (button && count) (snd low (high && (button && count)) h)),
+      leb-true (getD ns 3 0) 255 (fst button count bytes),
+      leb-true (getD ns 4 0) 255 (snd button count bytes),
+    )
+
+module _ (k n m : ℕ) (ns : List ℕ) (few : n ≤ 384006) (long : m ≤ 64) (room : length ns ≡ 384006) where
   accepts-is : (name : List ℕ) → length name ≡ 64 → accepts k (take n ns) (take m name) ≡ passes k n m ns
   unfolding accepts
   accepts-is name full =
@@ -173,6 +193,7 @@ module _ (k n m : ℕ) (ns : List ℕ) (few : n ≤ 4200) (long : m ≤ 64) (roo
               leb-true (getD ns 3 0) 255 (snd (leb (getD ns 2 0) 255) (leb (getD ns 3 0) 255) q),
             );
         forced = λ e. leb-true (getD ns 0 0) 1 (subst (λ (x : ℕ). ranged x n ns ≡ true) e r);
+        who = λ e. event-fits ns (subst (λ (x : ℕ). ranged x n ns ≡ true) e r);
         bytes = λ e. (not-above k n h Kind.read-sheet e, λ i l. bytes-at ns n i (omega arith) (subst (λ (x : ℕ). ranged x n ns ≡ true) e r) l);
       }
 
@@ -212,8 +233,8 @@ begins k = go (eqb k Kind.malformed) refl
     go true e = rw (eqb-true k Kind.malformed e)
     go false e = rw e
 
-module _ (r : Reading) (w ns : List ℕ) (room : length ns ≡ 4200) (l : Line) where
-  pub ends-between : r .stage ≡ 3 → (n : ℕ) → n ≡ min (r .count) 4200 → Checked (r .kind) n 0 ns l → Ended r w ns l
+module _ (r : Reading) (w ns : List ℕ) (room : length ns ≡ 384006) (l : Line) where
+  pub ends-between : r .stage ≡ 3 → (n : ℕ) → n ≡ min (r .count) 384006 → Checked (r .kind) n 0 ns l → Ended r w ns l
   unfolding ends standing
   ends-between e n f c =
       record {
@@ -221,24 +242,24 @@ module _ (r : Reading) (w ns : List ℕ) (room : length ns ≡ 4200) (l : Line) 
         heard =
             λ name full.
             c .heard name full
-            ∙ ap (λ (x : List ℕ). complete (call (r .kind) x [])) (ap (λ (m : ℕ). take m ns) f ∙ take-min (r .count) 4200 ns room)
+            ∙ ap (λ (x : List ℕ). complete (call (r .kind) x [])) (ap (λ (m : ℕ). take m ns) f ∙ take-min (r .count) 384006 ns room)
             ∙ sym (ap ends (at-stage r w ns name 3 e));
       }
 
-  named : (m n : ℕ) → m ≡ min (r .named) 64 → n ≡ min (r .count) 4200 → Checked (r .kind) n m ns l → (name : List ℕ) → length name ≡ 64
+  named : (m n : ℕ) → m ≡ min (r .named) 64 → n ≡ min (r .count) 384006 → Checked (r .kind) n m ns l → (name : List ℕ) → length name ≡ 64
       → heardOf l ns name ≡ complete (call (r .kind) (take (r .count) ns) (take (r .named) name))
   named m n e f c name full =
-      c .heard name full ∙ rw (e, f, take-min (r .count) 4200 ns room, take-min (r .named) 64 name full)
+      c .heard name full ∙ rw (e, f, take-min (r .count) 384006 ns room, take-min (r .named) 64 name full)
 
-  pub ends-name : r .stage ≡ 5 → (n m : ℕ) → m ≡ min (r .named) 64 → n ≡ min (r .count) 4200 → Checked (r .kind) n m ns l → Ended r w ns l
+  pub ends-name : r .stage ≡ 5 → (n m : ℕ) → m ≡ min (r .named) 64 → n ≡ min (r .count) 384006 → Checked (r .kind) n m ns l → Ended r w ns l
   unfolding ends standing
   ends-name e n m f g c = record { shaped = c .shaped; heard = λ name full. named m n f g c name full ∙ sym (ap ends (at-stage r w ns name 5 e)) }
 
-  pub ends-after : r .stage ≡ 6 → (n m : ℕ) → m ≡ min (r .named) 64 → n ≡ min (r .count) 4200 → Checked (r .kind) n m ns l → Ended r w ns l
+  pub ends-after : r .stage ≡ 6 → (n m : ℕ) → m ≡ min (r .named) 64 → n ≡ min (r .count) 384006 → Checked (r .kind) n m ns l → Ended r w ns l
   unfolding ends standing
   ends-after e n m f g c = record { shaped = c .shaped; heard = λ name full. named m n f g c name full ∙ sym (ap ends (at-stage r w ns name 6 e)) }
 
-  pub ends-number : r .stage ≡ 4 → (n : ℕ) → n ≡ min (r .count) 4200 → n < 4200 → Checked (r .kind) (n + 1) 0 ns l → Ended r w ns l
+  pub ends-number : r .stage ≡ 4 → (n : ℕ) → n ≡ min (r .count) 384006 → n < 384006 → Checked (r .kind) (n + 1) 0 ns l → Ended r w ns l
   unfolding ends standing
   ends-number e n f h c =
       let s : n ≡ r .count = omega arith in
@@ -248,10 +269,10 @@ module _ (r : Reading) (w ns : List ℕ) (room : length ns ≡ 4200) (l : Line) 
             λ name full.
             c .heard name full
             ∙ rw (s, add-one, take-suc ns (r .count) 0 (omega arith))
-            (sym (ap ends (at-stage r w ns name 4 e) ∙ rw (length-take-le (r .count) ns (omega arith), lt-ltb (r .count) 4200 (omega arith))));
+            (sym (ap ends (at-stage r w ns name 4 e) ∙ rw (length-take-le (r .count) ns (omega arith), lt-ltb (r .count) 384006 (omega arith))));
       }
 
-  pub ends-full : r .stage ≡ 4 → (n : ℕ) → n ≡ min (r .count) 4200 → 4200 ≤ n → l ≡ noCall Kind.malformed → Ended r w ns l
+  pub ends-full : r .stage ≡ 4 → (n : ℕ) → n ≡ min (r .count) 384006 → 384006 ≤ n → l ≡ noCall Kind.malformed → Ended r w ns l
   unfolding ends standing heardOf
   ends-full e n f h i =
       subst (Ended r w ns) (sym i)
@@ -261,7 +282,7 @@ module _ (r : Reading) (w ns : List ℕ) (room : length ns ≡ 4200) (l : Line) 
             λ name full.
             sym
             (ap ends (at-stage r w ns name 4 e)
-            ∙ rw (take-all (r .count) ns (omega arith), le-ltb (length ns) 4200 (omega arith)));
+            ∙ rw (take-all (r .count) ns (omega arith), le-ltb (length ns) 384006 (omega arith)));
       })
 
   pub ends-word : r .stage ≡ 2 → (k : ℕ) → k ≡ kindOf (take (r .letters) w) → Checked k 0 0 ns l → Ended r w ns l

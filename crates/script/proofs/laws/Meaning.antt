@@ -35,7 +35,7 @@ after-closed ws (b ∷ w) = foldl-append withWord silent ws ((b ∷ w) ∷ [])
 -- a line that is malformed whatever follows: of a bad word, or with too many numbers
 data Lost : Heard → Type 0 where
   bad : Lost malformed
-  over : (k : ℕ) (ns name : List ℕ) → 4200 < length ns → Lost (call k ns name)
+  over : (k : ℕ) (ns name : List ℕ) → 384006 < length ns → Lost (call k ns name)
 
 lost-more : {h : Heard} → Lost h → (w : List ℕ) → Lost (withWord h w)
 unfolding withWord
@@ -60,8 +60,8 @@ lost-is (over k ns name l) =
     rw e
 
 -- the last number of a line, or one too many
-one-more : (k : ℕ) (ns : List ℕ) (n : ℕ) → ltb (length ns) 4200 ≡ false → Lost (call k (ns ++ (n ∷ [])) [])
-one-more k ns n e = over k (ns ++ (n ∷ [])) [] (omega (arith, ltb-false (length ns) 4200 e, length-append ns (n ∷ [])))
+one-more : (k : ℕ) (ns : List ℕ) (n : ℕ) → ltb (length ns) 384006 ≡ false → Lost (call k (ns ++ (n ∷ [])) [])
+one-more k ns n e = over k (ns ++ (n ∷ [])) [] (omega (arith, ltb-false (length ns) 384006 e, length-append ns (n ∷ [])))
 
 -- what is heard of the words that have ended, the letters of the one that has not, and the machine's state
 data Agrees : Heard → List ℕ → State → Type 0 where
@@ -89,9 +89,9 @@ spaced (of-word b w) = go (eqb (kindOf (b ∷ w)) 1)
     go true = of-lost [] bad
     go false = of-between (kindOf (b ∷ w)) []
 spaced (of-between k ns) = of-between k ns
-spaced (of-number k ns n b w e f) = rw (e, f) (go (ltb (length ns) 4200) refl)
+spaced (of-number k ns n b w e f) = rw (e, f) (go (ltb (length ns) 384006) refl)
   where
-    go : (t : Bool) → ltb (length ns) 4200 ≡ t → Agrees (call k (ns ++ (n ∷ [])) []) [] (cond t (between k (ns ++ (n ∷ []))) spoiled)
+    go : (t : Bool) → ltb (length ns) 384006 ≡ t → Agrees (call k (ns ++ (n ∷ [])) []) [] (cond t (between k (ns ++ (n ∷ []))) spoiled)
     go true d = of-between k (ns ++ (n ∷ []))
     go false d = of-lost [] (one-more k ns n d)
 spaced (of-name k ns b w e f) = rw (e, f) (of-after k ns b w e)
@@ -124,7 +124,7 @@ module _ (k : ℕ) (ns : List ℕ) where
   number-lost (b ∷ w) h e f = of-spoiled (call k ns []) b w (λ bs. rw (e, no-number (b ∷ w) bs f) bad)
 
   -- a number too many
-  number-over : (w : List ℕ) → 0 < length w → nameNext k ns ≡ false → ltb (length ns) 4200 ≡ false → Agrees (call k ns []) w spoiled
+  number-over : (w : List ℕ) → 0 < length w → nameNext k ns ≡ false → ltb (length ns) 384006 ≡ false → Agrees (call k ns []) w spoiled
   unfolding withWord
   number-over [] h e f = absurd (not-suc-le-zero h)
   number-over (b ∷ w) h e f = of-spoiled (call k ns []) b w (λ bs. rw e (go (number ((b ∷ w) ++ bs))))
@@ -141,13 +141,13 @@ module _ (k : ℕ) (ns : List ℕ) where
       go false d = rw d (name-lost (w ++ (c ∷ [])) (some-letter w c) e (name-snoc w c ∙ rw (f, d)))
 
   number-letter : (w : List ℕ) (n c : ℕ) → nameNext k ns ≡ false → number w ≡ some n → Agrees (call k ns []) (w ++ (c ∷ [])) (longer k ns n c)
-  number-letter w n c e f = go (ltb (length ns) 4200) refl
+  number-letter w n c e f = go (ltb (length ns) 384006) refl
     where
       grow : (o : Option ℕ) → digit (some n) c ≡ o → Agrees (call k ns []) (w ++ (c ∷ [])) (grown k ns o)
       grow none d = number-lost (w ++ (c ∷ [])) (some-letter w c) e (number-snoc w c ∙ rw (f, d))
       grow (some m) d = a-number (w ++ (c ∷ [])) m (some-letter w c) e (number-snoc w c ∙ rw (f, d))
 
-      go : (t : Bool) → ltb (length ns) 4200 ≡ t → Agrees (call k ns []) (w ++ (c ∷ [])) (longer k ns n c)
+      go : (t : Bool) → ltb (length ns) 384006 ≡ t → Agrees (call k ns []) (w ++ (c ∷ [])) (longer k ns n c)
       go true d = rw d (grow (digit (some n) c) refl)
       go false d = rw d (number-over (w ++ (c ∷ [])) (some-letter w c) e d)
 
@@ -192,9 +192,9 @@ unfolding ends withWord complete
 ended of-spaces = refl
 ended (of-word b w) = refl
 ended (of-between k ns) = refl
-ended (of-number k ns n b w e f) = rw (e, f) (go (ltb (length ns) 4200) refl)
+ended (of-number k ns n b w e f) = rw (e, f) (go (ltb (length ns) 384006) refl)
   where
-    go : (t : Bool) → ltb (length ns) 4200 ≡ t
+    go : (t : Bool) → ltb (length ns) 384006 ≡ t
         → complete (call k (ns ++ (n ∷ [])) []) ≡ cond t (complete (call k (ns ++ (n ∷ [])) [])) malformed
     go true d = refl
     go false d = lost-is (one-more k ns n d)

@@ -22,17 +22,17 @@ use Rattle.script.specs.Machine.{State, atStart, spaces, inWord, between
 abbrev pub withDigit : ℕ → ℕ → ℕ
 withDigit v b = cond (isDigit b) (v * 10 + (b - 48)) 4294967296
 
-module _ (k : ℕ) (ns : List ℕ) (n : ℕ) (room : length ns ≡ 4200) where
-  has-room : n < 4200 → ltb (length (take n ns)) 4200 ≡ true
-  has-room h = rw (length-take-le n ns (omega arith)) (lt-ltb n 4200 h)
+module _ (k : ℕ) (ns : List ℕ) (n : ℕ) (room : length ns ≡ 384006) where
+  has-room : n < 384006 → ltb (length (take n ns)) 384006 ≡ true
+  has-room h = rw (length-take-le n ns (omega arith)) (lt-ltb n 384006 h)
 
-  no-room : 4200 ≤ n → ltb (length (take n ns)) 4200 ≡ false
-  no-room h = rw (take-all n ns (omega arith)) (le-ltb (length ns) 4200 (omega arith))
+  no-room : 384006 ≤ n → ltb (length (take n ns)) 384006 ≡ false
+  no-room h = rw (take-all n ns (omega arith)) (le-ltb (length ns) 384006 (omega arith))
 
-  pub longer-full : (v b : ℕ) → 4200 ≤ n → longer k (take n ns) v b ≡ spoiled
+  pub longer-full : (v b : ℕ) → 384006 ≤ n → longer k (take n ns) v b ≡ spoiled
   longer-full v b h = rw (no-room h)
 
-  pub longer-bad : (v b x : ℕ) → n < 4200 → x ≡ withDigit v b → 4294967295 < x → longer k (take n ns) v b ≡ spoiled
+  pub longer-bad : (v b x : ℕ) → n < 384006 → x ≡ withDigit v b → 4294967295 < x → longer k (take n ns) v b ≡ spoiled
   unfolding digit
   longer-bad v b x h e l = rw (has-room h) (go (isDigit b) refl)
     where
@@ -42,7 +42,7 @@ module _ (k : ℕ) (ns : List ℕ) (n : ℕ) (room : length ns ≡ 4200) where
           rw (d, lt-leb (v * 10 + (b - 48)) 4294967295 (omega arith))
       go false d = rw d
 
-  pub longer-good : (v b x : ℕ) → n < 4200 → x ≡ withDigit v b → x ≤ 4294967295
+  pub longer-good : (v b x : ℕ) → n < 384006 → x ≡ withDigit v b → x ≤ 4294967295
       → inNumber k (take n (set ns n x)) (getD (set ns n x) n 0) ≡ longer k (take n ns) v b
   unfolding digit
   longer-good v b x h e l = rw (has-room h, take-set-le n ns n x (omega arith), getD-set-same ns n x 0 (omega arith)) (go (isDigit b) refl)
@@ -56,14 +56,14 @@ module _ (k : ℕ) (ns : List ℕ) (n : ℕ) (room : length ns ≡ 4200) where
           let no : ⊥ = omega arith in
           absurd no
 
-  pub from-zero : (b : ℕ) → n < 4200 → longer k (take n (set ns n 0)) (getD (set ns n 0) n 0) b ≡ longer k (take n ns) 0 b
+  pub from-zero : (b : ℕ) → n < 384006 → longer k (take n (set ns n 0)) (getD (set ns n 0) n 0) b ≡ longer k (take n ns) 0 b
   from-zero b h = rw (take-set-le n ns n 0 (omega arith), getD-set-same ns n 0 0 (omega arith))
 
-  pub number-full : (b : ℕ) → b ≡ 32 → 4200 ≤ n → step (inNumber k (take n ns) (getD ns n 0)) b ≡ spoiled
+  pub number-full : (b : ℕ) → b ≡ 32 → 384006 ≤ n → step (inNumber k (take n ns) (getD ns n 0)) b ≡ spoiled
   unfolding space
   number-full b e h = rw (e, no-room h)
 
-  pub number-ends : (b : ℕ) → b ≡ 32 → n < 4200 → between k (take (n + 1) ns) ≡ step (inNumber k (take n ns) (getD ns n 0)) b
+  pub number-ends : (b : ℕ) → b ≡ 32 → n < 384006 → between k (take (n + 1) ns) ≡ step (inNumber k (take n ns) (getD ns n 0)) b
   unfolding space
   number-ends b e h = rw (e, has-room h, add-one, take-suc ns n 0 (omega arith))
 
@@ -73,12 +73,12 @@ module _ (k : ℕ) (ns : List ℕ) (n : ℕ) (room : length ns ≡ 4200) where
 
   -- the count that the code tests
   two : eqb (length (take n ns)) 2 ≡ eqb n 2
-  two = go (leb n 4200) refl
+  two = go (leb n 384006) refl
     where
-      go : (t : Bool) → leb n 4200 ≡ t → eqb (length (take n ns)) 2 ≡ eqb n 2
-      go true e = rw (length-take-le n ns (omega (arith, leb-true n 4200 e)))
+      go : (t : Bool) → leb n 384006 ≡ t → eqb (length (take n ns)) 2 ≡ eqb n 2
+      go true e = rw (length-take-le n ns (omega (arith, leb-true n 384006 e)))
       go false e =
-          let l : 4200 < n = leb-false n 4200 e in
+          let l : 384006 < n = leb-false n 384006 e in
           rw (take-all n ns (omega arith), ne-eqb n 2 (λ f. omega arith), ne-eqb (length ns) 2 (λ f. omega arith))
 
   module _ {t : Bool} (asked : t ≡ eqb k Kind.picture && eqb n 2) where

@@ -29,9 +29,9 @@ byte rows k i = getD rows (k * 19 + i) 0
 abbrev pub wordIn : List ℕ → ℕ → List ℕ
 wordIn rows k = take (letters rows k) (drop (k * 19 + 3) rows)
 
--- how many numbers may follow: 4,096 of PIXELS and DATA at `+` (43), 4,200 times at `*` (42)
+-- how many numbers may follow: 4,096 of PIXELS and DATA at `+` (43), 4,200 times at `*` (42), 384,000 of a blit's DATA at `@` (64)
 unfoldable pub follows : ℕ → ℕ
-follows b = cond (eqb b 43) 4096 (cond (eqb b 42) 4200 0)
+follows b = cond (eqb b 43) 4096 (cond (eqb b 42) 4200 (cond (eqb b 64) 384000 0))
 
 pub record RowHas (rows : List ℕ) (k : ℕ) (r : Row) : Type 0 where
   pub short : letters rows k ≤ 16

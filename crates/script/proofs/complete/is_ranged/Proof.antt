@@ -83,19 +83,28 @@ returns-9 : tie.Need-returns-9
 unfolding ranged
 returns-9 c = rw (c .before .before .if9 .taken) (c .are-bytes .ensures)
 
+is-event-requires : tie.Need-is-event-requires
+is-event-requires c κs = search needs
+
 returns-10 : tie.Need-returns-10
 unfolding ranged
-returns-10 c =
-    let no-mouse = c .before .before .before .before .before in
+returns-10 c = rw (c .before .if10 .taken) (c .is-event .ensures)
+
+returns-11 : tie.Need-returns-11
+unfolding ranged
+returns-11 c =
+    let no-dim = c .before .before .before in
+    let no-mouse = no-dim .before .before .before in
     rw (
       ne-eqb _ Kind.mousedown (no-mouse .before .before .if1 .left),
       ne-eqb _ Kind.mouseup (no-mouse .before .if2 .left),
       ne-eqb _ Kind.mouseclick (no-mouse .if3 .left),
-      ne-eqb _ Kind.redraw (c .before .before .before .before .if5 .left),
-      ne-eqb _ Kind.begin (c .before .before .before .if6 .left),
-      ne-eqb _ Kind.dim (c .before .before .if7 .left),
-      ne-eqb _ Kind.set-scanline (c .before .if8 .left),
-      ne-eqb _ Kind.read-sheet (c .if9 .left),
+      ne-eqb _ Kind.redraw (no-dim .before .before .if5 .left),
+      ne-eqb _ Kind.begin (no-dim .before .if6 .left),
+      ne-eqb _ Kind.dim (no-dim .if7 .left),
+      ne-eqb _ Kind.set-scanline (c .before .before .if8 .left),
+      ne-eqb _ Kind.read-sheet (c .before .if9 .left),
+      ne-eqb _ Kind.who (c .if10 .left),
     )
 
 pub is-ranged-spec : {M : Type 1} → statement M
@@ -123,4 +132,6 @@ is-ranged-spec =
     slice-aggregate-are-bytes
     are-bytes-requires
     returns-9
-    returns-10)
+    is-event-requires
+    returns-10
+    returns-11)

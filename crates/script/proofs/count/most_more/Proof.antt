@@ -15,7 +15,13 @@ returns-2 c = (rw (c .if2 .taken), omega arith)
 
 returns-3 : tie.Need-returns-3
 unfolding follows
-returns-3 c = (rw (ne-eqb _ 43 (c .before .if1 .left), ne-eqb _ 42 (c .if2 .left)), omega arith)
+returns-3 c = (rw (c .if3 .taken), omega arith)
+
+returns-4 : tie.Need-returns-4
+unfolding follows
+returns-4 c =
+    let second = c .before in
+    (rw (ne-eqb _ 43 (second .before .if1 .left), ne-eqb _ 42 (second .if2 .left), ne-eqb _ 64 (c .if3 .left)), omega arith)
 
 pub most-more-spec : {M : Type 1} → statement M
-most-more-spec = tie.close (tie.spec returns returns-2 returns-3)
+most-more-spec = tie.close (tie.spec returns returns-2 returns-3 returns-4)
