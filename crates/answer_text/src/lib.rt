@@ -1,35 +1,79 @@
-// The text that waits to be written: the first `at` bytes of the block `out`. Each function adds to it and hands back how many wait then.
+// The text that waits to be written, at the front of the block `out`. Each function adds to it and hands back what waits
+// then.
 ghost use mathlib.Core.Path.{_≡_};
-ghost use Prim.Native.Nat.{_≤_};
-ghost use lib.ListN.{length};
+ghost use mathlib.Core.List.{[], _∷_, _++_};
+ghost use Prim.Native.Nat.{_+_, _≤_, _<_};
+ghost use lib.ListN.{length, take};
+ghost use Rattle.answer_text.specs.Text as Text;
+ghost use Rattle.answer_text.specs.Text.{decimal};
+ghost use Rattle.answer_text.specs.Added.{counted as counting, handedOver, Adds};
 
 pub mod picture;
 
 use libc::STDOUT_FILENO;
 
-// Writes what waits.
-pub fn flush(out: &[u8], at: usize) -> usize
-    requires { ⌜ at ≤ length (now out) ⌝ }
-    ensures { λ r. ⌜ r ≡ 0 ⌝ }
+// The first `at` bytes of the block wait. `sent` bytes were handed to standard output before them, as far as 64 bits
+// count.
+pub struct Waiting {
+    pub at: usize,
+    pub sent: u64,
+}
+
+impl Waiting {
+    pub fn none() -> Waiting
+        ensures { λ r. ⌜ r ≡ record { at = 0; sent = 0 } ⌝ }
+    {
+        Waiting { at: 0, sent: 0 }
+    }
+}
+
+// The count after n bytes more.
+fn count_on(sent: u64, n: usize) -> u64
+    ensures { λ r. ⌜ r ≡ counting (sent + n) ⌝ }
 {
-    io::write_all(STDOUT_FILENO, &out[0..at]);
-    0
+    let more = n as u64;
+    if 18446744073709551615 - sent < more {
+        return 18446744073709551615;
+    }
+    sent + more
+}
+
+// Writes what waits. No other function writes to standard output.
+pub fn flush(out: &[u8], w: Waiting) -> Waiting
+    requires { ⌜ w .at ≤ length (now out) ⌝ }
+    ensures { λ r. ⌜ r ≡ handedOver w ⌝ }
+{
+    let n = w.at;
+    io::write_all(STDOUT_FILENO, &out[0..n]);
+    Waiting {
+        at: 0,
+        sent: count_on(w.sent, n),
+    }
 }
 
 // Room for one more number.
-fn room(out: &[u8; 65536], at: usize) -> usize
-    requires { ⌜ at ≤ 65536 ⌝ }
-    ensures { λ r. ⌜ r ≤ 65504 ⌝ }
+fn room(out: &[u8; 65536], w: Waiting) -> Waiting
+    requires { ⌜ w .at ≤ 65536 ⌝ }
+    ensures { λ r. ⌜ Adds [] w (now (out .entry)) r (now (out .entry)) × (r .at ≤ 65504) ⌝ }
 {
-    if at <= 65504 {
-        return at;
+    if w.at <= 65504 {
+        return w;
     }
-    flush(out, at)
+    flush(out, w)
 }
 
-fn copy(digits: &[u8], n: usize, out: &mut [u8; 65536], at: usize) -> usize
-    requires { ⌜ (n ≤ length (now digits)) × (length (now digits) ≡ 20) × (at ≤ 65504) ⌝ }
-    ensures { λ r. ⌜ r ≤ 65536 ⌝ }
+// Puts a byte behind the first `at`.
+fn put_byte(out: &mut [u8], at: usize, b: u8) -> usize
+    requires { ⌜ at < length (now out) ⌝ }
+    ensures { λ r. ⌜ (r ≡ at + 1) × (take r (now (out .exit)) ≡ take at (now (out .entry)) ++ (b ∷ [])) ⌝ }
+{
+    out[at] = b;
+    at + 1
+}
+
+fn copy(digits: &[u8], n: usize, out: &mut [u8], at: usize) -> usize
+    requires { ⌜ (n ≤ length (now digits)) × (at + n ≤ length (now out)) ⌝ }
+    ensures { λ r. ⌜ (r ≡ at + n) × (take r (now (out .exit)) ≡ take at (now (out .entry)) ++ take n (now (digits .entry))) ⌝ }
 {
     let mut i: usize = 0;
     while i < n {
@@ -40,54 +84,84 @@ fn copy(digits: &[u8], n: usize, out: &mut [u8; 65536], at: usize) -> usize
 }
 
 fn place(digits: &[u8; 20], n: usize, out: &mut [u8; 65536], at: usize) -> usize
-    requires { ⌜ (n ≤ length (now digits)) × (at ≤ 65504) ⌝ }
-    ensures { λ r. ⌜ r ≤ 65536 ⌝ }
+    requires { ⌜ (n ≤ length (now digits)) × (at ≤ 65516) ⌝ }
+    ensures { λ r. ⌜ (r ≡ at + n) × (n ≤ 20) × (take r (now (out .exit)) ≡ take at (now (out .entry)) ++ take n (now (digits .entry))) ⌝ }
 {
     copy(digits, n, out, at)
 }
 
-pub fn byte(out: &mut [u8; 65536], at: usize, b: u8) -> usize
-    requires { ⌜ at ≤ 65536 ⌝ }
-    ensures { λ r. ⌜ r ≤ 65536 ⌝ }
-{
-    let to = room(out, at);
-    out[to] = b;
-    to + 1
-}
-
-pub fn number(out: &mut [u8; 65536], at: usize, n: u64) -> usize
-    requires { ⌜ at ≤ 65536 ⌝ }
-    ensures { λ r. ⌜ r ≤ 65536 ⌝ }
+// Puts a number behind the first `at` bytes.
+fn put_number(out: &mut [u8; 65536], at: usize, n: u64) -> usize
+    requires { ⌜ at ≤ 65516 ⌝ }
+    ensures { λ r. ⌜ (r ≤ at + 20) × (take r (now (out .exit)) ≡ take at (now (out .entry)) ++ decimal n) ⌝ }
 {
     let mut digits = [0u8; 20];
     let k = io::decimal(n, &mut digits);
-    let to = room(out, at);
-    place(&digits, k, out, to)
+    place(&digits, k, out, at)
+}
+
+// Puts a space and a number behind the first `at` bytes. It hands back a place alone: a struct would go through memory
+// for each number of a list.
+fn put_spaced(out: &mut [u8; 65536], at: usize, n: u64) -> usize
+    requires { ⌜ at ≤ 65504 ⌝ }
+    ensures { λ r. ⌜ (r ≤ at + 21) × (take r (now (out .exit)) ≡ take at (now (out .entry)) ++ (32 ∷ decimal n)) ⌝ }
+{
+    let space = put_byte(out, at, b' ');
+    put_number(out, space, n)
+}
+
+pub fn byte(out: &mut [u8; 65536], w: Waiting, b: u8) -> Waiting
+    requires { ⌜ w .at ≤ 65536 ⌝ }
+    ensures { λ r. ⌜ Adds (Text.sign b ∷ []) w (now (out .entry)) r (now (out .exit)) ⌝ }
+{
+    let to = room(out, w);
+    Waiting {
+        at: put_byte(out, to.at, b),
+        sent: to.sent,
+    }
+}
+
+// The number that a line begins with.
+pub fn number(out: &mut [u8; 65536], w: Waiting, n: u64) -> Waiting
+    requires { ⌜ w .at ≤ 65536 ⌝ }
+    ensures { λ r. ⌜ Adds (Text.first n ∷ []) w (now (out .entry)) r (now (out .exit)) ⌝ }
+{
+    let to = room(out, w);
+    Waiting {
+        at: put_number(out, to.at, n),
+        sent: to.sent,
+    }
 }
 
 // A number that is not the first word of its line.
-pub fn more(out: &mut [u8; 65536], at: usize, n: u32) -> usize
-    requires { ⌜ at ≤ 65536 ⌝ }
-    ensures { λ r. ⌜ r ≤ 65536 ⌝ }
+pub fn more(out: &mut [u8; 65536], w: Waiting, n: u32) -> Waiting
+    requires { ⌜ w .at ≤ 65536 ⌝ }
+    ensures { λ r. ⌜ Adds (Text.number n ∷ []) w (now (out .entry)) r (now (out .exit)) ⌝ }
 {
-    let to = byte(out, at, b' ');
-    number(out, to, n as u64)
+    let to = room(out, w);
+    Waiting {
+        at: put_spaced(out, to.at, n as u64),
+        sent: to.sent,
+    }
 }
 
 // The same of a count.
-pub fn count(out: &mut [u8; 65536], at: usize, n: usize) -> usize
-    requires { ⌜ at ≤ 65536 ⌝ }
-    ensures { λ r. ⌜ r ≤ 65536 ⌝ }
+pub fn count(out: &mut [u8; 65536], w: Waiting, n: usize) -> Waiting
+    requires { ⌜ w .at ≤ 65536 ⌝ }
+    ensures { λ r. ⌜ Adds (Text.number n ∷ []) w (now (out .entry)) r (now (out .exit)) ⌝ }
 {
-    let to = byte(out, at, b' ');
-    number(out, to, n as u64)
+    let to = room(out, w);
+    Waiting {
+        at: put_spaced(out, to.at, n as u64),
+        sent: to.sent,
+    }
 }
 
-pub fn signed(out: &mut [u8; 65536], at: usize, z: i16) -> usize
-    requires { ⌜ at ≤ 65536 ⌝ }
-    ensures { λ r. ⌜ r ≤ 65536 ⌝ }
+pub fn signed(out: &mut [u8; 65536], w: Waiting, z: i16) -> Waiting
+    requires { ⌜ w .at ≤ 65536 ⌝ }
+    ensures { λ r. ⌜ Adds (Text.signed z ∷ []) w (now (out .entry)) r (now (out .exit)) ⌝ }
 {
-    let to = byte(out, at, b' ');
+    let to = byte(out, w, b' ');
     if z < 0 {
         let minus = byte(out, to, b'-');
         return number(out, minus, (-(z as i32)) as u64);
@@ -95,18 +169,18 @@ pub fn signed(out: &mut [u8; 65536], at: usize, z: i16) -> usize
     number(out, to, z as u64)
 }
 
-pub fn end(out: &mut [u8; 65536], at: usize) -> usize
-    requires { ⌜ at ≤ 65536 ⌝ }
-    ensures { λ r. ⌜ r ≤ 65536 ⌝ }
+pub fn end(out: &mut [u8; 65536], w: Waiting) -> Waiting
+    requires { ⌜ w .at ≤ 65536 ⌝ }
+    ensures { λ r. ⌜ Adds (Text.end ∷ []) w (now (out .entry)) r (now (out .exit)) ⌝ }
 {
-    byte(out, at, b'\n')
+    byte(out, w, b'\n')
 }
 
-pub fn word(out: &mut [u8; 65536], at: usize, text: &[u8]) -> usize
-    requires { ⌜ at ≤ 65536 ⌝ }
-    ensures { λ r. ⌜ r ≤ 65536 ⌝ }
+pub fn word(out: &mut [u8; 65536], w: Waiting, text: &[u8]) -> Waiting
+    requires { ⌜ w .at ≤ 65536 ⌝ }
+    ensures { λ r. ⌜ Adds (Text.word (now (text .entry)) ∷ []) w (now (out .entry)) r (now (out .exit)) ⌝ }
 {
-    let mut to = byte(out, at, b' ');
+    let mut to = byte(out, w, b' ');
     let mut i: usize = 0;
     while i < text.len() {
         to = byte(out, to, text[i]);
@@ -116,11 +190,11 @@ pub fn word(out: &mut [u8; 65536], at: usize, text: &[u8]) -> usize
 }
 
 // The numbers of a list, each after a space.
-pub fn all(out: &mut [u8; 65536], at: usize, list: &[u32]) -> usize
-    requires { ⌜ at ≤ 65536 ⌝ }
-    ensures { λ r. ⌜ r ≤ 65536 ⌝ }
+pub fn all(out: &mut [u8; 65536], w: Waiting, list: &[u32]) -> Waiting
+    requires { ⌜ w .at ≤ 65536 ⌝ }
+    ensures { λ r. ⌜ Adds (Text.numbers (now (list .entry))) w (now (out .entry)) r (now (out .exit)) ⌝ }
 {
-    let mut to = at;
+    let mut to = w;
     let mut i: usize = 0;
     while i < list.len() {
         to = more(out, to, list[i]);
@@ -136,11 +210,11 @@ fn wide(b: u8) -> u32
 }
 
 // The same of bytes.
-pub fn bytes(out: &mut [u8; 65536], at: usize, list: &[u8]) -> usize
-    requires { ⌜ at ≤ 65536 ⌝ }
-    ensures { λ r. ⌜ r ≤ 65536 ⌝ }
+pub fn bytes(out: &mut [u8; 65536], w: Waiting, list: &[u8]) -> Waiting
+    requires { ⌜ w .at ≤ 65536 ⌝ }
+    ensures { λ r. ⌜ Adds (Text.numbers (now (list .entry))) w (now (out .entry)) r (now (out .exit)) ⌝ }
 {
-    let mut to = at;
+    let mut to = w;
     let mut i: usize = 0;
     while i < list.len() {
         to = more(out, to, wide(list[i]));
@@ -150,38 +224,38 @@ pub fn bytes(out: &mut [u8; 65536], at: usize, list: &[u8]) -> usize
 }
 
 // A line of an answer alone.
-pub fn answer(out: &mut [u8; 65536], at: usize, answer: u32) -> usize
-    requires { ⌜ at ≤ 65536 ⌝ }
-    ensures { λ r. ⌜ r ≤ 65536 ⌝ }
+pub fn answer(out: &mut [u8; 65536], w: Waiting, answer: u32) -> Waiting
+    requires { ⌜ w .at ≤ 65536 ⌝ }
+    ensures { λ r. ⌜ Adds (Text.line answer []) w (now (out .entry)) r (now (out .exit)) ⌝ }
 {
-    let to = number(out, at, answer as u64);
+    let to = number(out, w, answer as u64);
     end(out, to)
 }
 
 // A line of the answer 0 and a count.
-pub fn counted(out: &mut [u8; 65536], at: usize, n: usize) -> usize
-    requires { ⌜ at ≤ 65536 ⌝ }
-    ensures { λ r. ⌜ r ≤ 65536 ⌝ }
+pub fn counted(out: &mut [u8; 65536], w: Waiting, n: usize) -> Waiting
+    requires { ⌜ w .at ≤ 65536 ⌝ }
+    ensures { λ r. ⌜ Adds (Text.line 0 (Text.number n ∷ [])) w (now (out .entry)) r (now (out .exit)) ⌝ }
 {
-    let to = number(out, at, 0);
+    let to = number(out, w, 0);
     let then = count(out, to, n);
     end(out, then)
 }
 
 // The line for what the program cannot lend or write.
-pub fn refused(out: &mut [u8; 65536], at: usize) -> usize
-    requires { ⌜ at ≤ 65536 ⌝ }
-    ensures { λ r. ⌜ r ≤ 65536 ⌝ }
+pub fn refused(out: &mut [u8; 65536], w: Waiting) -> Waiting
+    requires { ⌜ w .at ≤ 65536 ⌝ }
+    ensures { λ r. ⌜ Adds Text.beyond w (now (out .entry)) r (now (out .exit)) ⌝ }
 {
-    let to = byte(out, at, b'!');
+    let to = byte(out, w, b'!');
     end(out, to)
 }
 
-pub fn malformed(out: &mut [u8; 65536], at: usize, line: u64) -> usize
-    requires { ⌜ at ≤ 65536 ⌝ }
-    ensures { λ r. ⌜ r ≤ 65536 ⌝ }
+pub fn malformed(out: &mut [u8; 65536], w: Waiting, line: u64) -> Waiting
+    requires { ⌜ w .at ≤ 65536 ⌝ }
+    ensures { λ r. ⌜ Adds (Text.malformed line) w (now (out .entry)) r (now (out .exit)) ⌝ }
 {
-    let mark = byte(out, at, b'?');
+    let mark = byte(out, w, b'?');
     let space = byte(out, mark, b' ');
     let to = number(out, space, line);
     end(out, to)

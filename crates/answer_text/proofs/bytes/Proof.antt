@@ -1,18 +1,22 @@
--- What waits stays within the block.
+-- The numbers up to i were added.
 use Prim.Native.Nat.{_≤_, _-_}
-use lib.ListN.{length}
+use lib.ListN.{length, take}
 use borrow.Author.Needs.{needs}
+use Rattle.answer_text.specs.Text.{numbers}
+use Rattle.answer_text.specs.Added.{Adds}
+use Rattle.answer_text.proofs.laws.Added.{same}
+use Rattle.answer_text.proofs.laws.Put.{one-more, no-more}
 use Rattle.answer_text.proofs.bytes.Statement.{statement}
 use Rattle.answer_text.proofs.bytes.Tie as tie
 
 abbrev Inv-loop : tie.InvT-loop
-Inv-loop out₀ at list to₀ i₀ out to i = (i ≤ length list) × (to ≤ 65536)
+Inv-loop out₀ list to₀ i₀ out to i = (i ≤ length list) × Adds (numbers (take i list)) to₀ out₀ to out
 
 abbrev μ-loop : tie.MeasureT-loop
-μ-loop out₀ at list to₀ i₀ out to i = length list - i
+μ-loop out₀ list to₀ i₀ out to i = length list - i
 
 loop-holds : tie.Need-loop-holds Inv-loop μ-loop
-loop-holds c = search needs
+loop-holds c = (search needs, same (c .before .args .w) (c .before .args .out .now) (search needs) (search needs))
 
 shared-slice-read-wide : tie.Need-shared-slice-read-wide Inv-loop μ-loop
 shared-slice-read-wide c = search needs
@@ -30,10 +34,14 @@ loop-less : tie.Need-loop-less Inv-loop μ-loop
 loop-less c = search needs
 
 loop-again : tie.Need-loop-again Inv-loop μ-loop
-loop-again c = search needs
+loop-again c =
+    let head = c .before .before .before .before .before in
+    let entry = head .before .before in
+    let widened = c .before .wide .ensures in
+    (search needs, one-more (entry .args .list .now) (head .loop .i) (search needs) (head .loop .inv .1) (rw widened at (c .more .ensures)))
 
 returns : tie.Need-returns Inv-loop μ-loop
-returns c = search needs
+returns c = no-more (c .before .before .before .args .list .now) (c .before .loop .i) (c .loop-test .left) (c .before .loop .inv .1)
 
 pub bytes-spec : {M : Type 1} → statement M
 bytes-spec =
