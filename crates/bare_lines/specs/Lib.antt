@@ -1,2 +1,3 @@
--- What the numbers of a line are.
+-- What the numbers of a line are, and what the lines of rectangles and pixels alone write.
 pub mod Numbers
+pub mod Told

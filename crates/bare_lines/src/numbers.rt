@@ -8,27 +8,27 @@ use geom::Rect;
 use window::ids::WinId;
 
 // The window that a line names. Any number is handed on, and one that no window has is answered by 3.
-pub fn id(ns: &[u32; 4200]) -> WinId
+pub fn id(ns: &[u32; 384006]) -> WinId
     ensures { λ r. ⌜ r .0 ≡ idOf (now (ns .entry)) ⌝ }
 {
     WinId(ns[0])
 }
 
-pub fn pos(ns: &[u32; 4200], at: usize) -> Pos
+pub fn pos(ns: &[u32; 384006], at: usize) -> Pos
     requires { ⌜ at ≤ 4 ⌝ }
     ensures { λ r. ⌜ (r .x ≡ num (now (ns .entry)) at) × (r .y ≡ num (now (ns .entry)) (at + 1)) ⌝ }
 {
     Pos::new(ns[at], ns[at + 1])
 }
 
-pub fn dims(ns: &[u32; 4200], at: usize) -> Dims
+pub fn dims(ns: &[u32; 384006], at: usize) -> Dims
     requires { ⌜ at ≤ 4 ⌝ }
     ensures { λ r. ⌜ (r .w ≡ num (now (ns .entry)) at) × (r .h ≡ num (now (ns .entry)) (at + 1)) ⌝ }
 {
     Dims::new(ns[at], ns[at + 1])
 }
 
-pub fn rect(ns: &[u32; 4200], at: usize) -> Rect
+pub fn rect(ns: &[u32; 384006], at: usize) -> Rect
     requires { ⌜ at ≤ 4 ⌝ }
     ensures { λ r. ⌜ r ≡ rectAt (now (ns .entry)) at ⌝ }
 {
