@@ -8,6 +8,7 @@ use mathlib.Core.Logic.{_⊎_}
 use lib.IntN.{pos}
 use lib.Dec.{leb, eqb}
 use lib.ListN.{take, drop}
+use Rattle.window.specs.declared.Event.{Event}
 use Rattle.window.specs.declared.Event.the-variants.{Resize, KeyDown, KeyUp, KeyFire, Text, MouseMove, MouseDown, MouseClick, MouseUp}
 use Rattle.script.specs.Kind as Kind
 use Rattle.rules.specs.Calls as Call
@@ -57,6 +58,20 @@ routeCalls ns =
     ∷ (Kind.mouseclick, Call.Route (MouseClick (num ns 0) (num ns 1) (num ns 2) (num ns 3)))
     ∷ (Kind.resized, Call.Route Resize)
     ∷ []
+
+-- "`who KIND A B C D`: route, telling who took it; KIND is 1 Resize, 2 KeyDown, 3 KeyUp, 4 KeyFire, 5 Text, 6 MouseMove,
+-- 7 MouseDown, 8 MouseClick, 9 MouseUp"; "of 2 to 5 A is the value, of 6 to 9 A B is the point; C is the button and D the
+-- count"
+unfoldable pub whoEvent : List ℕ → Event
+whoEvent ns =
+    cond (eqb (num ns 0) 2) (KeyDown (num ns 1))
+    (cond (eqb (num ns 0) 3) (KeyUp (num ns 1))
+    (cond (eqb (num ns 0) 4) (KeyFire (num ns 1))
+    (cond (eqb (num ns 0) 5) (Text (num ns 1))
+    (cond (eqb (num ns 0) 6) (MouseMove (num ns 1) (num ns 2) (pos 0) (pos 0))
+    (cond (eqb (num ns 0) 7) (MouseDown (num ns 1) (num ns 2) (num ns 3))
+    (cond (eqb (num ns 0) 8) (MouseClick (num ns 1) (num ns 2) (num ns 3) (num ns 4))
+    (cond (eqb (num ns 0) 9) (MouseUp (num ns 1) (num ns 2) (num ns 3)) Resize)))))))
 
 -- "`resize ID W H`: resize"; "`fill ID X Y W H COLOUR`: fill"; "`blit ID X Y W H STRIDE DATA…`: blit"; "`maximise ID`: maximise_window";
 -- "`update-dims`: update_dims". n is how many numbers the line has
@@ -114,9 +129,17 @@ OnStore k = ((Kind.resize ≤ k) × (k ≤ Kind.blit)) ⊎ ((Kind.maximise ≤ k
 abbrev pub Resizes : ℕ → Type 0
 Resizes k = (k ≡ Kind.resize) ⊎ ((Kind.maximise ≤ k) × (k ≤ Kind.update-dims))
 
+-- of which calls the pixels altered are written too: `fill` and `blit`
+abbrev pub isCounted : ℕ → Bool
+isCounted k = eqb k Kind.fill || eqb k Kind.blit
+
 -- pixels of the screen are lent
 abbrev pub OnScreen : ℕ → Type 0
 OnScreen k = (k ≡ Kind.redraw) ⊎ (k ≡ Kind.portion)
+
+-- pixels of the screen are shown
+abbrev pub OnShow : ℕ → Type 0
+OnShow k = (k ≡ Kind.screen) ⊎ (k ≡ Kind.picture)
 
 -- a target is lent
 abbrev pub OnTarget : ℕ → Type 0

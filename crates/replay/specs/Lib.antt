@@ -2,5 +2,7 @@
 pub mod Called
 pub mod Ready
 pub mod Looks
+pub mod Told
 pub mod Played
+pub mod Run
 pub mod inner

@@ -4,12 +4,18 @@ ghost use Prim.Native.Nat.{_-_, _*_, _≤_};
 ghost use lib.ListN.{length, take, drop};
 ghost use Rattle.rules.specs.Panels.{Write};
 ghost use Rattle.windows.specs.View.{group, done, Given, MeetsStore, MeetsAltered, MeetsScreen};
-ghost use Rattle.replay.specs.Called.{Picked, storeCall, screenCall, OnStore, Resizes, OnScreen};
+ghost use mathlib.Core.Bool.{true};
+ghost use Rattle.rules.specs.Calls.{does};
+ghost use Rattle.answer_text.specs.Text.{numbers as numbersOf};
+ghost use Rattle.answer_text.specs.Added.{Adds};
+ghost use Rattle.replay.specs.Called.{Picked, storeCall, isCounted, screenCall, OnStore, Resizes, OnScreen};
+ghost use Rattle.replay.specs.Told.{rectsLine};
 ghost use Rattle.bare_lines.specs.Numbers.{num, idOf, rectAt, Sound};
 ghost use Rattle.script.specs.Kind as Kind;
-ghost use Rattle.replay.specs.Ready.{Ready, Next, unlisted};
-ghost use Rattle.replay.specs.Played.{pixels, screenLen, listLen, MeetsPart, DrawsPart, ListsPart, Stores, Draws, Plays, PlaysAt};
+ghost use Rattle.replay.specs.Ready.{Ready};
+ghost use Rattle.replay.specs.Played.{pixels, screenLen, listLen, WritesPart, DrawsPart, ListsPart, Stores, Draws, Writes, PlaysAt};
 use crate::player::Player;
+use answer_text::Waiting;
 use bare_lines::numbers;
 use geom::Listing;
 use geom::inner::answers::OK;
@@ -20,7 +26,7 @@ use windows::Session;
 use windows::Written;
 
 // The data of a blit are the numbers of the line after its first six.
-fn blit(s: Session, ns: &[u32; 4200], data: &[u32], store: &mut [u32]) -> Written
+fn blit(s: Session, ns: &[u32; 384006], data: &[u32], store: &mut [u32]) -> Written
     requires { ⌜ Given s ⌝ }
     ensures { λ r. ⌜ MeetsAltered (idOf (now (ns .entry))) (Write.blit (rectAt (now (ns .entry)) 1) (now («data» .entry)) (num (now (ns .entry)) 5)) (now (store .entry)) s r (now (store .exit)) ⌝ }
 {
@@ -29,7 +35,7 @@ fn blit(s: Session, ns: &[u32; 4200], data: &[u32], store: &mut [u32]) -> Writte
     s.blit(numbers::id(ns), area, stride, data, store)
 }
 
-fn part(s: Session, ns: &[u32; 4200], all: &[u32], count: usize, store: &mut [u32]) -> Written
+fn part(s: Session, ns: &[u32; 384006], all: &[u32], count: usize, store: &mut [u32]) -> Written
     requires { ⌜ Given s × (6 ≤ count) × (count ≤ length (now all)) ⌝ }
     ensures { λ r. ⌜ MeetsAltered (idOf (now (ns .entry))) (Write.blit (rectAt (now (ns .entry)) 1) (take (count - 6) (drop 6 (now (all .entry)))) (num (now (ns .entry)) 5)) (now (store .entry)) s r (now (store .exit)) ⌝ }
 {
@@ -37,7 +43,7 @@ fn part(s: Session, ns: &[u32; 4200], all: &[u32], count: usize, store: &mut [u3
 }
 
 // The calls that resize windows, and count no pixels.
-fn resize(s: Session, line: Line, ns: &[u32; 4200], store: &mut [u32]) -> Done
+fn resize(s: Session, line: Line, ns: &[u32; 384006], store: &mut [u32]) -> Done
     requires { ⌜ Given s × Resizes (line .kind) ⌝ }
     ensures { λ r. ⌜ Picked (storeCall (line .kind) (line .count) (now (ns .entry)) (now (store .entry))) (λ c. MeetsStore c s r (now (store .exit))) ⌝ }
 {
@@ -51,9 +57,9 @@ fn resize(s: Session, line: Line, ns: &[u32; 4200], store: &mut [u32]) -> Done
 }
 
 // The calls that write the store.
-fn write(s: Session, line: Line, ns: &[u32; 4200], store: &mut [u32]) -> Written
+fn write(s: Session, line: Line, ns: &[u32; 384006], store: &mut [u32]) -> Written
     requires { ⌜ Given s × Sound line (now ns) × OnStore (line .kind) ⌝ }
-    ensures { λ r. ⌜ Picked (storeCall (line .kind) (line .count) (now (ns .entry)) (now (store .entry))) (λ c. MeetsStore c s (done (r .session) (r .answer)) (now (store .exit))) ⌝ }
+    ensures { λ r. ⌜ Picked (storeCall (line .kind) (line .count) (now (ns .entry)) (now (store .entry))) (λ c. MeetsStore c s (done (r .session) (r .answer)) (now (store .exit)) × (isCounted (line .kind) ≡ true → r .altered ≡ does (group s) c .altered)) ⌝ }
 {
     let k = line.kind;
     match k {
@@ -71,16 +77,18 @@ fn write(s: Session, line: Line, ns: &[u32; 4200], store: &mut [u32]) -> Written
     }
 }
 
-fn lent(s: Session, line: Line, ns: &[u32; 4200], store: &mut [u32], lent: usize) -> Written
+fn lent(s: Session, line: Line, ns: &[u32; 384006], store: &mut [u32], lent: usize) -> Written
     requires { ⌜ Given s × Sound line (now ns) × OnStore (line .kind) × (lent ≤ length (now store)) ⌝ }
     ensures { λ r. ⌜ Picked (storeCall (line .kind) (line .count) (now (ns .entry)) (take lent (now (store .entry))))
-        (λ c. MeetsPart c lent (now (store .entry)) s (done (r .session) (r .answer)) (now (store .exit))) ⌝ }
+        (λ c. WritesPart (isCounted (line .kind)) c lent (now (store .entry)) s r (now (store .exit))) ⌝ }
 {
     write(s, line, ns, &mut store[0..lent])
 }
 
 // Are the pixels altered written too?
-fn counts(k: u8) -> bool {
+fn counts(k: u8) -> bool
+    ensures { λ r. ⌜ r ≡ isCounted k ⌝ }
+{
     if k == kind::FILL {
         return true;
     }
@@ -90,13 +98,13 @@ fn counts(k: u8) -> bool {
 pub fn stored(
     p: Player,
     line: Line,
-    ns: &[u32; 4200],
-    store: &mut [u32; 1048576],
+    ns: &[u32; 384006],
+    store: &mut [u32; 6144000],
     out: &mut [u8; 65536],
 ) -> Player
     requires { ⌜ Ready p × Sound line (now ns) × OnStore (line .kind) ⌝ }
     ensures { λ r. ⌜ Picked (storeCall (line .kind) (line .count) (now (ns .entry)) (take (p .lent) (now (store .entry))))
-        (λ c. Stores c p (now (store .entry)) r (now (store .exit))) ⌝ }
+        (λ c. Stores (line .kind) c p (now (store .entry)) (now (out .entry)) r (now (store .exit)) (now (out .exit))) ⌝ }
 {
     let s = p.session;
     let written = lent(s, line, ns, store, p.lent);
@@ -104,7 +112,7 @@ pub fn stored(
 }
 
 // The calls that draw on the screen.
-fn draw(s: Session, k: u8, ns: &[u32; 4200], store: &[u32], screen: &mut [u32]) -> Done
+fn draw(s: Session, k: u8, ns: &[u32; 384006], store: &[u32], screen: &mut [u32]) -> Done
     requires { ⌜ Given s ⌝ }
     ensures { λ r. ⌜ MeetsScreen (screenCall k (now (ns .entry)) (now (store .entry)) (now (screen .entry))) s r (now (screen .exit)) ⌝ }
 {
@@ -118,7 +126,7 @@ fn draw(s: Session, k: u8, ns: &[u32; 4200], store: &[u32], screen: &mut [u32]) 
 fn draw_part(
     s: Session,
     k: u8,
-    ns: &[u32; 4200],
+    ns: &[u32; 384006],
     store: &[u32],
     lent: usize,
     screen: &mut [u32],
@@ -131,7 +139,7 @@ fn draw_part(
 }
 
 // How many pixels of the screen a line is lent: what was said, or what its size asks for.
-fn screen_len(p: Player, k: u8, ns: &[u32; 4200]) -> u64
+fn screen_len(p: Player, k: u8, ns: &[u32; 384006]) -> u64
     ensures { λ r. ⌜ r ≡ screenLen p k (now (ns .entry)) ⌝ }
 {
     if p.is_set {
@@ -146,14 +154,14 @@ fn screen_len(p: Player, k: u8, ns: &[u32; 4200]) -> u64
 fn drawn(
     mut p: Player,
     k: u8,
-    ns: &[u32; 4200],
-    store: &[u32; 1048576],
-    screen: &mut [u32; 384000],
+    ns: &[u32; 384006],
+    store: &[u32; 6144000],
+    screen: &mut [u32; 3072000],
     len: usize,
     out: &mut [u8; 65536],
 ) -> Player
-    requires { ⌜ Ready p × (len ≤ 384000) ⌝ }
-    ensures { λ r. ⌜ Draws k (now (ns .entry)) len p (now (store .entry)) (now (screen .entry)) r (now (screen .exit)) ⌝ }
+    requires { ⌜ Ready p × (len ≤ 3072000) ⌝ }
+    ensures { λ r. ⌜ Draws k (now (ns .entry)) len p (now (store .entry)) (now (screen .entry)) (now (out .entry)) r (now (screen .exit)) (now (out .exit)) ⌝ }
 {
     let s = p.session;
     let done = draw_part(s, k, ns, store, p.lent, screen, len);
@@ -165,17 +173,17 @@ fn drawn(
 pub fn redraw(
     p: Player,
     line: Line,
-    ns: &[u32; 4200],
-    store: &[u32; 1048576],
-    screen: &mut [u32; 384000],
+    ns: &[u32; 384006],
+    store: &[u32; 6144000],
+    screen: &mut [u32; 3072000],
     out: &mut [u8; 65536],
 ) -> Player
     requires { ⌜ Ready p × OnScreen (line .kind) ⌝ }
-    ensures { λ r. ⌜ Plays line (now (ns .entry)) p (pixels (now (store .entry)) (now (screen .entry))) r (pixels (now (store .entry)) (now (screen .exit))) ⌝ }
+    ensures { λ r. ⌜ Writes line (now (ns .entry)) p (pixels (now (store .entry)) (now (screen .entry))) (now (out .entry)) r (pixels (now (store .entry)) (now (screen .exit))) (now (out .exit)) ⌝ }
 {
     let k = line.kind;
     let len = screen_len(p, k, ns);
-    if len <= 384000 {
+    if len <= 3072000 {
         return drawn(p, k, ns, store, screen, len as usize, out);
     }
     p.refused(out)
@@ -192,18 +200,18 @@ pub fn list_len(p: Player, other: usize) -> usize
     other
 }
 
-fn listed(s: Session, ns: &[u32; 4200], list: &mut [u32], len: usize) -> Listing
+fn listed(s: Session, ns: &[u32; 384006], list: &mut [u32], len: usize) -> Listing
     requires { ⌜ Given s × (len ≤ length (now list)) ⌝ }
     ensures { λ r. ⌜ ListsPart (group s) (idOf (now (ns .entry))) len (now (list .entry)) r (now (list .exit)) ⌝ }
 {
     s.visible(numbers::id(ns), &mut list[0..len])
 }
 
-pub fn write_list(list: &[u32], n: usize, out: &mut [u8; 65536], at: usize) -> usize
-    requires { ⌜ (n ≤ length (now list)) × (at ≤ 65536) ⌝ }
-    ensures { λ r. ⌜ r ≤ 65536 ⌝ }
+pub fn write_list(list: &[u32], n: usize, out: &mut [u8; 65536], w: Waiting) -> Waiting
+    requires { ⌜ (n ≤ length (now list)) × (w .at ≤ 65536) ⌝ }
+    ensures { λ r. ⌜ Adds (numbersOf (take n (now (list .entry)))) w (now (out .entry)) r (now (out .exit)) ⌝ }
 {
-    answer_text::all(out, at, &list[0..n])
+    answer_text::all(out, w, &list[0..n])
 }
 
 // A line of the answer and, where it is 0, how many rectangles there are and then these, which stand at the front of the list.
@@ -212,56 +220,56 @@ pub fn write_rects(
     count: usize,
     list: &[u32; 7812],
     out: &mut [u8; 65536],
-    at: usize,
-) -> usize
-    requires { ⌜ (4 * count ≤ 7812) × (at ≤ 65536) ⌝ }
-    ensures { λ r. ⌜ r ≤ 65536 ⌝ }
+    w: Waiting,
+) -> Waiting
+    requires { ⌜ (4 * count ≤ 7812) × (w .at ≤ 65536) ⌝ }
+    ensures { λ r. ⌜ Adds (rectsLine answer count (now (list .entry))) w (now (out .entry)) r (now (out .exit)) ⌝ }
 {
     if answer == OK {
-        let to = answer_text::number(out, at, 0);
+        let to = answer_text::number(out, w, 0);
         let then = answer_text::count(out, to, count);
         let last = write_list(list, 4 * count, out, then);
         return answer_text::end(out, last);
     }
-    answer_text::answer(out, at, answer)
+    answer_text::answer(out, w, answer)
 }
 
 pub fn visible(
     mut p: Player,
-    ns: &[u32; 4200],
+    ns: &[u32; 384006],
     list: &mut [u32; 7812],
     out: &mut [u8; 65536],
 ) -> Player
     requires { ⌜ Ready p ⌝ }
-    ensures { λ r. ⌜ Next (unlisted p) (p .session) r ⌝ }
+    ensures { λ r. ⌜ PlaysAt Kind.visible (now (ns .entry)) p (now (out .entry)) r (now (out .exit)) ⌝ }
 {
     let s = p.session;
     let len = list_len(p, 1984);
     let found = listed(s, ns, list, len);
     p.has_list = false;
-    p.at = write_rects(found.answer, found.count, list, out, p.at);
+    p.waiting = write_rects(found.answer, found.count, list, out, p.waiting);
     p
 }
 
 // The lend lines: more than the program has is refused.
-pub fn lend_store(mut p: Player, ns: &[u32; 4200], out: &mut [u8; 65536]) -> Player
+pub fn lend_store(mut p: Player, ns: &[u32; 384006], out: &mut [u8; 65536]) -> Player
     requires { ⌜ Ready p ⌝ }
-    ensures { λ r. ⌜ PlaysAt Kind.lend (now (ns .entry)) p r ⌝ }
+    ensures { λ r. ⌜ PlaysAt Kind.lend (now (ns .entry)) p (now (out .entry)) r (now (out .exit)) ⌝ }
 {
     let n = numbers::wide(ns[0]);
-    if n <= 1048576 {
+    if n <= 6144000 {
         p.lent = n;
         return p.accepted(out);
     }
     p.refused(out)
 }
 
-pub fn lend_screen(mut p: Player, ns: &[u32; 4200], out: &mut [u8; 65536]) -> Player
+pub fn lend_screen(mut p: Player, ns: &[u32; 384006], out: &mut [u8; 65536]) -> Player
     requires { ⌜ Ready p ⌝ }
-    ensures { λ r. ⌜ PlaysAt Kind.lend-screen (now (ns .entry)) p r ⌝ }
+    ensures { λ r. ⌜ PlaysAt Kind.lend-screen (now (ns .entry)) p (now (out .entry)) r (now (out .exit)) ⌝ }
 {
     let n = numbers::wide(ns[0]);
-    if n <= 384000 {
+    if n <= 3072000 {
         p.is_set = true;
         p.screen = n;
         return p.accepted(out);
@@ -269,9 +277,9 @@ pub fn lend_screen(mut p: Player, ns: &[u32; 4200], out: &mut [u8; 65536]) -> Pl
     p.refused(out)
 }
 
-pub fn lend_list(mut p: Player, ns: &[u32; 4200], out: &mut [u8; 65536]) -> Player
+pub fn lend_list(mut p: Player, ns: &[u32; 384006], out: &mut [u8; 65536]) -> Player
     requires { ⌜ Ready p ⌝ }
-    ensures { λ r. ⌜ PlaysAt Kind.lend-list (now (ns .entry)) p r ⌝ }
+    ensures { λ r. ⌜ PlaysAt Kind.lend-list (now (ns .entry)) p (now (out .entry)) r (now (out .exit)) ⌝ }
 {
     let n = numbers::wide(ns[0]);
     if n <= 7812 {
@@ -282,9 +290,9 @@ pub fn lend_list(mut p: Player, ns: &[u32; 4200], out: &mut [u8; 65536]) -> Play
     p.refused(out)
 }
 
-pub fn lend_target(mut p: Player, ns: &[u32; 4200], out: &mut [u8; 65536]) -> Player
+pub fn lend_target(mut p: Player, ns: &[u32; 384006], out: &mut [u8; 65536]) -> Player
     requires { ⌜ Ready p ⌝ }
-    ensures { λ r. ⌜ PlaysAt Kind.lend-target (now (ns .entry)) p r ⌝ }
+    ensures { λ r. ⌜ PlaysAt Kind.lend-target (now (ns .entry)) p (now (out .entry)) r (now (out .exit)) ⌝ }
 {
     let n = numbers::wide(ns[0]);
     if n <= 65536 {
@@ -295,9 +303,9 @@ pub fn lend_target(mut p: Player, ns: &[u32; 4200], out: &mut [u8; 65536]) -> Pl
     p.refused(out)
 }
 
-pub fn lend_sheet(mut p: Player, ns: &[u32; 4200], out: &mut [u8; 65536]) -> Player
+pub fn lend_sheet(mut p: Player, ns: &[u32; 384006], out: &mut [u8; 65536]) -> Player
     requires { ⌜ Ready p ⌝ }
-    ensures { λ r. ⌜ PlaysAt Kind.lend-sheet (now (ns .entry)) p r ⌝ }
+    ensures { λ r. ⌜ PlaysAt Kind.lend-sheet (now (ns .entry)) p (now (out .entry)) r (now (out .exit)) ⌝ }
 {
     let n = numbers::wide(ns[0]);
     if n <= 2048 {

@@ -1,14 +1,19 @@
 // The lines of a closer look.
 ghost use mathlib.Core.Path.{_≡_};
 ghost use Prim.Native.Nat.{_≤_};
-ghost use lib.ListN.{length, take};
+ghost use mathlib.Core.List.{List};
+ghost use Prim.Native.Nat.{ℕ};
+ghost use lib.ListN.{length, take, replicate};
 ghost use Rattle.windows.specs.View.{group, Given};
 ghost use Rattle.replay.specs.Called.{OnTarget, sizeAt};
 ghost use Rattle.bare_lines.specs.Numbers.{num, idOf, floatOf};
-ghost use Rattle.replay.specs.Looks.{lookOf, LooksPart, targetLen};
+ghost use Rattle.bare_lines.specs.Told.{partLine};
+ghost use Rattle.answer_text.specs.Added.{Adds};
+ghost use Rattle.replay.specs.Looks.{lookOf, LooksPart, targetLen, asks};
 ghost use Rattle.replay.specs.Ready.{Ready, Next, untargeted};
-ghost use Rattle.replay.specs.Played.{Pixels, Plays};
+ghost use Rattle.replay.specs.Played.{pixels, Writes};
 use crate::player::Player;
+use answer_text::Waiting;
 use bare_lines::numbers;
 use bare_lines::pixels;
 use look::Look;
@@ -18,7 +23,7 @@ use script::kind;
 use windows::Session;
 
 // The look that a line names.
-fn look_of(k: u8, ns: &[u32; 4200]) -> Look
+fn look_of(k: u8, ns: &[u32; 384006]) -> Look
     ensures { λ r. ⌜ r ≡ lookOf k (now (ns .entry)) ⌝ }
 {
     let x = numbers::float(ns[1], ns[2]);
@@ -49,7 +54,7 @@ fn size_at(k: u8) -> usize
 }
 
 // How many pixels a target has: what was said, or what its size asks for.
-fn target_len(p: Player, k: u8, ns: &[u32; 4200]) -> u64
+fn target_len(p: Player, k: u8, ns: &[u32; 384006]) -> u64
     ensures { λ r. ⌜ r ≡ targetLen p k (now (ns .entry)) ⌝ }
 {
     if p.has_target {
@@ -63,7 +68,7 @@ fn target_len(p: Player, k: u8, ns: &[u32; 4200]) -> u64
 fn look_at(
     s: Session,
     k: u8,
-    ns: &[u32; 4200],
+    ns: &[u32; 384006],
     store: &[u32],
     lent: usize,
     target: &mut [u32],
@@ -81,45 +86,53 @@ fn look_at(
 }
 
 // A target before a look: made apart, as the other arrays are.
-fn ones() -> [u32; 65536] {
+fn ones() -> [u32; 65536]
+    ensures { λ r. ⌜ r ≡ replicate 65536 4294967295 ⌝ }
+{
     [4294967295u32; 65536]
 }
 
-fn write_target(answer: u32, target: &[u32], len: usize, out: &mut [u8; 65536], at: usize) -> usize
-    requires { ⌜ (len ≤ length (now target)) × (at ≤ 65536) ⌝ }
-    ensures { λ r. ⌜ r ≤ 65536 ⌝ }
+fn write_target(
+    answer: u32,
+    target: &[u32],
+    len: usize,
+    out: &mut [u8; 65536],
+    w: Waiting,
+) -> Waiting
+    requires { ⌜ (len ≤ length (now target)) × (w .at ≤ 65536) ⌝ }
+    ensures { λ r. ⌜ Adds (partLine answer (take len (now (target .entry)))) w (now (out .entry)) r (now (out .exit)) ⌝ }
 {
-    pixels::write_part(answer, &target[0..len], out, at)
+    pixels::write_part(answer, &target[0..len], out, w)
 }
 
 fn looked(
     mut p: Player,
     k: u8,
-    ns: &[u32; 4200],
-    store: &[u32; 1048576],
+    ns: &[u32; 384006],
+    store: &[u32; 6144000],
     len: usize,
     out: &mut [u8; 65536],
 ) -> Player
     requires { ⌜ Ready p × (len ≤ 65536) ⌝ }
-    ensures { λ r. ⌜ Next (untargeted p) (p .session) r ⌝ }
+    ensures { λ r. ⌜ Next (partLine (asks (group (p .session)) k (now (ns .entry)) (take (p .lent) (now (store .entry))) (replicate len 4294967295) .answer) (asks (group (p .session)) k (now (ns .entry)) (take (p .lent) (now (store .entry))) (replicate len 4294967295) .target)) (untargeted p) (p .session) (now (out .entry)) r (now (out .exit)) ⌝ }
 {
     let mut target = ones();
     let s = p.session;
     let answer = look_at(s, k, ns, store, p.lent, &mut target, len);
     p.has_target = false;
-    p.at = write_target(answer, &target, len, out, p.at);
+    p.waiting = write_target(answer, &target, len, out, p.waiting);
     p
 }
 
 pub fn look(
     p: Player,
     line: Line,
-    ns: &[u32; 4200],
-    store: &[u32; 1048576],
+    ns: &[u32; 384006],
+    store: &[u32; 6144000],
     out: &mut [u8; 65536],
 ) -> Player
     requires { ⌜ Ready p × OnTarget (line .kind) ⌝ }
-    ensures { λ r. ⌜ ((a : Pixels) → Plays line (now (ns .entry)) p a r a) ⌝ }
+    ensures { λ r. ⌜ ((screen : List ℕ) → Writes line (now (ns .entry)) p (pixels (now (store .entry)) screen) (now (out .entry)) r (pixels (now (store .entry)) screen) (now (out .exit))) ⌝ }
 {
     let k = line.kind;
     let len = target_len(p, k, ns);

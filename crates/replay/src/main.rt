@@ -12,33 +12,36 @@ mod player;
 mod share;
 mod sheets;
 mod show;
+mod stack;
 mod stale;
 mod state;
 mod times;
 mod waiting;
+mod who;
 
 // The arrays are made apart from where they are used: a function with no clause that does nothing else.
-fn store_pixels() -> [u32; 1048576] {
-    [0u32; 1048576]
+fn store_pixels() -> [u32; 6144000] {
+    [0u32; 6144000]
 }
 
-fn screen_pixels() -> [u32; 384000] {
-    [0u32; 384000]
+fn screen_pixels() -> [u32; 3072000] {
+    [0u32; 3072000]
 }
 
 fn list_numbers() -> [u32; 7812] {
     [0u32; 7812]
 }
 
-fn line_numbers() -> [u32; 4200] {
-    [0u32; 4200]
+fn line_numbers() -> [u32; 384006] {
+    [0u32; 384006]
 }
 
 fn block() -> [u8; 65536] {
     [0u8; 65536]
 }
 
-fn main() {
+// Apart from `main`, whose frame has to be small: it asks how large the stack may be before the arrays lie there.
+fn run() {
     let mut store = store_pixels();
     let mut screen = screen_pixels();
     let mut list = list_numbers();
@@ -57,4 +60,19 @@ fn main() {
         &mut input,
         &mut out,
     );
+}
+
+// Where nothing is said of the stack it is taken to be large enough. `run` is called at two places, so that the compiler
+// leaves it a function: with one call it is made a part of `main`, whose frame then is as large as the arrays.
+fn main() {
+    let bytes = stack::limit();
+    if bytes == 0 {
+        run();
+        return;
+    }
+    if bytes < stack::NEEDED {
+        stack::refuse();
+        return;
+    }
+    run();
 }

@@ -4,14 +4,20 @@ ghost use Rattle.windows.specs.View.{Given};
 ghost use Prim.Native.Nat.{_≤_};
 ghost use Rattle.script.specs.Kind as Kind;
 ghost use Rattle.bare_lines.specs.Numbers.{Sound};
-ghost use Rattle.replay.specs.Ready.{Ready, Next, counted};
-ghost use Rattle.replay.specs.Played.{pixels, Plays};
+ghost use mathlib.Core.List.{[]};
+ghost use Rattle.answer_text.specs.Text as Text;
+ghost use Rattle.answer_text.specs.Added.{handedOver};
+ghost use Rattle.replay.specs.Ready.{Ready, Next, counted, waitingFor};
+ghost use Rattle.replay.specs.Told.{wroteLine};
+ghost use Rattle.replay.specs.Played.{pixels, Writes};
+ghost use Rattle.replay.specs.Run.{Fresh};
 use crate::calls;
 use crate::hits;
 use crate::lend;
 use crate::looks;
 use crate::sheets;
 use crate::show;
+use answer_text::Waiting;
 use bare_lines::geometry;
 use bare_lines::pixels;
 use geom::inner::answers::OK;
@@ -23,7 +29,7 @@ use windows::Written;
 
 // `lent` pixels of the store are lent. The next redraw or portion is lent `screen` pixels where `is_set`, the next visible list, hits or
 // reader of a sheet `list` numbers where `has_list`, the next look `target` pixels where `has_target`, and the next sheet `sheet` bytes where
-// `has_sheet`. `at` bytes of the output wait to be written; `lines` lines have been read.
+// `has_sheet`. `waiting` says what of the output waits to be written; `lines` lines have been read.
 pub struct Player {
     pub session: Session,
     pub lent: usize,
@@ -35,14 +41,14 @@ pub struct Player {
     pub target: usize,
     pub has_sheet: bool,
     pub sheet: usize,
-    pub at: usize,
+    pub waiting: Waiting,
     pub lines: u64,
 }
 
 impl Player {
     // Before the first start the session is that of a refused one.
     pub fn fresh() -> Player
-        ensures { λ r. ⌜ Ready r ⌝ }
+        ensures { λ r. ⌜ Fresh r ⌝ }
     {
         let begun = Session::start(0);
         let session = begun.session;
@@ -57,7 +63,7 @@ impl Player {
             target: 0,
             has_sheet: false,
             sheet: 0,
-            at: 0,
+            waiting: Waiting::none(),
             lines: 0,
         }
     }
@@ -78,34 +84,34 @@ impl Player {
     // Nothing waits any more.
     pub fn flushed(mut self, out: &[u8; 65536]) -> Player
         requires { ⌜ Ready self ⌝ }
-        ensures { λ r. ⌜ Ready r ⌝ }
+        ensures { λ r. ⌜ Ready r × (r ≡ waitingFor (handedOver (self .waiting)) self) ⌝ }
     {
-        self.at = answer_text::flush(out, self.at);
+        self.waiting = answer_text::flush(out, self.waiting);
         self
     }
 
     // A call handed back a session and an answer.
     pub fn answered(mut self, done: Done, out: &mut [u8; 65536]) -> Player
         requires { ⌜ Ready self × Given (done .session) ⌝ }
-        ensures { λ r. ⌜ Next self (done .session) r ⌝ }
+        ensures { λ r. ⌜ Next (Text.line (done .answer) []) self (done .session) (now (out .entry)) r (now (out .exit)) ⌝ }
     {
         let session = done.session;
         self.session = session;
-        self.at = answer_text::answer(out, self.at, done.answer);
+        self.waiting = answer_text::answer(out, self.waiting, done.answer);
         self
     }
 
     // A call that is lent the store handed back a session and an answer; of a fill or a blit, the pixels altered are written too.
     pub fn wrote(mut self, written: Written, counts: bool, out: &mut [u8; 65536]) -> Player
         requires { ⌜ Ready self × Given (written .session) ⌝ }
-        ensures { λ r. ⌜ Next self (written .session) r ⌝ }
+        ensures { λ r. ⌜ Next (wroteLine counts (written .answer) (written .altered)) self (written .session) (now (out .entry)) r (now (out .exit)) ⌝ }
     {
         let session = written.session;
         self.session = session;
         if counts && written.answer == OK {
-            self.at = answer_text::counted(out, self.at, written.altered);
+            self.waiting = answer_text::counted(out, self.waiting, written.altered);
         } else {
-            self.at = answer_text::answer(out, self.at, written.answer);
+            self.waiting = answer_text::answer(out, self.waiting, written.answer);
         }
         self
     }
@@ -113,26 +119,26 @@ impl Player {
     // A line of 0.
     pub fn accepted(mut self, out: &mut [u8; 65536]) -> Player
         requires { ⌜ Ready self ⌝ }
-        ensures { λ r. ⌜ Next self (self .session) r ⌝ }
+        ensures { λ r. ⌜ Next (Text.line 0 []) self (self .session) (now (out .entry)) r (now (out .exit)) ⌝ }
     {
-        self.at = answer_text::answer(out, self.at, 0);
+        self.waiting = answer_text::answer(out, self.waiting, 0);
         self
     }
 
     // The program's own limits do not allow the line.
     pub fn refused(mut self, out: &mut [u8; 65536]) -> Player
         requires { ⌜ Ready self ⌝ }
-        ensures { λ r. ⌜ Next self (self .session) r ⌝ }
+        ensures { λ r. ⌜ Next Text.beyond self (self .session) (now (out .entry)) r (now (out .exit)) ⌝ }
     {
-        self.at = answer_text::refused(out, self.at);
+        self.waiting = answer_text::refused(out, self.waiting);
         self
     }
 
     pub fn malformed(mut self, out: &mut [u8; 65536]) -> Player
         requires { ⌜ Ready self ⌝ }
-        ensures { λ r. ⌜ Next self (self .session) r ⌝ }
+        ensures { λ r. ⌜ Next (Text.malformed (self .lines)) self (self .session) (now (out .entry)) r (now (out .exit)) ⌝ }
     {
-        self.at = answer_text::malformed(out, self.at, self.lines);
+        self.waiting = answer_text::malformed(out, self.waiting, self.lines);
         self
     }
 
@@ -140,26 +146,26 @@ impl Player {
     fn shown(
         mut self,
         line: Line,
-        ns: &mut [u32; 4200],
+        ns: &mut [u32; 384006],
         name: &[u8; 64],
-        store: &[u32; 1048576],
-        screen: &[u32; 384000],
+        store: &[u32; 6144000],
+        screen: &[u32; 3072000],
         out: &mut [u8; 65536],
     ) -> Player
         requires { ⌜ Ready self × Sound line (now ns) × (Kind.screen ≤ line .kind) × (line .kind ≤ Kind.region) ⌝ }
-        ensures { λ r. ⌜ Next self (self .session) r ⌝ }
+        ensures { λ r. ⌜ Writes line (now (ns .entry)) self (pixels (now (store .entry)) (now (screen .entry))) (now (out .entry)) r (pixels (now (store .entry)) (now (screen .entry))) (now (out .exit)) ⌝ }
     {
         let k = line.kind;
-        let at = self.at;
+        let w = self.waiting;
         if k == kind::PIXELS {
             let s = self.session;
-            self.at = show::pixels(s, ns, store, self.lent, out, at);
+            self.waiting = show::pixels(s, ns, store, self.lent, out, w);
         } else if k <= kind::PICTURE {
-            self.at = show::screen(line, ns, name, screen, out, at);
+            self.waiting = show::screen(line, ns, name, screen, out, w);
         } else if k <= kind::WITHIN {
-            self.at = geometry::rect_line(k, ns, out, at);
+            self.waiting = geometry::rect_line(k, ns, out, w);
         } else {
-            self.at = pixels::pixel_line(line, ns, out, at);
+            self.waiting = pixels::pixel_line(line, ns, out, w);
         }
         self
     }
@@ -168,15 +174,15 @@ impl Player {
     pub fn line(
         self,
         line: Line,
-        ns: &mut [u32; 4200],
+        ns: &mut [u32; 384006],
         name: &[u8; 64],
-        store: &mut [u32; 1048576],
-        screen: &mut [u32; 384000],
+        store: &mut [u32; 6144000],
+        screen: &mut [u32; 3072000],
         list: &mut [u32; 7812],
         out: &mut [u8; 65536],
     ) -> Player
         requires { ⌜ Ready self × Sound line (now ns) ⌝ }
-        ensures { λ r. ⌜ Plays line (now (ns .entry)) self (pixels (now (store .entry)) (now (screen .entry))) r (pixels (now (store .exit)) (now (screen .exit))) ⌝ }
+        ensures { λ r. ⌜ Writes line (now (ns .entry)) self (pixels (now (store .entry)) (now (screen .entry))) (now (out .entry)) r (pixels (now (store .exit)) (now (screen .exit))) (now (out .exit)) ⌝ }
     {
         let k = line.kind;
         match k {

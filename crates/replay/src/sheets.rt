@@ -5,10 +5,14 @@ ghost use lib.ListN.{length, take};
 ghost use Rattle.script.specs.Kind as Kind;
 ghost use Rattle.windows.specs.View.{group, Given};
 ghost use Rattle.bare_lines.specs.Numbers.{num, idOf, Sound};
-ghost use Rattle.replay.specs.Ready.{Ready, Next, unlisted, unsheeted};
-ghost use Rattle.replay.specs.inner.Sheets.{ReadsPart, sheetLen, PrintsPart};
+ghost use Rattle.answer_text.specs.Added.{Adds};
+ghost use Rattle.replay.specs.Told.{sheetLine};
+ghost use Rattle.replay.specs.Ready.{Ready};
+ghost use Rattle.replay.specs.Played.{Pixels, sheetLen, Writes, PlaysAt};
+ghost use Rattle.replay.specs.inner.Sheets.{ReadsPart, PrintsPart};
 use crate::lend;
 use crate::player::Player;
+use answer_text::Waiting;
 use bare_lines::numbers;
 use geom::Listing;
 use geom::inner::answers::OK;
@@ -38,7 +42,7 @@ fn read(bytes: &[u8], n: usize, list: &mut [u32], len: usize) -> Listing
 }
 
 // The bytes of the line are a sheet's.
-fn read_numbers(ns: &[u32; 4200], n: usize, list: &mut [u32], len: usize) -> Listing
+fn read_numbers(ns: &[u32; 384006], n: usize, list: &mut [u32], len: usize) -> Listing
     requires { ⌜ (n ≤ 4096) × ((i : ℕ) → i < n → num (now ns) i ≤ 255) × (len ≤ length (now list)) ⌝ }
     ensures { λ r. ⌜ ReadsPart (take n (now (ns .entry))) len (now (list .entry)) r (now (list .exit)) ⌝ }
 {
@@ -49,17 +53,17 @@ fn read_numbers(ns: &[u32; 4200], n: usize, list: &mut [u32], len: usize) -> Lis
 pub fn read_sheet(
     mut p: Player,
     line: Line,
-    ns: &[u32; 4200],
+    ns: &[u32; 384006],
     list: &mut [u32; 7812],
     out: &mut [u8; 65536],
 ) -> Player
     requires { ⌜ Ready p × Sound line (now ns) × (line .kind ≡ Kind.read-sheet) ⌝ }
-    ensures { λ r. ⌜ Next (unlisted p) (p .session) r ⌝ }
+    ensures { λ r. ⌜ ((a : Pixels) → Writes line (now (ns .entry)) p a (now (out .entry)) r a (now (out .exit))) ⌝ }
 {
     let len = lend::list_len(p, 7812);
     let found = read_numbers(ns, line.count, list, len);
     p.has_list = false;
-    p.at = lend::write_rects(found.answer, found.count, list, out, p.at);
+    p.waiting = lend::write_rects(found.answer, found.count, list, out, p.waiting);
     p
 }
 
@@ -75,7 +79,7 @@ fn sheet_len(p: Player) -> usize
 }
 
 // The call is lent the front of the buffer.
-fn printed(s: Session, ns: &[u32; 4200], bytes: &mut [u8], len: usize) -> Listing
+fn printed(s: Session, ns: &[u32; 384006], bytes: &mut [u8], len: usize) -> Listing
     requires { ⌜ Given s × (len ≤ length (now bytes)) ⌝ }
     ensures { λ r. ⌜ PrintsPart (group s) (idOf (now (ns .entry))) len (now (bytes .entry)) r (now (bytes .exit)) ⌝ }
 {
@@ -87,29 +91,29 @@ fn buffer() -> [u8; 2048] {
     [0u8; 2048]
 }
 
-fn write_sheet(found: Listing, bytes: &[u8], out: &mut [u8; 65536], at: usize) -> usize
-    requires { ⌜ (found .count ≤ length (now bytes)) × (at ≤ 65536) ⌝ }
-    ensures { λ r. ⌜ r ≤ 65536 ⌝ }
+fn write_sheet(found: Listing, bytes: &[u8], out: &mut [u8; 65536], w: Waiting) -> Waiting
+    requires { ⌜ (found .count ≤ length (now bytes)) × (w .at ≤ 65536) ⌝ }
+    ensures { λ r. ⌜ Adds (sheetLine (found .answer) (found .count) (now (bytes .entry))) w (now (out .entry)) r (now (out .exit)) ⌝ }
 {
     if found.answer == OK {
-        let to = answer_text::number(out, at, 0);
+        let to = answer_text::number(out, w, 0);
         let n = found.count;
         let then = answer_text::count(out, to, n);
         let last = answer_text::bytes(out, then, &bytes[0..n]);
         return answer_text::end(out, last);
     }
-    answer_text::answer(out, at, found.answer)
+    answer_text::answer(out, w, found.answer)
 }
 
-pub fn sheet(mut p: Player, ns: &[u32; 4200], out: &mut [u8; 65536]) -> Player
+pub fn sheet(mut p: Player, ns: &[u32; 384006], out: &mut [u8; 65536]) -> Player
     requires { ⌜ Ready p ⌝ }
-    ensures { λ r. ⌜ Next (unsheeted p) (p .session) r ⌝ }
+    ensures { λ r. ⌜ PlaysAt Kind.sheet (now (ns .entry)) p (now (out .entry)) r (now (out .exit)) ⌝ }
 {
     let mut bytes = buffer();
     let s = p.session;
     let len = sheet_len(p);
     let found = printed(s, ns, &mut bytes, len);
     p.has_sheet = false;
-    p.at = write_sheet(found, &bytes, out, p.at);
+    p.waiting = write_sheet(found, &bytes, out, p.waiting);
     p
 }

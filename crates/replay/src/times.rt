@@ -4,8 +4,11 @@ ghost use Prim.Native.Nat.{_≤_};
 ghost use lib.ListN.{length, take};
 ghost use Rattle.busiest.specs.Busiest.{busiest};
 ghost use Rattle.bare_lines.specs.Numbers.{Sound};
+ghost use Rattle.answer_text.specs.Added.{Adds};
+ghost use Rattle.replay.specs.Told.{busiestLine};
 ghost use Rattle.replay.specs.Ready.{Ready, Next};
 use crate::player::Player;
+use answer_text::Waiting;
 use busiest::Second;
 use geom::inner::answers::OK;
 use script::Line;
@@ -18,24 +21,24 @@ fn busiest_second(ns: &[u32], count: usize) -> Second
     busiest::busiest(&ns[..count])
 }
 
-fn write_second(second: Second, out: &mut [u8; 65536], at: usize) -> usize
-    requires { ⌜ at ≤ 65536 ⌝ }
-    ensures { λ r. ⌜ r ≤ 65536 ⌝ }
+fn write_second(second: Second, out: &mut [u8; 65536], w: Waiting) -> Waiting
+    requires { ⌜ w .at ≤ 65536 ⌝ }
+    ensures { λ r. ⌜ Adds (busiestLine second) w (now (out .entry)) r (now (out .exit)) ⌝ }
 {
     if second.answer == OK {
-        let to = answer_text::number(out, at, 0);
+        let to = answer_text::number(out, w, 0);
         let then = answer_text::count(out, to, second.count);
         let last = answer_text::count(out, then, second.place);
         return answer_text::end(out, last);
     }
-    answer_text::answer(out, at, second.answer)
+    answer_text::answer(out, w, second.answer)
 }
 
-pub fn busiest(mut p: Player, line: Line, ns: &[u32; 4200], out: &mut [u8; 65536]) -> Player
+pub fn busiest(mut p: Player, line: Line, ns: &[u32; 384006], out: &mut [u8; 65536]) -> Player
     requires { ⌜ Ready p × Sound line (now ns) ⌝ }
-    ensures { λ r. ⌜ Next p (p .session) r ⌝ }
+    ensures { λ r. ⌜ Next (busiestLine (busiest (take (line .count) (now (ns .entry))))) p (p .session) (now (out .entry)) r (now (out .exit)) ⌝ }
 {
     let second = busiest_second(ns, line.count);
-    p.at = write_second(second, out, p.at);
+    p.waiting = write_second(second, out, p.waiting);
     p
 }

@@ -1,15 +1,27 @@
 -- The last arm of a match: what is known of a kind that no other arm has.
 use Prim.Native.Nat.{ℕ, zero, suc, _+_, _-_, _≤_, _<_}
-use mathlib.Core.Path.{_≡_, refl}
+use mathlib.Core.Path.{_≡_, refl, sym, ap, _∙_}
 use mathlib.Core.Bool.{Bool, true, false, _&&_, _||_}
 use mathlib.Core.List.{List, [], _∷_}
+use mathlib.Core.Option.{Option}
 use mathlib.Core.Logic.{_⊎_, inl, inr}
 use native.Mathlib.Omega.{arith}
 use lib.Dec.{leb, eqb}
+use lib.ListN.{take}
 use borrow.Author.Tests.{eqb-true, eqb-false, ne-eqb, leb-true, lt-leb}
 use Rattle.geom.proofs.basics.Tests.{fst, snd, clash}
 use Rattle.script.specs.Kind as Kind
-use Rattle.replay.specs.Called.{windowCalls, kinds, isOne, within, routes, isPlain, OnScreen, OnTarget, isLent}
+use Rattle.rules.specs.Calls.{Call, does}
+use Rattle.windows.specs.declared.Session.{Session}
+use Rattle.windows.specs.declared.Done.{Done}
+use Rattle.windows.specs.View.{group, Meets}
+use Rattle.answer_text.specs.Text.{Piece, line}
+use Rattle.answer_text.proofs.laws.Added.{same}
+use Rattle.replay.specs.declared.player.Player.{Player}
+use Rattle.replay.specs.Ready.{Ready, Next}
+use Rattle.replay.specs.Played.{Pixels, pixels, Makes, Stores, Writes, stores}
+use Rattle.script.specs.declared.shape.Line.{Line}
+use Rattle.replay.specs.Called.{Picked, storeCall, windowCalls, kinds, isOne, within, routes, isPlain, OnScreen, OnTarget, isLent}
 
 -- B, and k is none of the numbers: what a match's last arm knows
 abbrev pub NoneOf : ℕ → Type 0 → List ℕ → Type 0
@@ -94,7 +106,7 @@ not-lent k o v q d t w s m =
 -- the kinds that a function of their own plays, lent no pixels and no list
 abbrev pub own : List ℕ
 own =
-    Kind.passed ∷ Kind.malformed ∷ Kind.start ∷ Kind.create ∷ Kind.pop ∷ Kind.focus ∷ Kind.lend ∷ Kind.lend-screen ∷ Kind.lend-list ∷ Kind.busiest ∷ Kind.share ∷ Kind.lend-target ∷ Kind.display-at ∷ Kind.sheet ∷ Kind.lend-sheet ∷ Kind.stale ∷ Kind.waiting ∷ Kind.window ∷ Kind.session ∷ []
+    Kind.passed ∷ Kind.malformed ∷ Kind.start ∷ Kind.create ∷ Kind.pop ∷ Kind.focus ∷ Kind.lend ∷ Kind.lend-screen ∷ Kind.lend-list ∷ Kind.busiest ∷ Kind.share ∷ Kind.lend-target ∷ Kind.display-at ∷ Kind.sheet ∷ Kind.lend-sheet ∷ Kind.stale ∷ Kind.waiting ∷ Kind.window ∷ Kind.session ∷ Kind.who ∷ []
 
 -- the test passes below n
 abbrev below : (ℕ → Bool) → ℕ → Bool
@@ -115,3 +127,35 @@ plain-left k B h l n = go (isPlain k) refl (below-at (λ j. isPlain j || (isOne 
     go : (t : Bool) → isPlain k ≡ t → t || (isOne k own || isLent k) ≡ true → isPlain k ≡ true
     go true e p = e
     go false e p = clash (rw (not-one k B own n, l) at p) refl
+
+-- What a line leaves ---------------------------------------------------------------------------------------------------
+
+-- a line that is passed over leaves the player as it is
+pub stays : (p : Player) (o : List ℕ) → Ready p → Next [] p (p .session) o p o
+stays p o h =
+    record { ready = h; adds = same (p .waiting) o (h .at) (h .sent); session = refl; lent = refl; set = refl; screen = refl; has-list = refl; list = refl; has-target = refl; target = refl; has-sheet = refl; sheet = refl; lines = refl }
+
+-- the session that r has is the next
+own-next : {ps : List Piece} {p : Player} {s : Session} {o : List ℕ} {r : Player} {q : List ℕ} → Next ps p s o r q → Next ps p (r .session) o r q
+own-next n = record { ready = n .ready; adds = n .adds; session = refl; lent = n .lent; set = n .set; screen = n .screen; has-list = n .has-list; list = n .list; has-target = n .has-target; target = n .target; has-sheet = n .has-sheet; sheet = n .sheet; lines = n .lines }
+
+-- the plain call that the kind picks was made, and its answer is the line's
+pub plain-made : {k : Option Call} {p r : Player} {d : Done} {o q : List ℕ} → Picked k (λ c. Meets c (p .session) d)
+    → Next (line (d .answer) []) p (d .session) o r q
+    → Picked k (λ c. (line (d .answer) [] ≡ line (does (group (p .session)) c .answer) []) × Makes c (line (d .answer) []) p o r q)
+plain-made m n =
+    let met = m .so in
+    record {
+      call = m .call;
+      is = m .is;
+      so = (
+        ap (λ (a : ℕ). line a []) (met .answer),
+        record { next = own-next n; after = ap group (n .session) ∙ met .after; refused = λ f. n .session ∙ met .same (λ e. f (sym (met .answer) ∙ e)) },
+      );
+    }
+
+-- the call that is lent the store was made
+pub stored-line : {l : Line} {ns : List ℕ} {p : Player} {a : Pixels} {o : List ℕ} {r : Player} {after q : List ℕ}
+    → Picked (storeCall (l .kind) (l .count) ns (take (p .lent) (a .store))) (λ c. Stores (l .kind) c p (a .store) o r after q)
+    → Writes l ns p a o r (pixels after (a .screen)) q
+stored-line m = record { text = _; plays = stores (record { call = m .call; is = m .is; so = (refl, m .so) }) refl }

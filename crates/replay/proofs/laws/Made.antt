@@ -1,7 +1,8 @@
 -- What a call's own contract says of the session is what the line promises of the player.
 use Prim.Native.Nat.{ℕ, _+_, _*_, _≤_}
 use mathlib.Core.Path.{_≡_, refl, sym, ap, subst, _∙_}
-use mathlib.Core.List.{List, _++_}
+use mathlib.Core.Bool.{Bool, true, false}
+use mathlib.Core.List.{List, [], _++_}
 use mathlib.Core.Option.{Option}
 use native.Mathlib.Omega.{arith}
 use lib.ListN.{length, take, drop}
@@ -9,53 +10,92 @@ use lib.Seq.{length-take-le}
 use Rattle.look.specs.declared.Look.{Look}
 use Rattle.geom.specs.declared.Listing.{Listing}
 use Rattle.sheet.specs.Reader.{Reads}
-use Rattle.script.specs.declared.shape.Line.{Line}
 use Rattle.rules.specs.Group.{Group, sessionC}
 use Rattle.rules.specs.Look.{look}
-use Rattle.rules.specs.Calls.{Call}
+use Rattle.rules.specs.Calls.{Call, does}
 use Rattle.windows.specs.declared.Session.{Session}
 use Rattle.windows.specs.declared.Done.{Done}
-use Rattle.geom.specs.declared.Listing.{Listing}
-use Rattle.windows.specs.View.{group, Meets, MeetsStore, MeetsScreen, Starts, Lists, Hits, Looks, Prints}
+use Rattle.windows.specs.declared.Written.{Written}
+use Rattle.windows.specs.View.{group, done, Meets, MeetsStore, MeetsScreen, Starts, Lists, Hits, Looks, Prints}
+use Rattle.answer_text.specs.Text as Text
+use Rattle.answer_text.specs.Text.{Piece}
 use Rattle.replay.specs.declared.player.Player.{Player}
-use Rattle.replay.specs.Ready.{Ready, Next, lendStore}
-use Rattle.replay.specs.Played.{Pixels, Makes, Begins, MeetsPart, DrawsPart, ListsPart, HitsPart, Plays}
-use Rattle.replay.specs.Called.{Picked, sizeAt}
+use Rattle.replay.specs.Ready.{Next, lendStore}
+use Rattle.replay.specs.Told.{wroteLine}
+use Rattle.replay.specs.Played.{Makes, Answers, Begins, WritesPart, DrawsPart, ListsPart, HitsPart, Stores}
+use Rattle.replay.specs.Called.{Picked, sizeAt, isCounted}
 use Rattle.bare_lines.specs.Numbers.{num, idOf}
 use Rattle.replay.specs.Looks.{lookOf, LooksPart}
 use Rattle.replay.specs.inner.Sheets.{ReadsPart, PrintsPart}
 use Rattle.replay.proofs.laws.Sizes.{counted, hits-room, read-room, print-room}
 use Rattle.replay.proofs.laws.Picked.{picked-so}
-use Rattle.replay.specs.Played.{unread, beyond, starts, creates, plain, stores, pops, redraws, lists, asks-hits, asks-focus, lends, lends-screen, lends-list, asks-busiest, asks-share, asks-display, asks-look, lends-target, reads-sheet, asks-sheet, lends-sheet, asks-stale, asks-waiting, asks-window, asks-session, shows}
 
 -- the session that r has is the next
-own : {p : Player} {s : Session} {r : Player} → Next p s r → Next p (r .session) r
-own n = record { ready = n .ready; session = refl; lent = n .lent; set = n .set; screen = n .screen; has-list = n .has-list; list = n .list; has-target = n .has-target; target = n .target; has-sheet = n .has-sheet; sheet = n .sheet; lines = n .lines }
+own : {ps : List Piece} {p r : Player} {s : Session} {o q : List ℕ} → Next ps p s o r q → Next ps p (r .session) o r q
+own n = record { ready = n .ready; adds = n .adds; session = refl; lent = n .lent; set = n .set; screen = n .screen; has-list = n .has-list; list = n .list; has-target = n .has-target; target = n .target; has-sheet = n .has-sheet; sheet = n .sheet; lines = n .lines }
 
-pub makes : (k : Call) (p r : Player) (d : Done) → Meets k (p .session) d → Next p (d .session) r → Makes k p r
+-- the same text in other words
+pub told : {ps qs : List Piece} {p r : Player} {s : Session} {o q : List ℕ} → ps ≡ qs → Next ps p s o r q → Next qs p s o r q
+told {p = p} {r = r} {s = s} {o = o} {q = q} e n = subst (λ (ts : List Piece). Next ts p s o r q) e n
+
+pub makes : (k : Call) (p r : Player) (d : Done) {ps : List Piece} {o q : List ℕ} → Meets k (p .session) d → Next ps p (d .session) o r q
+    → Makes k ps p o r q
 makes k p r d m n =
     record { next = own n; after = ap group (n .session) ∙ m .after; refused = λ f. n .session ∙ m .same (λ e. f (sym (m .answer) ∙ e)) }
+
+-- a call that hands back an answer alone
+pub answers : (k : Call) (p r : Player) (d : Done) {o q : List ℕ} → Meets k (p .session) d → Next (Text.line (d .answer) []) p (d .session) o r q
+    → Answers k p o r q
+answers k p r d m n = makes k p r d m (told (ap (λ (a : ℕ). Text.line a []) (m .answer)) n)
 
 c-of : (c : ℕ) (d : Done) → Starts c d → d .session .shared .c ≡ sessionC c
 unfolding group
 c-of c d h = ap (λ (g : Group). g .c) (h .after)
 
-pub begins : (c : ℕ) (p r : Player) (d : Done) → Starts c d → Next (lendStore (16 * d .session .shared .c) p) (d .session) r → Begins c p r
-begins c p r d h n =
+pub begins : (c : ℕ) (p r : Player) (d : Done) {o q : List ℕ} → Starts c d
+    → Next (Text.line (d .answer) []) (lendStore (16 * d .session .shared .c) p) (d .session) o r q → Begins c p o r q
+begins c p r d h m =
+    let n = told (ap (λ (a : ℕ). Text.line a []) (h .answer)) m in
     record {
-      next = record { ready = n .ready; session = refl; lent = n .lent ∙ ap (λ (k : ℕ). 16 * k) (c-of c d h); set = n .set; screen = n .screen; has-list = n .has-list; list = n .list; has-target = n .has-target; target = n .target; has-sheet = n .has-sheet; sheet = n .sheet; lines = n .lines };
+      next = record { ready = n .ready; adds = n .adds; session = refl; lent = n .lent ∙ ap (λ (k : ℕ). 16 * k) (c-of c d h); set = n .set; screen = n .screen; has-list = n .has-list; list = n .list; has-target = n .has-target; target = n .target; has-sheet = n .has-sheet; sheet = n .sheet; lines = n .lines };
       after = ap group (n .session) ∙ h .after;
     }
 
 -- Parts ---------------------------------------------------------------------------------------------------------------
 
+-- what a call says that is lent the store, and also counts the pixels that it alters, where `counts`
+abbrev pub Counts : Bool → Session → Written → List ℕ → Call → Type 0
+Counts counts s r last c = MeetsStore c s (done (r .session) (r .answer)) last × (counts ≡ true → r .altered ≡ does (group s) c .altered)
+
 -- a call that is lent the front of the store writes that part alone
-pub store-part : (k : List ℕ → Option Call) (n m : ℕ) (store last : List ℕ) (s : Session) (r : Done) → n ≡ m
-    → Picked (k (take m (drop 0 store))) (λ c. MeetsStore c s r last)
-    → Picked (k (take n store)) (λ c. MeetsPart c n store s r (take 0 store ++ (last ++ drop m (drop 0 store))))
-store-part k n m store last s r e =
-    subst (λ (m : ℕ). Picked (k (take m (drop 0 store))) (λ c. MeetsStore c s r last) → Picked (k (take n store)) (λ c. MeetsPart c n store s r (take 0 store ++ (last ++ drop m (drop 0 store))))) e
-    (picked-so (λ c h. record { meets = h .meets; stored = ap (λ (l : List ℕ). l ++ drop n store) (h .stored) }))
+pub store-part : (counts : Bool) (k : List ℕ → Option Call) (n m : ℕ) (store last : List ℕ) (s : Session) (r : Written) → n ≡ m
+    → Picked (k (take m (drop 0 store))) (Counts counts s r last)
+    → Picked (k (take n store)) (λ c. WritesPart counts c n store s r (take 0 store ++ (last ++ drop m (drop 0 store))))
+store-part counts k n m store last s r e =
+    subst (λ (m : ℕ). Picked (k (take m (drop 0 store))) (Counts counts s r last) → Picked (k (take n store)) (λ c. WritesPart counts c n store s r (take 0 store ++ (last ++ drop m (drop 0 store))))) e
+    (picked-so (λ c h. record {
+      part = record { meets = h .0 .meets; stored = ap (λ (l : List ℕ). l ++ drop n store) (h .0 .stored) };
+      altered = h .1;
+    }))
+
+-- the number of pixels altered counts where it is written
+same-count : (b c : Bool) (a d n m : ℕ) → b ≡ c → a ≡ d → (c ≡ true → n ≡ m) → wroteLine b a n ≡ wroteLine c d m
+same-count b true a d n m e z f = λ i. wroteLine (e i) (z i) (f refl i)
+same-count b false a d n m e z f = λ i. wroteLine (e i) (z i) n
+
+-- the line of a call that was lent the store
+pub stored-so : {k : Option Call} (l : ℕ) (p r : Player) (b : Bool) (w : Written) {store after o q : List ℕ} → b ≡ isCounted l
+    → Picked k (λ c. WritesPart (isCounted l) c (p .lent) store (p .session) w after)
+    → Next (wroteLine b (w .answer) (w .altered)) p (w .session) o r q → Picked k (λ c. Stores l c p store o r after q)
+stored-so l p r b w e h n =
+    picked-so
+    (λ c m. record {
+      makes =
+          makes c p r (done (w .session) (w .answer)) (m .part .meets)
+          (told (same-count b (isCounted l) (w .answer) _ (w .altered) _ e (m .part .meets .answer) (m .altered)) n);
+      stored = m .part .stored;
+    })
+    h
 
 pub screen-part : (k : List ℕ → Call) (n m : ℕ) (screen last : List ℕ) (s : Session) (r : Done) → n ≡ m → MeetsScreen (k (take m (drop 0 screen))) s r last
     → DrawsPart (k (take n screen)) n screen s r (take 0 screen ++ (last ++ drop m (drop 0 screen)))
@@ -116,33 +156,3 @@ print-part g id j n m bytes last r i e l h =
     })) h
 
 -- A line --------------------------------------------------------------------------------------------------------------
-
--- whatever line was played, the player is ready for the next
-pub ready-of : {l : Line} {ns : List ℕ} {p : Player} {a : Pixels} {r : Player} {b : Pixels} → Plays l ns p a r b → Ready r
-ready-of (unread k n e) = n .ready
-ready-of (beyond k n e) = n .ready
-ready-of (starts k h e) = h .next .ready
-ready-of (creates k m e) = m .next .ready
-ready-of (plain m e) = m .so .next .ready
-ready-of (stores h e) = h .so .makes .next .ready
-ready-of (pops k m e) = m .next .ready
-ready-of (redraws k j h e) = h .makes .next .ready
-ready-of (lists k n e) = n .ready
-ready-of (asks-hits k n e) = n .ready
-ready-of (asks-focus k n e) = n .ready
-ready-of (lends k j n e) = n .ready
-ready-of (lends-screen k j n e) = n .ready
-ready-of (lends-list k j n e) = n .ready
-ready-of (asks-busiest k n e) = n .ready
-ready-of (asks-share k n e) = n .ready
-ready-of (asks-display k n e) = n .ready
-ready-of (asks-look k j n e) = n .ready
-ready-of (lends-target k j n e) = n .ready
-ready-of (reads-sheet k n e) = n .ready
-ready-of (asks-sheet k n e) = n .ready
-ready-of (lends-sheet k j n e) = n .ready
-ready-of (asks-stale k n e) = n .ready
-ready-of (asks-waiting k n e) = n .ready
-ready-of (asks-window k n e) = n .ready
-ready-of (asks-session k n e) = n .ready
-ready-of (shows k j n e) = n .ready

@@ -85,14 +85,14 @@ print-room g id l = fits (used g id) (length (encode (region g id))) (length l)
 
 -- A start -------------------------------------------------------------------------------------------------------------
 
-pub begun-c : (c : ℕ) (r : Done) → Starts c r → 16 * sessionC c ≤ 1048576 → 16 * r .session .shared .c ≤ 1048576
+pub begun-c : (c : ℕ) (r : Done) → Starts c r → 16 * sessionC c ≤ 6144000 → 16 * r .session .shared .c ≤ 6144000
 unfolding group
 begun-c c r h l = let e : r .session .shared .c ≡ sessionC c = ap (λ (g : Group). g .c) (h .after) in rw e l
 
-pub low-c : (c : ℕ) → c ≤ 65536 → 16 * sessionC c ≤ 1048576
-low-c c h = on-cond (λ (k : ℕ). 16 * k ≤ 1048576) (allowedC c) c 1 (λ t. omega arith) (λ t. omega arith)
+pub low-c : (c : ℕ) → c ≤ 384000 → 16 * sessionC c ≤ 6144000
+low-c c h = on-cond (λ (k : ℕ). 16 * k ≤ 6144000) (allowedC c) c 1 (λ t. omega arith) (λ t. omega arith)
 
-pub high-c : (c : ℕ) → 1048576 < c → 16 * sessionC c ≤ 1048576
+pub high-c : (c : ℕ) → 1048576 < c → 16 * sessionC c ≤ 6144000
 high-c c h =
-    on-cond (λ (k : ℕ). 16 * k ≤ 1048576) (allowedC c) c 1
+    on-cond (λ (k : ℕ). 16 * k ≤ 6144000) (allowedC c) c 1
     (λ t. let l : c ≤ 1048576 = says-le c 1048576 .fact (snd (leb 1 c) (leb c 1048576) t) in absurd (omega arith)) (λ t. omega arith)

@@ -1,11 +1,12 @@
--- The session's call is the line's, and nothing else of the player changes.
+-- The session's call is the line's, its answer and event are the text, and nothing else of the player changes.
 use Prim.Native.Nat.{ℕ}
-use mathlib.Core.Path.{refl, subst}
+use mathlib.Core.Path.{subst}
 use Rattle.rules.specs.Calls.{Pop}
-use Rattle.windows.specs.View.{done, Meets}
-use Rattle.replay.specs.declared.player.Player.{Player}
+use Rattle.windows.specs.View.{done, MeetsEvent}
 use Rattle.bare_lines.specs.Numbers.{idOf}
-use Rattle.replay.proofs.laws.Made.{makes}
+use Rattle.answer_text.specs.Text.{answered}
+use Rattle.replay.specs.Told.{event}
+use Rattle.replay.proofs.laws.Events.{retold, calls}
 use borrow.Author.Needs.{needs}
 use Rattle.replay.proofs.calls.pop.Statement.{statement}
 use Rattle.replay.proofs.calls.pop.Tie as tie
@@ -16,77 +17,20 @@ id-requires c κs = search needs
 pop-requires : tie.Need-pop-requires
 pop-requires c κs = search needs
 
-cast-number : tie.Need-cast-number
-cast-number c = search needs
-
-number-requires : tie.Need-number-requires
-number-requires c κs = search needs
-
 write-popped-requires : tie.Need-write-popped-requires
 write-popped-requires c κs = search needs
 
-end-requires : tie.Need-end-requires
-end-requires c κs = search needs
-
--- behind the session's call, and the start
-abbrev popped : tie.After-end → tie.After-pop
-popped c =
-    let after-number = c .before .before .before .before in
-    after-number .before .before .before .before
-
-abbrev entry : tie.After-end → tie.Start
-entry c = popped c .before .before .before
-
--- the player that is handed back
-abbrev next : tie.After-end → Player
-next c =
-    let args = entry c .args in
-    record {
-      session = popped c .pop .result .session;
-      lent = args .p .lent;
-      «is_set» = args .p .«is_set»;
-      screen = args .p .screen;
-      «has_list» = args .p .«has_list»;
-      list = args .p .list;
-      «has_target» = args .p .«has_target»;
-      target = args .p .target;
-      «has_sheet» = args .p .«has_sheet»;
-      sheet = args .p .sheet;
-      at = c .end .result;
-      lines = args .p .lines;
-    }
-
 returns : tie.Need-returns
 returns c =
-    let r = entry c .pre in
-    let a = entry c .args in
-    let made = popped c .pop in
-    let d = done (made .result .session) (made .result .answer) in
-    makes (Pop (idOf (a .ns .now))) (a .p) (next c) d
-    (subst (λ (i : ℕ). Meets (Pop i) (a .p .session) d) (popped c .before .id .ensures) (made .ensures .meets))
-    (record {
-      ready = record { given = made .ensures .meets .given; lent = r .lent; screen = r .screen; list = r .list; target = r .target; sheet = r .sheet; at = c .end .ensures };
-      session = refl;
-      lent = refl;
-      set = refl;
-      screen = refl;
-      has-list = refl;
-      list = refl;
-      has-target = refl;
-      target = refl;
-      has-sheet = refl;
-      sheet = refl;
-      lines = refl;
-    })
+    let popped = c .before .before .before in
+    let after-id = popped .before in
+    let entry = after-id .before .before in
+    let p = entry .args .p in
+    let made = popped .pop .result in
+    let m : MeetsEvent (Pop (idOf (entry .args .ns .now))) (p .session) made =
+    subst (λ (i : ℕ). MeetsEvent (Pop i) (p .session) made) (after-id .id .ensures) (popped .pop .ensures) in
+    calls (Pop (idOf (entry .args .ns .now))) p (done (made .session) (made .answer)) (entry .pre) (m .meets)
+    (retold (λ i. answered (m .meets .answer i) (event (m .event i))) (c .write-popped .ensures))
 
 pub pop-spec : {M : Type 1} → statement M
-pop-spec =
-    tie.close
-    (tie.spec
-    id-requires
-    pop-requires
-    cast-number
-    number-requires
-    write-popped-requires
-    end-requires
-    returns)
+pop-spec = tie.close (tie.spec id-requires pop-requires write-popped-requires returns)

@@ -16,21 +16,29 @@ mul-p c = search needs
 
 answered-requires : tie.Need-answered-requires
 answered-requires c κs =
-    let r = c .before .before .before .before .pre .0 in (
+    let after-start = c .before .before .before in
+    let entry = after-start .before in
+    let begun = after-start .start in
+    let r = entry .pre .0 in (
       record {
         given = r .given;
-        lent = begun-c (c .before .before .before .before .args .c) (c .before .before .before .start .result) (c .before .before .before .start .ensures) (c .before .before .before .before .pre .1);
+        lent = begun-c (entry .args .c) (begun .result) (begun .ensures) (entry .pre .1);
         screen = r .screen;
         list = r .list;
         target = r .target;
         sheet = r .sheet;
         at = r .at;
+        sent = r .sent;
       },
-      c .before .before .before .start .ensures .given,
+      begun .ensures .given,
     )
 
 returns : tie.Need-returns
-returns c = begins (c .before .before .before .before .before .args .c) (c .before .before .before .before .before .args .p) (c .answered .result) (c .before .before .before .before .start .result) (c .before .before .before .before .start .ensures) (c .answered .ensures)
+returns c =
+    let after-start = c .before .before .before .before in
+    let args = after-start .before .args in
+    let begun = after-start .start in
+    begins (args .c) (args .p) (c .answered .result) (begun .result) (begun .ensures) (c .answered .ensures)
 
 pub started-spec : {M : Type 1} → statement M
 started-spec = tie.close (tie.spec start-requires cast-p mul-p answered-requires returns)

@@ -2,6 +2,7 @@
 use native.Mathlib.Omega.{arith}
 use lib.Seq.{length-take-le}
 use borrow.Author.Needs.{needs}
+use Rattle.replay.proofs.laws.Lists.{lists-hits}
 use Rattle.replay.proofs.hits.hits.Statement.{statement}
 use Rattle.replay.proofs.hits.hits.Tie as tie
 
@@ -23,7 +24,14 @@ write-hits-requires c κs =
     (λ e. omega (arith, q .hits-at .ensures .room e, long, l .list-len .ensures .1), search needs)
 
 returns : tie.Need-returns
-returns c = search needs
+returns c =
+    let after-hits = c .before .before .before .before in
+    let after-len = after-hits .before .before .before in
+    let entry = after-len .before .before in
+    let args = entry .args in
+    let found = after-hits .hits-at in
+    lists-hits (args .p) (entry .pre .0) (after-len .list-len .result) (args .list .now) (found .last .1 .1 .1 .0) (search needs) (search needs)
+    (args .line) (args .ns .now) (found .result) (after-len .list-len .ensures .0) (search needs) (found .ensures) (c .write-hits .ensures)
 
 pub hits-spec : {M : Type 1} → statement M
 hits-spec = tie.close (tie.spec list-len-requires hits-at-requires mul-write-hits write-hits-requires returns)

@@ -2,7 +2,7 @@
 use lib.ListN.{take}
 use Rattle.replay.specs.Called.{screenCall}
 use Rattle.replay.specs.Ready.{unset}
-use Rattle.replay.proofs.laws.Made.{makes}
+use Rattle.replay.proofs.laws.Made.{answers}
 use borrow.Author.Needs.{needs}
 use Rattle.replay.proofs.lend.drawn.Statement.{statement}
 use Rattle.replay.proofs.lend.drawn.Tie as tie
@@ -15,12 +15,14 @@ answered-requires c κs = search needs
 
 returns : tie.Need-returns
 returns c =
-    let args = c .before .before .before .before .before .before .args in
+    let after-draw = c .before .before in
+    let args = after-draw .before .before .before .before .args in
+    let made = after-draw .draw-part in
     record {
       makes =
-          makes (screenCall (args .k) (args .ns .now) (take (args .p .lent) (args .store .now)) (take (args .len) (args .screen .now))) (unset (args .p)) (c .answered .result) (c .before .before .draw-part .result) (c .before .before .draw-part .ensures .meets)
-          (c .answered .ensures);
-      shown = c .before .before .draw-part .ensures .shown;
+          answers (screenCall (args .k) (args .ns .now) (take (args .p .lent) (args .store .now)) (take (args .len) (args .screen .now)))
+          (unset (args .p)) (c .answered .result) (made .result) (made .ensures .meets) (c .answered .ensures);
+      shown = made .ensures .shown;
     }
 
 pub drawn-spec : {M : Type 1} → statement M

@@ -1,8 +1,5 @@
 -- As much is lent as the line says, or the line is beyond its limit.
-use Prim.Native.Nat.{ℕ, _≤_, _<_}
-use mathlib.Core.Path.{refl, subst}
-use Rattle.replay.specs.Ready.{Next, lendSheet}
-use Rattle.replay.specs.Played.{beyond, lends-sheet, no-sheet}
+use Rattle.replay.proofs.laws.Nexts.{lent-sheet, more-sheet}
 use borrow.Author.Needs.{needs}
 use Rattle.replay.proofs.lend.lend_sheet.Statement.{statement}
 use Rattle.replay.proofs.lend.lend_sheet.Tie as tie
@@ -17,15 +14,17 @@ accepted-requires : tie.Need-accepted-requires
 accepted-requires c κs = search needs
 
 returns : tie.Need-returns
-returns c = λ l a e.
-    lends-sheet e (subst (λ (n : ℕ). n ≤ 2048) (c .before .before .before .wide .ensures) (c .before .before .if1 .taken))
-    (subst (λ (n : ℕ). Next (lendSheet n (c .before .before .before .before .before .args .p)) (c .before .before .before .before .before .args .p .session) (c .accepted .result)) (c .before .before .before .wide .ensures) (c .accepted .ensures)) refl
+returns c =
+    let taken = c .before .before in
+    lent-sheet (taken .before .wide .ensures) (taken .if1 .taken) (c .accepted .ensures)
 
 refused-requires : tie.Need-refused-requires
 refused-requires c κs = search needs
 
 returns-2 : tie.Need-returns-2
-returns-2 c = λ l a e. beyond (no-sheet e (subst (λ (n : ℕ). 2048 < n) (c .before .before .before .wide .ensures) (c .before .before .if1 .left))) (c .refused .ensures) refl
+returns-2 c =
+    let left = c .before .before in
+    more-sheet (left .before .wide .ensures) (left .if1 .left) (c .refused .ensures)
 
 pub lend-sheet-spec : {M : Type 1} → statement M
 lend-sheet-spec =

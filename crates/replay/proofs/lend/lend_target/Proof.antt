@@ -1,8 +1,5 @@
 -- As much is lent as the line says, or the line is beyond its limit.
-use Prim.Native.Nat.{ℕ, _≤_, _<_}
-use mathlib.Core.Path.{refl, subst}
-use Rattle.replay.specs.Ready.{Next, lendTarget}
-use Rattle.replay.specs.Played.{beyond, lends-target, no-target}
+use Rattle.replay.proofs.laws.Nexts.{lent-target, more-target}
 use borrow.Author.Needs.{needs}
 use Rattle.replay.proofs.lend.lend_target.Statement.{statement}
 use Rattle.replay.proofs.lend.lend_target.Tie as tie
@@ -17,15 +14,17 @@ accepted-requires : tie.Need-accepted-requires
 accepted-requires c κs = search needs
 
 returns : tie.Need-returns
-returns c = λ l a e.
-    lends-target e (subst (λ (n : ℕ). n ≤ 65536) (c .before .before .before .wide .ensures) (c .before .before .if1 .taken))
-    (subst (λ (n : ℕ). Next (lendTarget n (c .before .before .before .before .before .args .p)) (c .before .before .before .before .before .args .p .session) (c .accepted .result)) (c .before .before .before .wide .ensures) (c .accepted .ensures)) refl
+returns c =
+    let taken = c .before .before in
+    lent-target (taken .before .wide .ensures) (taken .if1 .taken) (c .accepted .ensures)
 
 refused-requires : tie.Need-refused-requires
 refused-requires c κs = search needs
 
 returns-2 : tie.Need-returns-2
-returns-2 c = λ l a e. beyond (no-target e (subst (λ (n : ℕ). 65536 < n) (c .before .before .before .wide .ensures) (c .before .before .if1 .left))) (c .refused .ensures) refl
+returns-2 c =
+    let left = c .before .before in
+    more-target (left .before .wide .ensures) (left .if1 .left) (c .refused .ensures)
 
 pub lend-target-spec : {M : Type 1} → statement M
 lend-target-spec =

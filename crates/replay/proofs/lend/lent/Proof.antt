@@ -1,8 +1,7 @@
 -- The call is lent the front of the store.
 use Prim.Native.Nat.{_-_}
 use native.Mathlib.Omega.{arith}
-use Rattle.windows.specs.View.{done}
-use Rattle.replay.specs.Called.{storeCall}
+use Rattle.replay.specs.Called.{storeCall, isCounted}
 use Rattle.replay.proofs.laws.Made.{store-part}
 use borrow.Author.Needs.{needs}
 use Rattle.replay.proofs.lend.lent.Statement.{statement}
@@ -25,9 +24,11 @@ same-length c = search needs
 
 returns : tie.Need-returns
 returns c =
-    let args = c .before .before .before .before .before .args in
-    store-part (storeCall (args .line .kind) (args .line .count) (args .ns .now)) (args .lent) (args .lent - 0) (args .store .now) (c .before .before .write .last .1 .1 .1 .0)
-    (args .s) (done (c .before .before .write .result .session) (c .before .before .write .result .answer)) (omega arith) (c .before .before .write .ensures)
+    let after-write = c .before .before in
+    let args = after-write .before .before .before .args in
+    let made = after-write .write in
+    store-part (isCounted (args .line .kind)) (storeCall (args .line .kind) (args .line .count) (args .ns .now)) (args .lent) (args .lent - 0)
+    (args .store .now) (made .last .1 .1 .1 .0) (args .s) (made .result) (omega arith) (made .ensures)
 
 pub lent-spec : {M : Type 1} → statement M
 lent-spec =

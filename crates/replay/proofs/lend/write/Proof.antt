@@ -4,9 +4,13 @@ use mathlib.Core.Logic.{⊎-elim, inl, inr}
 use native.Mathlib.Omega.{arith}
 use Rattle.rules.specs.Calls as Call
 use Rattle.rules.specs.Calls.{Call}
-use Rattle.windows.specs.View.{done, MeetsStore}
+use Rattle.script.specs.Kind as Kind
+use Rattle.geom.proofs.basics.Tests.{or-cases}
+use Rattle.replay.specs.Called.{isCounted}
+use Rattle.replay.proofs.laws.Made.{Counts}
 use Rattle.bare_lines.specs.Numbers.{num, idOf, rectAt}
-use Rattle.replay.proofs.laws.Picked.{store-at}
+use Rattle.replay.proofs.laws.Picked.{store-at, picked-so}
+use borrow.Author.Tests.{eqb-true}
 use borrow.Author.Needs.{needs}
 use Rattle.replay.proofs.lend.write.Statement.{statement}
 use Rattle.replay.proofs.lend.write.Tie as tie
@@ -48,9 +52,7 @@ returns c =
     ≡ Call.Fill (idOf ns) (rectAt ns 1) (num ns 5) (args .store .now) =
     λ i. Call.Fill (id .ensures i) (rect .ensures i) (num ns 5) (args .store .now) in
     store-at (after-rect .before .before .match .keys1) (args .line .count) ns (args .store .now) refl
-    (subst
-    (λ (k : Call). MeetsStore k (args .s) (done (f .result .session) (f .result .answer)) (f .last .1 .1 .1 .1 .0)) made
-    (f .ensures .meets))
+    (subst (Counts (isCounted (args .line .kind)) (args .s) (f .result) (f .last .1 .1 .1 .1 .0)) made (f .ensures .meets, λ t. f .ensures .altered))
 
 same-length-2 : tie.Need-same-length-2
 same-length-2 c = search needs
@@ -60,14 +62,17 @@ returns-2 c =
     let after-part = c .before .before in
     let args = after-part .before .before .before .before .before .args in
     store-at (after-part .before .before .before .match .keys2) (args .line .count) (args .ns .now)
-    (args .store .now) refl (after-part .part .ensures .meets)
+    (args .store .now) refl (after-part .part .ensures .meets, λ t. after-part .part .ensures .altered)
 
 same-length-3 : tie.Need-same-length-3
 same-length-3 c = search needs
 
 returns-3 : tie.Need-returns-3
 returns-3 c =
-    c .before .before .before .resize .ensures
+    let after-resize = c .before .before .before in
+    let rest = after-resize .before .before .match .rest in
+    picked-so (λ k m. (m, λ t. or-cases _ _ t (λ e. absurd (rest .0 .1 (eqb-true _ Kind.fill e))) (λ e. absurd (rest .1 (eqb-true _ Kind.blit e)))))
+    (after-resize .resize .ensures)
 
 pub write-spec : {M : Type 1} → statement M
 write-spec =

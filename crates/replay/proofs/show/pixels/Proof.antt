@@ -1,8 +1,15 @@
--- The window's pixels lie in its part of the store.
-use Prim.Native.Nat.{_+_, _*_, _≤_}
+-- The window's pixels lie in its part of the store; of no window, or where less is lent, none are shown.
+use Prim.Native.Nat.{ℕ, _+_, _*_, _≤_}
+use mathlib.Core.Logic.{⊎-elim}
+use mathlib.Core.List.{List, []}
+use mathlib.Core.Path.{_≡_, sym, ap, _∙_}
 use native.Mathlib.Omega.{arith}
-use Rattle.replay.proofs.laws.Sizes.{in-store}
 use borrow.Author.Needs.{needs}
+use Rattle.answer_text.specs.Text.{line, numbers}
+use Rattle.windows.specs.View.{group}
+use Rattle.replay.specs.Told.{windowPixels}
+use Rattle.replay.proofs.laws.Shows.{retold, pixels-of, no-window, no-store}
+use Rattle.replay.proofs.laws.Sizes.{in-store}
 use Rattle.replay.proofs.show.pixels.Statement.{statement}
 use Rattle.replay.proofs.show.pixels.Tie as tie
 
@@ -62,13 +69,34 @@ write-pixels-requires c κs =
     )
 
 returns : tie.Need-returns
-returns c = search needs
+returns c =
+    let after-rect = c .before .before .before .before .before .before in
+    let lent = after-rect .before in
+    let after-rect-of = lent .before .before .before .before in
+    let id = after-rect-of .before .id in
+    let a = entry lent .args in
+    retold
+    (ap (λ (l : List ℕ). line 0 (numbers l))
+    (pixels-of (a .s) (id .result .0) (a .lent) (a .store .now) (after-rect-of .rect-of .result) (after-rect-of .rect-of .ensures) (lent .before .if1 .taken) (lent .if2 .taken)
+    ∙ ap (λ (i : ℕ). windowPixels (group (a .s)) i (a .lent) (a .store .now)) (id .ensures)))
+    (c .write-pixels .ensures)
 
 answer-requires : tie.Need-answer-requires
 answer-requires c κs = search needs
 
 returns-2 : tie.Need-returns-2
-returns-2 c = search needs
+returns-2 c =
+    let joined = c .before .before in
+    let after-rect-of = joined .before .before .before in
+    let id = after-rect-of .before .id in
+    let a = after-rect-of .before .before .args in
+    let none : windowPixels (group (a .s)) (id .result .0) (a .lent) (a .store .now) ≡ [] =
+    ⊎-elim (λ w. no-store (a .s) (id .result .0) (a .lent) (a .store .now) (w .1 .left))
+    (λ w. no-window (a .s) (id .result .0) (a .lent) (a .store .now) (after-rect-of .rect-of .result) (after-rect-of .rect-of .ensures) (w .left))
+    (joined .if1 .came) in
+    retold
+    (ap (λ (l : List ℕ). line 0 (numbers l)) (sym none ∙ ap (λ (i : ℕ). windowPixels (group (a .s)) i (a .lent) (a .store .now)) (id .ensures)))
+    (c .answer .ensures)
 
 pub pixels-spec : {M : Type 1} → statement M
 pixels-spec =

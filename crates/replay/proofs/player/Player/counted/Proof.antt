@@ -11,11 +11,11 @@ use Rattle.replay.proofs.player.Player.counted.Tie as tie
 -- the player with the number of lines n
 abbrev lined : Player → ℕ → Player
 lined p n =
-    record { session = p .session; lent = p .lent; «is_set» = p .«is_set»; screen = p .screen; «has_list» = p .«has_list»; list = p .list; «has_target» = p .«has_target»; target = p .target; «has_sheet» = p .«has_sheet»; sheet = p .sheet; at = p .at; lines = n }
+    record { session = p .session; lent = p .lent; «is_set» = p .«is_set»; screen = p .screen; «has_list» = p .«has_list»; list = p .list; «has_target» = p .«has_target»; target = p .target; «has_sheet» = p .«has_sheet»; sheet = p .sheet; waiting = p .waiting; lines = n }
 
 is-counted : (p : Player) (n : ℕ) → Ready p → n ≡ counted p .lines → Ready (lined p n) × (lined p n ≡ counted p)
 is-counted p n r e =
-    (record { given = r .given; lent = r .lent; screen = r .screen; list = r .list; target = r .target; sheet = r .sheet; at = r .at }, λ i. lined p (e i))
+    (record { given = r .given; lent = r .lent; screen = r .screen; list = r .list; target = r .target; sheet = r .sheet; at = r .at; sent = r .sent }, λ i. lined p (e i))
 
 add-self : tie.Need-add-self
 add-self c = search needs

@@ -1,9 +1,8 @@
 -- Each arm plays the line of its own kind.
-use mathlib.Core.Path.{refl}
 use mathlib.Core.Logic.{⊎-elim, inl, inr}
 use native.Mathlib.Omega.{arith}
-use Rattle.replay.proofs.laws.Arms.{on-target, no-target, not-lent}
-use Rattle.replay.specs.Played.{pixels, lists, asks-hits, reads-sheet, stores, shows}
+use Rattle.replay.proofs.laws.Arms.{on-target, no-target, not-lent, stored-line}
+use Rattle.replay.specs.Played.{pixels}
 use borrow.Author.Needs.{needs}
 use Rattle.replay.proofs.player.Player.line.Statement.{statement}
 use Rattle.replay.proofs.player.Player.line.Tie as tie
@@ -63,24 +62,30 @@ returns : tie.Need-returns
 returns c = c .redraw .ensures
 
 returns-2 : tie.Need-returns-2
-returns-2 c = lists (c .before .before .before .before .match .keys2) (c .visible .ensures) refl
+returns-2 c =
+    let arm = c .before .before .before .before in
+    let args = arm .before .args in
+    c .visible .ensures (args .line) (pixels (args .store .now) (args .screen .now)) (arm .match .keys2)
 
 returns-3 : tie.Need-returns-3
-returns-3 c = asks-hits (c .before .before .before .before .match .keys3) (c .hits .ensures) refl
+returns-3 c =
+    let arm = c .before .before .before .before in
+    let args = arm .before .args in
+    c .hits .ensures (pixels (args .store .now) (args .screen .now)) (arm .match .keys3)
 
 returns-4 : tie.Need-returns-4
-returns-4 c = reads-sheet (c .before .before .before .before .match .keys4) (c .read-sheet .ensures) refl
+returns-4 c =
+    let args = c .before .before .before .before .before .args in
+    c .read-sheet .ensures (pixels (args .store .now) (args .screen .now))
 
 returns-5 : tie.Need-returns-5
-returns-5 c = shows (c .before .before .before .before .before .before .if3 .left) (omega (arith, c .before .before .before .before .before .if4 .taken)) (c .shown .ensures) refl
+returns-5 c = c .shown .ensures
 
 returns-6 : tie.Need-returns-6
-returns-6 c =
-    let args = entry (c .before .before .before .before) .args in
-    c .look .ensures (pixels (args .store .now) (args .screen .now))
+returns-6 c = c .look .ensures (entry (c .before .before .before .before) .args .screen .now)
 
 returns-7 : tie.Need-returns-7
-returns-7 c = stores (c .stored .ensures) refl
+returns-7 c = stored-line (c .stored .ensures)
 
 returns-8 : tie.Need-returns-8
 returns-8 c =
