@@ -194,6 +194,10 @@ static void none(void) {}
     ROW(roq_route, _press, cascade, roq_route(s, press))                                                   \
     ROW(roq_route, _move, cascade, roq_route(s, move))                                                     \
     ROW(roq_route, _release, pressed, roq_route(s, release))                                               \
+    ROW(roq_route_to, _key, cascade, roq_route_to(s, key).answer)                                          \
+    ROW(roq_route_to, _press, cascade, roq_route_to(s, press).answer)                                      \
+    ROW(roq_route_to, _move, cascade, roq_route_to(s, move).answer)                                        \
+    ROW(roq_route_to, _release, pressed, roq_route_to(s, release).answer)                                  \
     ROW(roq_pop, , queued, roq_pop(s, 0).answer)                                                           \
     ROW(roq_waiting, , queued, roq_waiting(s) == 0)                                                        \
     ROW(roq_redraw, _nothing, cascade, roq_redraw(s, false, WIDTH, HEIGHT, store, ROOM, screen, C))        \

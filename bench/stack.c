@@ -42,6 +42,7 @@ static const RoqEvent press = {25, 25, 0, 0, 0, ROQ_MOUSE_DOWN, 1, 0};
     CALL(roq_fill, (s, 0, area, 7, store, 16 * C))                                     \
     CALL(roq_blit, (s, 0, area, 8, data, 64, store, 16 * C))                           \
     CALL(roq_route, (s, press))                                                        \
+    CALL(roq_route_to, (s, press))                                                     \
     CALL(roq_pop, (s, 0))                                                              \
     CALL(roq_waiting, (s))                                                             \
     CALL(roq_redraw, (s, true, WIDTH, HEIGHT, store, 16 * C, screen, C))               \

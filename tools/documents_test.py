@@ -118,9 +118,9 @@ EDITS = [
         [(HEADER, "ROQ_ERROR_LAYER = 17", "ROQ_ERROR_LAYER = 71")],
         "it has no answer LAYER: u32 = 17",
     ),
-    ("a new version in the header", [(HEADER, "VERSION_MINOR 0", "VERSION_MINOR 1")], "Cargo.toml: version 1.0.0, and"),
-    ("another version in the code", [(VERSION, "MAJOR: u32 = 1", "MAJOR: u32 = 2")], f"{VERSION}: version 2.0.0, and"),
-    ("another version in a page", [("docs/LINKING.md", "roqshyn 1.0 ", "roqshyn 0.1 ")], "LINKING.md: version 0.1, and"),
+    ("a new version in the header", [(HEADER, "VERSION_MINOR 1", "VERSION_MINOR 2")], "Cargo.toml: version 1.1.0, and"),
+    ("another version in the code", [(VERSION, "MAJOR: u32 = 1", "MAJOR: u32 = 2")], f"{VERSION}: version 2.1.0, and"),
+    ("another version in a page", [("docs/LINKING.md", "roqshyn 1.1 ", "roqshyn 0.1 ")], "LINKING.md: version 0.1, and"),
     ("a page without the version", [("docs/VERSIONS.md", "It is now ", "It is ")], "VERSIONS.md: version none, and"),
     (
         "a call that the header lacks",

@@ -150,6 +150,7 @@ FIGURES = (
         "pixels of replay's screen",
         at(PLAYER, r"screen: &mut \[u32; {}\]"),
         "a screen of at most {}",
+        "a screen of {} pixels, [0-9,]* numbers of a blit",
         "`picture` of more than {} pixels",
     ),
     Figure(
@@ -165,10 +166,15 @@ FIGURES = (
     Figure(
         "numbers of a line",
         at("crates/script/src/count.rt", "DATA: usize = {}"),
-        "DATA is 0 to {} numbers",
         "DATA are at most {} numbers",
         "N… is 0 to {} numbers",
         "BYTE… is 0 to {} numbers",
+    ),
+    Figure(
+        "numbers of a blit",
+        at("crates/script/src/count.rt", "BLIT: usize = {}"),
+        "DATA is 0 to {} numbers",
+        "{} numbers of a blit",
     ),
     Figure(
         "times of a line",

@@ -82,7 +82,7 @@ def script_words(tree):
             word, *rest = line.split()
             said[word] = number
             numbers = [part for part in rest if not part.endswith("…") and part != "NAME"]
-            count = len(numbers) + 3 * sum(part in RECTANGLES for part in numbers if "A" in numbers)
+            count = len(numbers) + 3 * sum(part in RECTANGLES for part in numbers if numbers[0] == "A")
             known = tree.script.get(word)
             if known and known != (count, any(part.endswith("…") for part in rest)):
                 yield f"{SCRIPT}:{number}: `{line}` has {count} numbers; the code's table has {known[0]}"

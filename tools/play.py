@@ -13,7 +13,7 @@ from pictures import convert_all
 
 WIDE = 44
 # The pixels of the program's screen.
-SCREEN = 384_000
+SCREEN = 3_072_000
 
 
 def beside(call, answer):

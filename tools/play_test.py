@@ -25,7 +25,7 @@ def scripts(room):
     (room.away / "folder").mkdir()
     unwritten = "line 1: the picture folder cannot be written"
     play(room, "an unwritten picture", "picture 2 2 folder\n", 1, "!  it cannot", unwritten)
-    play(room, "too large a picture", "picture 800 800 folder\n", 0, "!  beyond the program's own limits")
+    play(room, "too large a picture", "picture 8000 800 folder\n", 0, "!  beyond the program's own limits")
     return 6
 
 

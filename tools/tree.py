@@ -92,5 +92,5 @@ class Tree:
 
     def script_lines(self):
         """How many numbers a line of a call script has, and whether more may follow, by its first word."""
-        rows = re.findall(r"^ *\\x..\\x(..)([ +*])([a-z-]+) *\\$", self.files["crates/script/src/kind.rt"], re.M)
+        rows = re.findall(r"^ *\\x..\\x(..)([ +*@])([a-z-]+) *\\$", self.files["crates/script/src/kind.rt"], re.M)
         return {word: (int(count, 16), more != " ") for count, more, word in rows}

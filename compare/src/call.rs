@@ -33,6 +33,7 @@ pub enum Call {
     Fill(u32, Rect, u32),
     Blit(u32, Rect, u32, Vec<u32>),
     Route(Event),
+    Who(Event),
     Pop(u32),
     Redraw(bool, u32, u32),
     Begin(bool),
@@ -75,9 +76,11 @@ pub enum Call {
     Busiest(Vec<u32>),
 }
 
-/// "DATA is 0 to 4,096 numbers"; "PIXELS and DATA are at most 4,096 numbers together"; "0 to 4,096 numbers, x and y in turn"; "0 to 4,096
-/// numbers, each 0 to 255, else malformed".
+/// "PIXELS and DATA are at most 4,096 numbers together"; "0 to 4,096 numbers, x and y in turn"; "0 to 4,096 numbers, each 0 to 255, else
+/// malformed".
 const MOST: usize = 4096;
+/// "DATA is 0 to 384,000 numbers"
+const MOST_DATA: usize = 384_000;
 /// "T… is 0 to 4,200 times in milliseconds; more make the line malformed"
 const MOST_TIMES: usize = 4200;
 
@@ -101,6 +104,7 @@ fn call(line: &str) -> Option<Call> {
     let numbers = words.map(number).collect::<Option<Vec<_>>>()?;
     session(word, &numbers)
         .or_else(|| event(word, &numbers).map(Call::Route))
+        .or_else(|| who(word, &numbers).map(Call::Who))
         .or_else(|| program(word, &numbers))
         .or_else(|| geometry(word, &numbers))
         .or_else(|| pixels(word, &numbers))
@@ -132,7 +136,7 @@ fn session(word: &str, numbers: &[u32]) -> Option<Call> {
         ("drag", &[id, x, y]) => Call::Drag(id, x, y),
         ("resize", &[id, w, h]) => Call::Resize(id, w, h),
         ("fill", &[id, x, y, w, h, colour]) => Call::Fill(id, Rect::new(x, y, w, h), colour),
-        ("blit", &[id, x, y, w, h, stride, ref data @ ..]) if data.len() <= MOST => {
+        ("blit", &[id, x, y, w, h, stride, ref data @ ..]) if data.len() <= MOST_DATA => {
             Call::Blit(id, Rect::new(x, y, w, h), stride, data.to_vec())
         }
         ("pop", &[id]) => Call::Pop(id),
@@ -182,6 +186,25 @@ fn event(word: &str, numbers: &[u32]) -> Option<Event> {
         ("mouseup", &[x, y, b]) => Event::MouseUp(x, y, byte(b)?),
         ("mouseclick", &[x, y, b, n]) => Event::MouseClick(x, y, byte(b)?, byte(n)?),
         ("resized", &[]) => Event::Resize,
+        _ => return None,
+    })
+}
+
+/// "KIND is 1 Resize, 2 KeyDown, …, else malformed"; "C is the button and D the count, each 0 to 255, else malformed, of
+/// every kind"
+fn who(word: &str, numbers: &[u32]) -> Option<Event> {
+    let ("who", &[kind, a, b, button, count]) = (word, numbers) else { return None };
+    let (button, count) = (u8::try_from(button).ok()?, u8::try_from(count).ok()?);
+    Some(match kind {
+        1 => Event::Resize,
+        2 => Event::KeyDown(a),
+        3 => Event::KeyUp(a),
+        4 => Event::KeyFire(a),
+        5 => Event::Text(a),
+        6 => Event::MouseMove(a, b, 0, 0),
+        7 => Event::MouseDown(a, b, button),
+        8 => Event::MouseClick(a, b, button, count),
+        9 => Event::MouseUp(a, b, button),
         _ => return None,
     })
 }

@@ -1,10 +1,11 @@
-//! Plays random lists on both programs until enough calls were compared.
+//! Plays a station and random lists on both programs until enough calls were compared.
 use crate::lists::{append, Scene};
 use crate::player::Mode;
 use crate::random::Random;
 use crate::replay::Replay;
 use crate::script::{text_of, Script};
 use crate::shrink;
+use crate::station;
 use crate::tally::Tally;
 use std::io;
 
@@ -15,6 +16,9 @@ const CHUNK: usize = 40_000;
 pub fn run(replay: &Replay, calls: u64, seed: u64) -> io::Result<bool> {
     let mut random = Random::new(seed);
     let mut tally = Tally::default();
+    if !is_station_alike(replay, &mut tally)? {
+        return Ok(false);
+    }
     while tally.calls < calls {
         let script = chunk(&mut random, &mut tally, calls);
         let ours = replay.play(text_of(&script.lines))?;
@@ -27,6 +31,21 @@ pub fn run(replay: &Replay, calls: u64, seed: u64) -> io::Result<bool> {
     tally.print();
     println!("{} calls in common ground, 0 differences", tally.calls);
     Ok(true)
+}
+
+/// Its lines are too long to be printed.
+fn is_station_alike(replay: &Replay, tally: &mut Tally) -> io::Result<bool> {
+    let mut script = Script::new(Mode::Common);
+    for line in station::lines() {
+        let played = script.play(&line, tally);
+        played.map_err(|entry| io::Error::other(format!("a station is not in the common ground: {}", entry.text())))?;
+    }
+    let ours = replay.play(text_of(&script.lines))?;
+    let place = first_difference(&script.answers.0, &ours);
+    if let Some(answer) = place {
+        println!("a difference in answer {} of a station with windows of 800 by 480", answer + 1);
+    }
+    Ok(place.is_none())
 }
 
 fn chunk(random: &mut Random, tally: &mut Tally, calls: u64) -> Script {

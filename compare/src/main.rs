@@ -35,11 +35,13 @@ mod shrink;
 mod sides;
 mod stale;
 mod standing;
+mod station;
 mod surfaces;
 mod tally;
 mod text;
 mod times;
 mod waits;
+mod who;
 mod wide;
 
 use player::{Mode, Player};

@@ -17,6 +17,7 @@ use crate::stale;
 use crate::standing;
 use crate::surfaces;
 use crate::text::Text;
+use crate::who;
 use original::input::Event;
 use original::metadevs::video::lent::{lend_screen, Pixels};
 use original::sync::mutex::Mutex;
@@ -79,7 +80,7 @@ impl Player {
             Line::Call(call) if cannot(&call, &self.lent) => out.line("!"),
             Line::Call(call) => {
                 let answer = answer(&call, &self.group, &self.lent, &self.shadow);
-                if let Call::Route(Event::MouseUp(x, y, _)) = call {
+                if let Call::Route(Event::MouseUp(x, y, _)) | Call::Who(Event::MouseUp(x, y, _)) = call {
                     self.shadow.count_release(x, y);
                 }
                 if let Some(entry) = self.entry(&call, answer) {
@@ -95,7 +96,9 @@ impl Player {
     fn entry(&self, call: &Call, answer: u8) -> Option<Entry> {
         match *call {
             _ if self.mode != Mode::Common => None,
-            Call::Route(Event::MouseUp(x, y, _)) => self.shadow.release_entry(x, y),
+            Call::Route(Event::MouseUp(x, y, _)) | Call::Who(Event::MouseUp(x, y, _)) => {
+                self.shadow.release_entry(x, y)
+            }
             _ if answer != 0 => None,
             _ => self.shadow.entry(call),
         }
@@ -146,13 +149,14 @@ impl Player {
     /// Makes the call on the original and writes what it gives; the id is that of a create.
     fn make(&mut self, call: &Call, out: &mut Text) -> usize {
         match *call {
-            Call::Route(event) => {
-                let taker = self.shadow.taker(&event, usize::from(self.group.focus()));
-                let answer = events::route(&mut self.group, event);
-                if answer == 0 {
-                    self.shadow.took(&event, taker);
-                }
+            Call::Route(event) => out.answer(self.route(event)),
+            Call::Who(event) => {
+                let taker = who::takes(&self.group, event);
+                let answer = self.route(event);
                 out.answer(answer);
+                if answer == 0 {
+                    out.numbers(&taker);
+                }
             }
             Call::Pop(id) => {
                 events::pop(&mut self.group, id, out);
@@ -177,6 +181,15 @@ impl Player {
             }
         }
         0
+    }
+
+    fn route(&mut self, event: Event) -> u8 {
+        let taker = self.shadow.taker(&event, usize::from(self.group.focus()));
+        let answer = events::route(&mut self.group, event);
+        if answer == 0 {
+            self.shadow.took(&event, taker);
+        }
+        answer
     }
 
     fn change(&mut self, call: &Call) {

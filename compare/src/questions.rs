@@ -23,8 +23,8 @@ pub struct Lent {
     pub sheet: Option<u32>,
 }
 
-pub const STORE: u32 = 1_048_576;
-pub const SCREEN: u32 = 384_000;
+pub const STORE: u32 = 6_144_000;
+pub const SCREEN: u32 = 3_072_000;
 /// Also what a `read-sheet` is lent where no `lend-list` is pending.
 pub const LIST: u32 = 7_812;
 pub const TARGET: u32 = 65_536;
@@ -80,7 +80,9 @@ pub fn answer(call: &Call, group: &Group, lent: &Lent, shadow: &Shadow) -> u8 {
         }
         Call::Fill(id, area, _) => first_no(&[store(), used(*id), small_rect(area)]),
         Call::Blit(id, area, stride, _) => first_no(&[store(), used(*id), small_rect(area), (7, *stride >= 1)]),
-        Call::Route(event) => first_no(&[(21, !matches!(event, Event::KeyFire(_))), small_point(event)]),
+        Call::Route(event) | Call::Who(event) => {
+            first_no(&[(21, !matches!(event, Event::KeyFire(_))), small_point(event)])
+        }
         Call::Redraw(_, w, h) => first_no(&[store(), screen(*w, *h)]),
         Call::Portion(w, h) => first_no(&[store(), screen(*w, *h), (20, shadow.is_walking())]),
         Call::Stale(which, area) => {

@@ -172,10 +172,18 @@ static void session(void) {
     say_numbers(0, numbers, 9);
 }
 
+/* A release, and who took it. */
+static void released_to(uint32_t x, uint32_t y) {
+    RoqEvent e = {.kind = ROQ_MOUSE_UP, .x = x, .y = y, .button = 1};
+    RoqRouted to = roq_route_to(&s, e);
+    uint32_t numbers[3] = {to.id, to.x, to.y};
+    say_numbers(to.answer, numbers, 3);
+}
+
 /* A press and its release off the panel; what waits; and how things stand. */
 static void ask(void) {
     press(5, 3);
-    release(1, 3);
+    released_to(1, 3);
     printf("0 %u\n", (unsigned)roq_waiting(&s));
     pop(1);
     pop(1);

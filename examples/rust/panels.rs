@@ -158,10 +158,16 @@ impl Panels {
         println!("0{}", numbers(&[s.c, s.shown, focus, grab, s.dimmed.into(), s.owed.into(), walk, left, s.displays]));
     }
 
+    /// A release, and who took it.
+    fn released_to(&mut self, x: u32, y: u32) {
+        let to = self.session.route_to(Event::MouseUp { at: Pos::new(x, y), button: 1 });
+        say(to.map(|taker| taker.map_or(" 16 0 0".into(), |(id, at)| numbers(&[id.into(), at.x, at.y]))));
+    }
+
     /// A press and its release off the panel; what waits; and how things stand.
     fn ask(&mut self) {
         self.press(5, 3);
-        self.release(1, 3);
+        self.released_to(1, 3);
         self.waiting();
         self.pop(PANEL);
         self.pop(PANEL);

@@ -48,6 +48,19 @@ static bool write_route(const struct play *p) {
     return true;
 }
 
+/* Of `who` A is the value of a key or a text, else x, and B is y. */
+static bool write_who(const struct play *p) {
+    int64_t kind = p->words[5];
+    if (kind < ROQ_RESIZE || kind > ROQ_MOUSE_UP)
+        return false;
+    size_t first = kind > ROQ_RESIZE && kind < ROQ_MOUSE_MOVE ? 2 : 0;
+    printf("who %" PRId64, kind);
+    numbers(p, first, first + 1);
+    numbers(p, 1, 2);
+    numbers(p, 6, 8);
+    return true;
+}
+
 /* Its words are the id, corner and factor in halves, fit, and the target's size. */
 static bool write_look(const struct play *p) {
     bool fits = p->words[7] != 0;
@@ -82,6 +95,7 @@ static const struct special {
     bool (*write)(const struct play *);
 } specials[] = {
     {"roq_route", write_route},
+    {"roq_route_to", write_who},
     {"roq_look", write_look},
     {"roq_region", write_region},
     {"roq_set_scanline", write_set_scanline},

@@ -1,6 +1,7 @@
-/* A station that tests record: station SECONDS [SEED]. A plan as large as the screen and six panels. Each second has
- * 200 events, by which a panel is pressed, dragged and let go, 30 redraws, and a button that is painted. It takes as
- * long as its calls do, and prints how many nanoseconds of a processor a second took, and the longest. */
+/* A station that tests record: station SECONDS [SEED]. A plan as large as the display and six panels; with DISPLAYS a
+ * strip of displays, each with a plan of its own that is blitted whole. Each second has 200 events, by which a panel
+ * is pressed, dragged and let go, 30 redraws, and a button that is painted. It takes as long as its calls do, and
+ * prints how many nanoseconds of a processor a second took, and the longest. */
 #define _POSIX_C_SOURCE 200809L
 #include "roqshyn.h"
 
@@ -12,11 +13,14 @@
 #define W 800
 #define H 480
 #endif
+#ifndef DISPLAYS
+#define DISPLAYS 1
+#endif
 
-enum { C = W * H, STORE = 16 * C, PANELS = 6, PW = 200, PH = 150, EVENTS = 200, REDRAWS = 30 };
+enum { C = W * H, SW = W * DISPLAYS, STORE = 16 * C, PANELS = 6, PW = 200, PH = 150, EVENTS = 200, REDRAWS = 30 };
 
 static RoqSession s;
-static uint32_t store[STORE], screen[W * H], picture[PW * PH];
+static uint32_t store[STORE], screen[SW * H], picture[PW * PH], plan[C];
 static uint32_t seed;
 
 static void must(uint32_t answer) {
@@ -46,6 +50,16 @@ static void paint(uint32_t id) {
     must(roq_mark(&s, id));
 }
 
+/* The plan of another display, as one blit. */
+static void open_plan(uint32_t id, uint32_t x) {
+    RoqRect all = {{0, 0}, {W, H}};
+    open_window(id, x, 0, W, H);
+    for (size_t i = 0; i < C; i++)
+        plan[i] = (uint32_t)(i / id % 9) * 0x1c1c1c;
+    must(roq_blit(&s, id, all, W, plan, C, store, STORE).answer);
+    must(roq_mark(&s, id));
+}
+
 /* Routes an event, and pops what came of it; the point that the panel was given. */
 static RoqEvent routed(uint8_t kind, uint32_t x, uint32_t y, uint32_t id) {
     RoqEvent e = {.kind = kind, .x = x, .y = y, .button = kind != ROQ_MOUSE_MOVE};
@@ -69,7 +83,7 @@ static void second(uint32_t n) {
         if (i % 40 == 0)
             paint(id);
         if (i * REDRAWS / EVENTS != (i + 1) * REDRAWS / EVENTS)
-            must(roq_redraw(&s, false, W, H, store, STORE, screen, W * H));
+            must(roq_redraw(&s, false, SW, H, store, STORE, screen, SW * H));
     }
     at = roq_rect_of(&s, id).rect.pos;
     routed(ROQ_MOUSE_UP, at.x + 5, at.y + 5, id);
@@ -89,6 +103,8 @@ int main(int count, char **words) {
     open_window(0, 0, 0, W, H);
     for (uint32_t id = 1; id <= PANELS; id++)
         open_window(id, 30 * id, 20 * id, PW, PH);
+    for (uint32_t display = 1; display < DISPLAYS; display++)
+        open_plan(PANELS + display, W * display);
     for (uint32_t n = 0; n < seconds; n++) {
         double from = now();
         second(n);

@@ -29,6 +29,16 @@ impl Maker<'_> {
         }
     }
 
+    /// The same, telling who took it. A kind is given numbers that it does not use, too.
+    pub fn who(&mut self) -> Step {
+        let (x, y) = self.point();
+        let value = self.colour();
+        let (button, count) = (self.random.from_to(0, 255), self.random.from_to(0, 255));
+        let kind = self.random.pick(&[1, 2, 3, 5, 6, 6, 7, 7, 8, 9]);
+        let first = if matches!(kind, 2..=5) { value } else { x };
+        self.say(&format!("who {kind} {first} {y} {button} {count}"))
+    }
+
     /// A press, at times a change of the windows, and its release, mostly at the same point. Off the window the list may end.
     pub fn press(&mut self) -> Step {
         let (x, y) = self.point();

@@ -93,6 +93,7 @@ impl<'a> Maker<'a> {
             (5, Maker::update_dims),
             (2, Maker::spread),
             (16, Maker::event),
+            (6, Maker::who),
             (4, Maker::press),
             (14, Maker::pop),
             (1, Maker::flood),

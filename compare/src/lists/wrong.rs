@@ -49,7 +49,7 @@ impl Maker<'_> {
 
     fn wrong_screen(&mut self) -> Step {
         let (w, h) = self.scene.screen;
-        let wrong = self.random.pick(&[0, w * h - 1, w * h, w * h + 1, 384_000, 384_001]);
+        let wrong = self.random.pick(&[0, w * h - 1, w * h, w * h + 1, 3_072_000, 3_072_001]);
         self.say(&format!("lend-screen {wrong}"))?;
         if self.random.chance(200) {
             self.no_call()?;
