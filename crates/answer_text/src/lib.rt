@@ -11,7 +11,7 @@ use libc::STDOUT_FILENO;
 
 // The first `at` bytes of the block wait. `sent` bytes were handed to standard output before them, as far as 64 bits
 // count.
-#[derive(Drop)]
+#[derive(Clone, Copy)]
 pub struct Waiting {
     pub at: usize,
     pub sent: u64,

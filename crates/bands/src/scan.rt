@@ -64,7 +64,7 @@ fn run_rows(at: Rect, above: &[u32], n: usize, y: u32, nums: &mut [u32], e: usiz
 }
 
 // How many bands there are, and how many numbers they take.
-#[derive(Drop)]
+#[derive(Clone, Copy)]
 pub struct Made {
     pub bands: usize,
     pub end: usize,

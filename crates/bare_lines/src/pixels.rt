@@ -55,7 +55,7 @@ fn write_altered(written: Altered, pixels: &[u32], out: &mut [u8; 65536], w: Wai
 }
 
 // The picture and the part of its scanline that a line names.
-#[derive(Drop)]
+#[derive(Clone, Copy)]
 struct Scan {
     w: u32,
     h: u32,

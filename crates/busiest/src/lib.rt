@@ -6,7 +6,7 @@ use geom::inner::answers::{OK, RUN_LENGTH, TIMES_DESCEND};
 
 // The greatest count of a second and the place of its first event, with the answer 0; or 26 or 27, and both are 0.
 #[repr(C)]
-#[derive(Drop)]
+#[derive(Clone, Copy)]
 pub struct Second {
     pub answer: u32,
     pub count: usize,

@@ -18,14 +18,14 @@ pub mod update;
 
 // The first `len` areas.
 #[repr(C)]
-#[derive(Drop)]
+#[derive(Clone, Copy)]
 pub struct Displays {
     pub areas: [Rect16; 8],
     pub len: u8,
 }
 
 // The display that a position is on, or the closest one.
-#[derive(Drop)]
+#[derive(Clone, Copy)]
 pub enum Located {
     On(Rect),
     Closest(Rect),
@@ -33,13 +33,13 @@ pub enum Located {
 
 // What the adding of a display makes of them, and the answer.
 #[repr(C)]
-#[derive(Drop)]
+#[derive(Clone, Copy)]
 pub struct Added {
     pub displays: Displays,
     pub answer: u32,
 }
 
-#[derive(Drop)]
+#[derive(Clone, Copy)]
 pub enum AtPos {
     Display(Rect),
     Nowhere,

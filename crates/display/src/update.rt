@@ -18,7 +18,7 @@ const MIN_VISIBLE: u32 = 20;
 
 // Where sixteen windows go, by their numbers, and which of them take a display there.
 #[repr(C)]
-#[derive(Drop)]
+#[derive(Clone, Copy)]
 pub struct Moves {
     pub areas: [Rect16; 16],
     pub resizes: [bool; 16],

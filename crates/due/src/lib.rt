@@ -8,7 +8,7 @@ use window::ids::Place;
 // A redraw that goes through the places of the render order, lowest first: whether one was begun and is neither over nor dropped, the place of
 // its next window, and whether it is full. What the other two hold where none is on is not looked at.
 #[repr(C)]
-#[derive(Drop)]
+#[derive(Clone, Copy)]
 pub struct Walk {
     pub next: Place,
     pub on: bool,
@@ -16,7 +16,7 @@ pub struct Walk {
 }
 
 #[repr(C)]
-#[derive(Drop)]
+#[derive(Clone, Copy)]
 pub struct Due {
     pub walk: Walk,
     pub owed: bool,

@@ -11,21 +11,21 @@ use crate::inner::answers::{EDGE_TOO_LARGE, OK};
 pub mod inner;
 
 #[repr(C)]
-#[derive(Drop)]
+#[derive(Clone, Copy)]
 pub struct Pos {
     pub x: u32,
     pub y: u32,
 }
 
 #[repr(C)]
-#[derive(Drop)]
+#[derive(Clone, Copy)]
 pub struct Dims {
     pub w: u32,
     pub h: u32,
 }
 
 #[repr(C)]
-#[derive(Drop)]
+#[derive(Clone, Copy)]
 pub struct Rect {
     pub pos: Pos,
     pub dims: Dims,
@@ -33,7 +33,7 @@ pub struct Rect {
 
 // The answer, and how many rectangles were listed or bytes written: none where the call was refused.
 #[repr(C)]
-#[derive(Drop)]
+#[derive(Clone, Copy)]
 pub struct Listing {
     pub answer: u32,
     pub count: usize,
@@ -41,7 +41,7 @@ pub struct Listing {
 
 // A test's answer: 0, or 14 with `yes` false.
 #[repr(C)]
-#[derive(Drop)]
+#[derive(Clone, Copy)]
 pub struct Tested {
     pub answer: u32,
     pub yes: bool,
@@ -49,14 +49,14 @@ pub struct Tested {
 
 // A union's answer: 0, or 14 with (0,0,0,0).
 #[repr(C)]
-#[derive(Drop)]
+#[derive(Clone, Copy)]
 pub struct United {
     pub answer: u32,
     pub rect: Rect,
 }
 
 // `met` in specs/Bare.antt gives each case its answer and its rectangle.
-#[derive(Drop)]
+#[derive(Clone, Copy)]
 pub enum Intersection {
     Common(Rect),
     Apart,
@@ -65,7 +65,7 @@ pub enum Intersection {
 
 // Up to four rectangles; the places from `count` on hold (0,0,0,0).
 #[repr(C)]
-#[derive(Drop)]
+#[derive(Clone, Copy)]
 pub struct Pieces {
     pub count: usize,
     pub rects: [Rect; 4],
@@ -73,7 +73,7 @@ pub struct Pieces {
 
 // The answer 0, or 14 with no pieces.
 #[repr(C)]
-#[derive(Drop)]
+#[derive(Clone, Copy)]
 pub struct NotIntersect {
     pub answer: u32,
     pub pieces: Pieces,

@@ -18,14 +18,14 @@ mod rows;
 mod whole;
 
 // "a factor 0.25, 0.5, 1, 2 or 4 in f64, or fit"
-#[derive(Drop)]
+#[derive(Clone, Copy)]
 pub enum Zoom {
     Factor(f64),
     Fit,
 }
 
 // "A look has a corner x, y in f64 and a zoom"
-#[derive(Drop)]
+#[derive(Clone, Copy)]
 pub struct Look {
     pub x: f64,
     pub y: f64,
@@ -33,7 +33,7 @@ pub struct Look {
 }
 
 // The window's width and height, and the target's.
-#[derive(Drop)]
+#[derive(Clone, Copy)]
 pub struct Sizes {
     pub w: u64,
     pub h: u64,
@@ -42,7 +42,7 @@ pub struct Sizes {
 }
 
 // A look in whole quarters: its corner, and how far apart in the window two neighbours of the target are, which is 1 / factor.
-#[derive(Drop)]
+#[derive(Clone, Copy)]
 pub struct Steps {
     pub x: u64,
     pub y: u64,

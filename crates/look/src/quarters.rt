@@ -3,7 +3,7 @@ ghost use Rattle.std.specs.Prelude.{◌≡◌};
 ghost use Rattle.look.specs.Quarters.{quarters_of, step_of};
 
 // A number in whole quarters, or none.
-#[derive(Drop)]
+#[derive(Clone, Copy)]
 pub enum Quarters {
     Of(u64),
     None,

@@ -7,7 +7,7 @@ use crate::quarters::{Quarters, quarters_of, step_of};
 use crate::{Look, Sizes, Steps, Zoom};
 
 // What a look comes to, or 22.
-#[derive(Drop)]
+#[derive(Clone, Copy)]
 pub enum Whole {
     Steps(Steps),
     Wrong,

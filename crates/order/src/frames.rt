@@ -3,7 +3,7 @@ ghost use Rattle.order.specs.inner.Frames.{FirstFree};
 
 use geom::inner::rect16::Rect16;
 
-#[derive(Drop)]
+#[derive(Clone, Copy)]
 pub struct Frames {
     pub areas: [Rect16; 16],
     pub used: [bool; 16],

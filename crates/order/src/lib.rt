@@ -15,7 +15,7 @@ pub mod places;
 pub mod rects;
 
 // The place of a window in the render order, which a hidden window has not.
-#[derive(Drop)]
+#[derive(Clone, Copy)]
 pub enum RenderIdx {
     At(Place),
     Hidden,

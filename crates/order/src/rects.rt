@@ -12,7 +12,7 @@ use geom::inner::rect16::Rect16;
 use window::damage::Damage;
 use window::ids::{Place, WinId};
 
-#[derive(Drop)]
+#[derive(Clone, Copy)]
 pub struct Rects {
     pub numbers: [u32; 64],
     pub len: usize,

@@ -12,7 +12,7 @@ use libc::STDIN_FILENO;
 use script::Reading;
 
 // The player, and how far the line has been read that the next block goes on with.
-#[derive(Drop)]
+#[derive(Clone, Copy)]
 struct Played {
     player: Player,
     reading: Reading,

@@ -20,7 +20,7 @@ use windows::{Done, Session, Written};
 // `lent` pixels of the store are lent. The next redraw or portion is lent `screen` pixels where `is_set`, the next visible list, hits or
 // reader of a sheet `list` numbers where `has_list`, the next look `target` pixels where `has_target`, and the next sheet `sheet` bytes where
 // `has_sheet`. `waiting` says what of the output waits to be written; `lines` lines have been read.
-#[derive(Drop)]
+#[derive(Clone, Copy)]
 pub struct Player {
     pub session: Session,
     pub lent: usize,

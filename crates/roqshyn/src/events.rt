@@ -11,7 +11,7 @@ use windows::NextEvent;
 // What an event carries, by its kind; a field that the kind does not have is 0. Kinds: 0 no event, 1 Resize, 2 KeyDown, 3 KeyUp,
 // 4 KeyFire, 5 Text, 6 MouseMove, 7 MouseDown, 8 MouseClick, 9 MouseUp.
 #[repr(C)]
-#[derive(Drop)]
+#[derive(Clone, Copy)]
 pub struct RoqEvent {
     pub x: u32,
     pub y: u32,

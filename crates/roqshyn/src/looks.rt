@@ -9,7 +9,7 @@ use windows::Session;
 
 // A corner, a factor, and whether the look fits the window into the target, in which case corner and factor are not read.
 #[repr(C)]
-#[derive(Drop)]
+#[derive(Clone, Copy)]
 pub struct RoqLook {
     pub x: f64,
     pub y: f64,

@@ -40,7 +40,7 @@ pub extern "C" fn roq_set_scanline(
 
 // A part of lent pixels: `count` of them from `start` on. A part of none begins at 0.
 #[repr(C)]
-#[derive(Drop)]
+#[derive(Clone, Copy)]
 pub struct RoqPart {
     pub answer: u32,
     pub start: usize,

@@ -9,7 +9,7 @@ use geom::{Intersection, NotIntersect, Pos, Rect, Tested, United};
 
 // An intersection as numbers: `meets` is false and `rect` (0,0,0,0) where there is none.
 #[repr(C)]
-#[derive(Drop)]
+#[derive(Clone, Copy)]
 pub struct RoqIntersection {
     pub answer: u32,
     pub meets: bool,

@@ -26,7 +26,7 @@ use windows::inner::frames::frames;
 
 // The numbers of the windows in the render order, lowest first.
 #[repr(C)]
-#[derive(Drop)]
+#[derive(Clone, Copy)]
 pub struct Order {
     pub ids: [WinId; 16],
 }
@@ -34,7 +34,7 @@ pub struct Order {
 // What the turns need of the session beside the damage: where the windows lie and which are drawn, by their numbers;
 // the rectangles of those shown, lowest first; C; whether the redraw is full, and whether dimming is on.
 #[repr(C)]
-#[derive(Drop)]
+#[derive(Clone, Copy)]
 pub struct Layout {
     pub areas: [Rect16; 16],
     pub all: Rects,
@@ -46,7 +46,7 @@ pub struct Layout {
 
 // A redraw before its turns: how many there are, none where it is refused; the answer; and what the turns need.
 #[repr(C)]
-#[derive(Drop)]
+#[derive(Clone, Copy)]
 pub struct RedrawPlan {
     pub n: usize,
     pub answer: u32,
@@ -56,7 +56,7 @@ pub struct RedrawPlan {
 
 // A window after its turn: its mark, and how many entries its damage has.
 #[repr(C)]
-#[derive(Drop)]
+#[derive(Clone, Copy)]
 pub struct Cleared {
     pub marked: bool,
     pub len: u8,

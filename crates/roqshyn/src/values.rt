@@ -23,7 +23,7 @@ use windows::{Done, NewId, NextEvent, Session, Shared, Taker};
 
 // The answer and the id: 4,294,967,295 where the call was refused.
 #[repr(C)]
-#[derive(Drop)]
+#[derive(Clone, Copy)]
 pub struct RoqCreated {
     pub answer: u32,
     pub id: WinId,
@@ -31,7 +31,7 @@ pub struct RoqCreated {
 
 // The answer, the window that took the event, and the point that it was given there. Nobody is 4,294,967,295, at (0,0).
 #[repr(C)]
-#[derive(Drop)]
+#[derive(Clone, Copy)]
 pub struct RoqRouted {
     pub answer: u32,
     pub id: WinId,
@@ -41,7 +41,7 @@ pub struct RoqRouted {
 
 // The answer and the event, whose numbers are all 0 where the call was refused.
 #[repr(C)]
-#[derive(Drop)]
+#[derive(Clone, Copy)]
 pub struct RoqPopped {
     pub answer: u32,
     pub event: RoqEvent,
@@ -49,7 +49,7 @@ pub struct RoqPopped {
 
 // The answer and a display: the one that the position is on, where `on` is true, else the closest one.
 #[repr(C)]
-#[derive(Drop)]
+#[derive(Clone, Copy)]
 pub struct RoqDisplay {
     pub answer: u32,
     pub on: bool,
@@ -58,7 +58,7 @@ pub struct RoqDisplay {
 
 // What a create makes of one window, and what it hands back.
 #[repr(C)]
-#[derive(Drop)]
+#[derive(Clone, Copy)]
 pub struct Made {
     pub window: Window,
     pub shared: Shared,
@@ -67,7 +67,7 @@ pub struct Made {
 
 // What a pop makes of one window, field by field, and what it hands back.
 #[repr(C)]
-#[derive(Drop)]
+#[derive(Clone, Copy)]
 pub struct AfterPop {
     pub cursor: CursorPos,
     pub head: u8,

@@ -19,7 +19,7 @@ mod word;
 
 // How far a line has been read: the stage; the letters of the first word; once that has ended, the kind, how many numbers have ended,
 // and how many bytes a picture's name has.
-#[derive(Drop)]
+#[derive(Clone, Copy)]
 pub struct Reading {
     stage: u8,
     kind: u8,
@@ -29,7 +29,7 @@ pub struct Reading {
 }
 
 // A reading, and the place in a block that it has come to.
-#[derive(Drop)]
+#[derive(Clone, Copy)]
 pub struct Step {
     pub reading: Reading,
     pub at: usize,

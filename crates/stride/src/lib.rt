@@ -6,7 +6,7 @@ ghost use Rattle.winbuf.specs.Bare.{Hands, region_start};
 ghost use Rattle.stride.specs.Stride.{row_count, HandsRegion};
 
 // The pixels are its maker's.
-#[derive(Drop)]
+#[derive(Clone, Copy)]
 pub struct StrideBuf<'a> {
     pixels: &'a [u32],
     stride: usize,

@@ -13,7 +13,7 @@ use geom::Pos;
 use geom::inner::rect16::Rect16;
 use window::ids::WinId;
 
-#[derive(Drop)]
+#[derive(Clone, Copy)]
 pub enum Hit {
     Window(WinId),
     Nobody,

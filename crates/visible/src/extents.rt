@@ -19,7 +19,7 @@ use geom::{Rect, inner};
 // The sides of the smallest rectangle that holds some pixels: its left column and top row, and the column and the row
 // past it. Of no pixel the sides are turned round, so that the first one that joins gives all four.
 #[repr(C)]
-#[derive(Drop)]
+#[derive(Clone, Copy)]
 pub struct Extents {
     pub left: u32,
     pub top: u32,

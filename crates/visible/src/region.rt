@@ -9,7 +9,7 @@ use geom::{Rect, inner};
 use paint::area::draw_area;
 
 // What stays the same while a window is drawn: its place, where its pixels begin in the store, the size of the screen, and whether dimming is on.
-#[derive(Drop)]
+#[derive(Clone, Copy)]
 pub struct View {
     pub at: Rect,
     pub base: usize,

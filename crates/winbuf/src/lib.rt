@@ -16,7 +16,7 @@ pub mod inner;
 
 // Where a scanline lies in lent pixels: `count` of them from `start` on.
 #[repr(C)]
-#[derive(Drop)]
+#[derive(Clone, Copy)]
 pub struct ScanlineRange {
     pub answer: u32,
     pub start: usize,
@@ -25,7 +25,7 @@ pub struct ScanlineRange {
 
 // The answer of a call that writes pixels, and how many of them differ afterwards: none where it was refused. Document 02, N3.
 #[repr(C)]
-#[derive(Drop)]
+#[derive(Clone, Copy)]
 pub struct Altered {
     pub answer: u32,
     pub altered: usize,

@@ -6,7 +6,7 @@ ghost use Rattle.window.specs.Represents.{RepCursor};
 use crate::{CursorPos, Event};
 
 // The unread move, and the cursor once it is read.
-#[derive(Drop)]
+#[derive(Clone, Copy)]
 pub struct Moved {
     pub cursor: CursorPos,
     pub event: Event,

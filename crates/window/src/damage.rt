@@ -12,7 +12,7 @@ use geom::{Rect, inner};
 
 // The dirty entries: the first `len` areas. The right and bottom sides of a merged one are at most 65,534.
 #[repr(C)]
-#[derive(Drop)]
+#[derive(Clone, Copy)]
 pub struct Damage {
     pub areas: [Rect16; 16],
     pub len: u8,
@@ -20,7 +20,7 @@ pub struct Damage {
 
 // Damage after the search for an entry to merge with, and whether one was found.
 #[repr(C)]
-#[derive(Drop)]
+#[derive(Clone, Copy)]
 pub struct Merged {
     pub damage: Damage,
     pub done: bool,

@@ -3,7 +3,7 @@ ghost use Rattle.std.specs.Prelude.{◌≡◌, ◌&&◌, ◌+◌, ◌-◌, ◌<�
 
 // The number of a window, 0 to 15. Any other number is answered by 3.
 #[repr(C)]
-#[derive(Drop)]
+#[derive(Clone, Copy)]
 pub struct WinId(pub u32);
 
 // Question 3, of an id and whether the window of that number is in use.
@@ -18,7 +18,7 @@ pub fn in_use(id: WinId, used: bool) -> bool
 
 // A place in the render order, 0 for the lowest window.
 #[repr(C)]
-#[derive(Drop)]
+#[derive(Clone, Copy)]
 pub struct Place(pub usize);
 
 impl Place {

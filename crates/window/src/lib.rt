@@ -16,7 +16,7 @@ pub mod queue;
 pub mod slots;
 
 // What a window is told. A point is relative to the window.
-#[derive(Drop)]
+#[derive(Clone, Copy)]
 pub enum Event {
     Resize,
     KeyDown(u32),
@@ -49,7 +49,7 @@ pub enum Event {
 
 // The last point popped, the newest point, and whether that is still to be popped. A point is at most 32,767 each way.
 #[repr(C)]
-#[derive(Drop)]
+#[derive(Clone, Copy)]
 pub struct CursorPos {
     pub old_x: u16,
     pub old_y: u16,
@@ -60,7 +60,7 @@ pub struct CursorPos {
 
 // One of a session's 16 windows. The widest parts stand first, so that nothing is lost between them: 348 bytes.
 #[repr(C)]
-#[derive(Drop)]
+#[derive(Clone, Copy)]
 pub struct Window {
     pub queue: Queue,
     pub damage: Damage,

@@ -8,7 +8,7 @@ use crate::{Event, slots};
 
 // The events that wait, oldest first: the `len` slots from `head` on, round the end.
 #[repr(C)]
-#[derive(Drop)]
+#[derive(Clone, Copy)]
 pub struct Queue {
     pub slots: [Slot; 16],
     pub head: u8,
@@ -16,7 +16,7 @@ pub struct Queue {
 }
 
 // The oldest event, and the queue without it.
-#[derive(Drop)]
+#[derive(Clone, Copy)]
 pub struct Popped {
     pub queue: Queue,
     pub event: Event,

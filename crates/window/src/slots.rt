@@ -7,7 +7,7 @@ use crate::Event;
 
 // An event as plain numbers: a queue holds no enum, so that C and Rust can own the session that holds the queue.
 #[repr(C)]
-#[derive(Drop)]
+#[derive(Clone, Copy)]
 pub struct Slot {
     pub value: u32,
     pub x: u16,

@@ -35,7 +35,7 @@ mod waiting;
 // what is still to be drawn; and the layer of each window by its number, 0 or 1, which is not looked at where the number
 // is not in use.
 #[repr(C)]
-#[derive(Drop)]
+#[derive(Clone, Copy)]
 pub struct Shared {
     pub order: [WinId; 16],
     pub shown: usize,
@@ -49,7 +49,7 @@ pub struct Shared {
 }
 
 #[repr(C)]
-#[derive(Drop)]
+#[derive(Clone, Copy)]
 pub struct Session {
     pub windows: [Window; 16],
     pub shared: Shared,
@@ -58,7 +58,7 @@ pub struct Session {
 
 // What a call makes of one window and of what the windows share, and the answer.
 #[repr(C)]
-#[derive(Drop)]
+#[derive(Clone, Copy)]
 pub struct Changed {
     pub window: Window,
     pub shared: Shared,
@@ -67,7 +67,7 @@ pub struct Changed {
 
 // What a call makes of what the windows share, and the answer.
 #[repr(C)]
-#[derive(Drop)]
+#[derive(Clone, Copy)]
 pub struct SharedDone {
     pub shared: Shared,
     pub answer: u32,
@@ -75,7 +75,7 @@ pub struct SharedDone {
 
 // What a call hands back: the session and the answer.
 #[repr(C)]
-#[derive(Drop)]
+#[derive(Clone, Copy)]
 pub struct Done {
     pub session: Session,
     pub answer: u32,
@@ -83,7 +83,7 @@ pub struct Done {
 
 // What a fill or a blit hands back: the session, the answer, and how many pixels of the store differ, none where the call was refused.
 #[repr(C)]
-#[derive(Drop)]
+#[derive(Clone, Copy)]
 pub struct Written {
     pub session: Session,
     pub answer: u32,
@@ -91,7 +91,7 @@ pub struct Written {
 }
 
 // An id asked for, which is absent where the call was refused.
-#[derive(Drop)]
+#[derive(Clone, Copy)]
 pub enum NewId {
     Id(WinId),
     Absent,
@@ -99,14 +99,14 @@ pub enum NewId {
 
 // A place for the next window, and the number that it would have.
 #[repr(C)]
-#[derive(Drop)]
+#[derive(Clone, Copy)]
 pub struct FreeSlot {
     pub at: usize,
     pub id: WinId,
 }
 
 // What a create makes of one window, and the id.
-#[derive(Drop)]
+#[derive(Clone, Copy)]
 pub struct CreatedOne {
     pub window: Window,
     pub shared: Shared,
@@ -114,7 +114,7 @@ pub struct CreatedOne {
     pub id: NewId,
 }
 
-#[derive(Drop)]
+#[derive(Clone, Copy)]
 pub struct Created {
     pub session: Session,
     pub answer: u32,
@@ -122,13 +122,13 @@ pub struct Created {
 }
 
 // An event asked for, which is absent where the call was refused.
-#[derive(Drop)]
+#[derive(Clone, Copy)]
 pub enum NextEvent {
     Event(Event),
     Absent,
 }
 
-#[derive(Drop)]
+#[derive(Clone, Copy)]
 pub struct Popped {
     pub session: Session,
     pub answer: u32,
@@ -137,14 +137,14 @@ pub struct Popped {
 
 // Who took an event, and the point that it was given there, (0,0) for keys and Text. Nobody took a refused event or a
 // Resize.
-#[derive(Drop)]
+#[derive(Clone, Copy)]
 pub enum Taker {
     Window { id: WinId, x: u32, y: u32 },
     Nobody,
 }
 
 // What a route that tells who took the event hands back.
-#[derive(Drop)]
+#[derive(Clone, Copy)]
 pub struct Routed {
     pub session: Session,
     pub answer: u32,
@@ -153,7 +153,7 @@ pub struct Routed {
 
 // The share of a window that is in view, as whole percent and what is left over of w × h; both are 0 where the answer is 3 or 24.
 #[repr(C)]
-#[derive(Drop)]
+#[derive(Clone, Copy)]
 pub struct InView {
     pub answer: u32,
     pub percent: u32,
@@ -161,7 +161,7 @@ pub struct InView {
 }
 
 // The display that a position is on, or the closest one, which is (0,0,0,0) where the answer is 5.
-#[derive(Drop)]
+#[derive(Clone, Copy)]
 pub struct ForPos {
     pub answer: u32,
     pub located: Located,
@@ -169,7 +169,7 @@ pub struct ForPos {
 
 // The position and size of a window: (0,0,0,0) where the answer is 3.
 #[repr(C)]
-#[derive(Drop)]
+#[derive(Clone, Copy)]
 pub struct Placed {
     pub answer: u32,
     pub rect: Rect,
@@ -177,7 +177,7 @@ pub struct Placed {
 
 // Where a call would write: the smallest rectangle, if one is due, else (0,0,0,0).
 #[repr(C)]
-#[derive(Drop)]
+#[derive(Clone, Copy)]
 pub struct Stale {
     pub answer: u32,
     pub due: bool,
@@ -187,7 +187,7 @@ pub struct Stale {
 // How a window stands: where it lies, whether it is shown and at which place of the render order, its layer, whether it
 // is maximised and marked, how many events are queued, and whether a move is unread. All are 0 where the answer is 3.
 #[repr(C)]
-#[derive(Drop)]
+#[derive(Clone, Copy)]
 pub struct WindowState {
     pub answer: u32,
     pub rect: Rect,
@@ -204,7 +204,7 @@ pub struct WindowState {
 // `NOBODY` where there is none, whether dimming is on, whether a full redraw is owed, whether a walk is on, whether it
 // is full and how many portions are left of it, and how many displays there are.
 #[repr(C)]
-#[derive(Drop)]
+#[derive(Clone, Copy)]
 pub struct SessionState {
     pub c: u32,
     pub shown: u32,

@@ -31,7 +31,7 @@ use window::ids::Place;
 
 // The windows that a call goes through: those of the render order from one place on to before another; and whether it
 // draws them in full.
-#[derive(Drop)]
+#[derive(Clone, Copy)]
 pub struct Course {
     pub from: usize,
     pub to: usize,
@@ -134,7 +134,7 @@ fn join_window(
 }
 
 // Which windows are marked, and their damage, by their numbers.
-#[derive(Drop)]
+#[derive(Clone, Copy)]
 struct Dirty {
     marked: [bool; 16],
     damage: [Damage; 16],

@@ -17,7 +17,7 @@ use window::Window;
 use window::ids::{WinId, in_use};
 
 // What a window tells of itself.
-#[derive(Drop)]
+#[derive(Clone, Copy)]
 struct Fields {
     used: bool,
     at: Rect16,

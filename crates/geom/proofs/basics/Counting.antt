@@ -58,5 +58,6 @@ total_most f m h (t ∷ ts) = omega (arith, h t, total_most f m h ts)
 
 -- a sum is at least each of its terms
 pub total_term : (f : ℕ → ℕ) (t : ℕ) (ts : List ℕ) → Among t ts → f t ≤ total f ts
+total_term f t [] h = elim h [ ]
 total_term f t (u ∷ us) (inl e) = rw e (omega arith)
 total_term f t (u ∷ us) (inr h) = omega (arith, total_term f t us h)

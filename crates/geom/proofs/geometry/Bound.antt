@@ -2,7 +2,7 @@
 -- and each begins in the row of a's top or of an edge of one taken away.
 use Prim.Native.Nat.{ℕ, suc, ◌+◌, ◌*◌, ◌≤◌, ◌<◌}
 use mathlib.Core.Bool.{Bool, true, ◌&&◌}
-use mathlib.Core.Path.{◌≡◌, refl}
+use mathlib.Core.Path.{◌≡◌, refl, sym, subst}
 use mathlib.Core.List.{List, [], ◌∷◌}
 use mathlib.Core.Logic.{◌⊎◌, inl, inr, ⊎_elim}
 use native.Mathlib.Omega.{arith}
@@ -134,7 +134,7 @@ outside_all_starts rs (b ∷ bs) ts h =
     outside_all_starts (outside rs b) bs (top b ∷ bottom b ∷ ts) (outside_all_lem (Starts ts) (Starts (top b ∷ bottom b ∷ ts)) b step rs h)
   where
     step : (e p : Rect) → Starts ts e → Piece e b p → Starts (top b ∷ bottom b ∷ ts) p
-    step e p s k = (⊎_elim (λ q. inr (inr (rw q s.0))) (⊎_elim inl (λ q. inr (inl q))) k.from, k.tall s.1)
+    step e p s k = (⊎_elim (λ q. inr (inr (subst (λ t. Among t ts) (sym q) s.0))) (⊎_elim inl (λ q. inr (inl q))) k.from, k.tall s.1)
 
 -- each entry is counted in the row in which it begins
 starts_total : (rs : List Rect) (ts : List ℕ) → All (Starts ts) rs → length rs ≤ total (λ t. count (crosses t) rs) ts

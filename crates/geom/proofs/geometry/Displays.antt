@@ -228,7 +228,7 @@ module _ (P : Rect → Type 0) (px py : ℕ) where
   closest_in : (best : Rect) (ds : List Rect) → P best → All P ds → P (closest_of best ds px py)
   unfolding closest_of
   closest_in best [] p h = p
-  closest_in best (d ∷ ds) p h = closest_in _ ds (on_cond P (nearer d best px py) d best (λ e. h.0) (λ e. p)) h.1
+  closest_in best (d ∷ ds) p h = closest_in (cond (nearer d best px py) d best) ds (on_cond P (nearer d best px py) d best (λ e. h.0) (λ e. p)) h.1
 
   to_in : (ds : List Rect) → P (rect 0 0 0 0) → All P ds → P (closest_to ds px py)
   to_in [] z h = z

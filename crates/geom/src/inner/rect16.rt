@@ -6,7 +6,7 @@ ghost use Rattle.geom.specs.Rect16.{rect_of};
 use crate::{Dims, Pos, Rect};
 
 #[repr(C)]
-#[derive(Drop)]
+#[derive(Clone, Copy)]
 pub struct Rect16 {
     pub x: u16,
     pub y: u16,

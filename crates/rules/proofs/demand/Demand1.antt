@@ -47,33 +47,33 @@ use Rattle.rules.specs.Demand1.{questions, Unchanged, Answers, Query, Visible, S
 use Rattle.rules.proofs.group.Invariant.{Ok}
 use Rattle.rules.proofs.group.Kept.{ok_after}
 use Rattle.rules.proofs.group.Refused.{refused_group, refused_store, refused_lent, refused_nothing}
-use Rattle.rules.proofs.demand.Asked.{in_use, any_unused_lem, waits_pop, routed}
+use Rattle.rules.proofs.demand.Asked.{in_use_lem, any_unused_lem, waits_pop, routed}
 
 -- Calls of the list -------------------------------------------------------------------------------------------------
 
 answers : (g : Group) → Ok g → (k : Call) → (does g k).answer ≡ asked (questions g k)
 unfolding does questions Group.create Order.show Order.set_layer Order.hide Order.drop_window Group.mark Events.pop Group.move Store.resize Store.fill Store.blit Draw.redraw Walk.begin Walk.portion Dimming.dim Displays.add_display Displays.maximise Displays.update_dims Repair.raise Dragging.drag
 answers g ok Create = rw (any_unused_lem g.windows 0)
-answers g ok (Show id) = rw (in_use g ok id)
-answers g ok (Hide id) = rw (in_use g ok id)
-answers g ok (Drop id) = rw (in_use g ok id)
-answers g ok (Mark id) = rw (in_use g ok id)
-answers g ok (Pop id) = rw (in_use g ok id, waits_pop (Group.win g id))
-answers g ok (Move id x y) = rw (in_use g ok id)
-answers g ok (Resize id w h s) = rw (in_use g ok id)
-answers g ok (Fill id a v s) = rw (in_use g ok id)
-answers g ok (Blit id a d stride s) = rw (in_use g ok id)
+answers g ok (Show id) = rw (in_use_lem g ok id)
+answers g ok (Hide id) = rw (in_use_lem g ok id)
+answers g ok (Drop id) = rw (in_use_lem g ok id)
+answers g ok (Mark id) = rw (in_use_lem g ok id)
+answers g ok (Pop id) = rw (in_use_lem g ok id, waits_pop (Group.win g id))
+answers g ok (Move id x y) = rw (in_use_lem g ok id)
+answers g ok (Resize id w h s) = rw (in_use_lem g ok id)
+answers g ok (Fill id a v s) = rw (in_use_lem g ok id)
+answers g ok (Blit id a d stride s) = rw (in_use_lem g ok id)
 answers g ok (Route e) = routed g e
 answers g ok (Redraw forced w h s screen) = refl
 answers g ok (Begin forced) = refl
 answers g ok (Portion w h s screen) = refl
 answers g ok (Dim on) = refl
-answers g ok (SetLayer id l) = rw (in_use g ok id)
+answers g ok (SetLayer id l) = rw (in_use_lem g ok id)
 answers g ok (AddDisplay r) = refl
-answers g ok (Maximise id s) = rw (in_use g ok id)
+answers g ok (Maximise id s) = rw (in_use_lem g ok id)
 answers g ok (UpdateDims s) = refl
-answers g ok (Raise id) = rw (in_use g ok id)
-answers g ok (Drag id x y) = rw (in_use g ok id)
+answers g ok (Raise id) = rw (in_use_lem g ok id)
+answers g ok (Drag id x y) = rw (in_use_lem g ok id)
 
 calls_answer : (g : Group) → Ok g → (k : Call) → Answers g k
 calls_answer g ok k =
@@ -107,17 +107,17 @@ window_refused g id =
 
 query_answers : (g : Group) → Ok g → (q : Query) → (replies g q).answer ≡ asked (query_questions g q)
 unfolding replies query_questions Visibles.visible_list Shares.share Sheets.sheet Points.hits Looks.look DisplayAt.display_at Stales.stale
-query_answers g ok (Visible id list) = rw (in_use g ok id)
-query_answers g ok (Share id) = rw (in_use g ok id)
-query_answers g ok (Sheet id bytes) = rw (in_use g ok id)
+query_answers g ok (Visible id list) = rw (in_use_lem g ok id)
+query_answers g ok (Share id) = rw (in_use_lem g ok id)
+query_answers g ok (Sheet id bytes) = rw (in_use_lem g ok id)
 query_answers g ok (Hits points list) = refl
-query_answers g ok (Look id l s target tw th) = rw (in_use g ok id)
+query_answers g ok (Look id l s target tw th) = rw (in_use_lem g ok id)
 query_answers g ok (GetDisplayForPos px py) = refl
-query_answers g ok (RectOf id) = rw (in_use g ok id)
+query_answers g ok (RectOf id) = rw (in_use_lem g ok id)
 query_answers g ok Focus = refl
 query_answers g ok (Stale which area) = refl
 query_answers g ok Waiting = refl
-query_answers g ok (Window id) = window_answers g id ∙ rw (in_use g ok id)
+query_answers g ok (Window id) = window_answers g id ∙ rw (in_use_lem g ok id)
 query_answers g ok Session = refl
 
 query_refused : (g : Group) (q : Query) → eqb (replies g q).answer 0 ≡ false → replies g q ≡ refusal q (replies g q).answer

@@ -46,12 +46,13 @@ row_in_lem : (rs : List Row) (i : ℕ) → every in_order i rs ≡ true → (k :
 row_in_lem [] i t k h = absurd (omega arith)
 row_in_lem (r ∷ rs) i t zero h =
     let e : r.kind ≡ i + Kind.start = eqb-true r.kind (i + Kind.start) (fst (in_order i r) (every in_order (suc i) rs) t) in
-    rw (eq-eqb (i + 0 + Kind.start) r.kind (omega arith))
+    ap (λ (b : Bool). cond b (some r) (row_in (i + 0 + Kind.start) rs)) (eq-eqb (i + 0 + Kind.start) r.kind (omega arith))
 row_in_lem (r ∷ rs) i t (suc k) h =
     let e : r.kind ≡ i + Kind.start = eqb-true r.kind (i + Kind.start) (fst (in_order i r) (every in_order (suc i) rs) t) in
     let s : i + suc k ≡ suc i + k = omega arith in
-    rw (ne_eqb (i + suc k + Kind.start) r.kind (λ f. omega arith), s)
-    (row_in_lem rs (suc i) (snd (in_order i r) (every in_order (suc i) rs) t) k (omega arith))
+    ap (λ (b : Bool). cond b (some r) (row_in (i + suc k + Kind.start) rs)) (ne_eqb (i + suc k + Kind.start) r.kind (λ f. omega arith))
+    ∙ ap (λ (n : ℕ). row_in (n + Kind.start) rs) s
+    ∙ row_in_lem rs (suc i) (snd (in_order i r) (every in_order (suc i) rs) t) k (omega arith)
 
 row_out : (rs : List Row) (i : ℕ) → every in_order i rs ≡ true → (k : ℕ) → (i + Kind.start ≤ k → i + Kind.start + length rs ≤ k) → row_in k rs ≡ none
 row_out [] i t k h = refl

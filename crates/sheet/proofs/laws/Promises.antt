@@ -31,6 +31,7 @@ use Rattle.sheet.proofs.laws.Unique.{unique}
 -- a band's rectangles have its pixels
 band_to : (t b : ℕ) (is : List Span) (c r : ℕ) → Has (band_rects t b is) c r → (t ≤ r) × (r < b) × Cols is c
 unfolding band_rects
+band_to t b [] c r x' = elim x' [ ]
 band_to t b (i ∷ is) c r (inl h) = (h.north, omega (arith, h.north, h.south), inl (record { west = h.west; east = omega (arith, h.west, h.east) }))
 band_to t b (i ∷ is) c r (inr h) =
     let k = band_to t b is c r h in
@@ -38,6 +39,7 @@ band_to t b (i ∷ is) c r (inr h) =
 
 band_from : (t b : ℕ) (is : List Span) (c r : ℕ) → t ≤ r → r < b → Cols is c → Has (band_rects t b is) c r
 unfolding band_rects
+band_from t b [] c r n s x3 = elim x3 [ ]
 band_from t b (i ∷ is) c r n s (inl h) = inl (record { west = h.west; east = omega (arith, h.west, h.east); north = n; south = omega arith })
 band_from t b (i ∷ is) c r n s (inr h) = inr (band_from t b is c r n s h)
 
@@ -47,6 +49,7 @@ append_to (x ∷ xs) ys c r (inl h) = inl (inl h)
 append_to (x ∷ xs) ys c r (inr h) = ⊎_elim (λ k. inl (inr k)) (λ k. inr k) (append_to xs ys c r h)
 
 append_left : (xs ys : List Rect) (c r : ℕ) → Has xs c r → Has (xs ++ ys) c r
+append_left [] ys c r x' = elim x' [ ]
 append_left (x ∷ xs) ys c r (inl h) = inl h
 append_left (x ∷ xs) ys c r (inr h) = inr (append_left xs ys c r h)
 
@@ -63,6 +66,7 @@ rects_to (b ∷ s) c r h =
 
 rects_from : (s : Sheet) (c r : ℕ) → Pixels s c r → Has (rects s) c r
 unfolding rects
+rects_from [] c r x' = elim x' [ ]
 rects_from (b ∷ s) c r (inl h) = append_left (band_rects b.top b.bottom b.spans) (rects s) c r (band_from b.top b.bottom b.spans c r h.north h.south h.cols)
 rects_from (b ∷ s) c r (inr h) = append_right (band_rects b.top b.bottom b.spans) (rects s) c r (rects_from s c r h)
 

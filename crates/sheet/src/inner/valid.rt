@@ -75,7 +75,7 @@ fn band_keeps(bytes: &[u8], at: usize, end: usize, p: usize, m: usize) -> bool
     true
 }
 
-#[derive(Drop)]
+#[derive(Clone, Copy)]
 pub struct Counted {
     pub ok: bool,
     pub count: usize,

@@ -63,7 +63,7 @@ module _ (lent : Bor (List ℕ)) (stride x y w h : ℕ) (r : Bor (List ℕ)) whe
 
   pub region_found : small_area x y w h ≡ true → region_fits (length lent.now) stride x y w h ≡ true
       → r.now ≡ part (region_start stride x y) ((h - 1) * stride + w) lent.now
-      → r.ptr ≡ (lent.ptr.0, region_start stride x y * 4 + lent.ptr.1)
+      → r.ref_ptr ≡ (lent.ref_ptr.0, region_start stride x y * 4 + lent.ref_ptr.1)
       → Hands (region lent.now stride x y w h) (region_start stride x y) lent 0 r
   unfolding region
   region_found a b e m = record { answer = simp (a, b); pixels = simp (a, b) e; memory = λ l. m }

@@ -6,7 +6,7 @@ ghost use Rattle.winbuf.specs.inner.Places.{line_place};
 use super::least;
 use geom::inner::small::MOST;
 
-#[derive(Drop)]
+#[derive(Clone, Copy)]
 pub enum Place {
     // A number above 32,767.
     Large,

@@ -32,7 +32,7 @@ use window::Window;
 use window::ids::{Place, WinId, in_use};
 
 // Whose turns there are, in the first n places; whether windows are repaired, and whether a full redraw is owed.
-#[derive(Drop)]
+#[derive(Clone, Copy)]
 pub struct Turns {
     pub n: usize,
     pub order: [WinId; 16],
@@ -43,7 +43,7 @@ pub struct Turns {
 // What the turns need: whose they are; the flags of N2 after the drag; the window, its rectangle before the drag and
 // its new position; whether windows are repaired, and whether a full redraw is owed.
 #[repr(C)]
-#[derive(Drop)]
+#[derive(Clone, Copy)]
 pub struct Dragging {
     pub order: [WinId; 16],
     pub maximised: [bool; 16],
@@ -57,7 +57,7 @@ pub struct Dragging {
 
 // A drag before its turns: how many there are, none where it is refused; the answer; and what the turns need.
 #[repr(C)]
-#[derive(Drop)]
+#[derive(Clone, Copy)]
 pub struct DragPlan {
     pub n: usize,
     pub answer: u32,

@@ -23,7 +23,7 @@ use window::{CursorPos, Event};
 
 // Where an event goes: to no window, with this answer, to the focus, or to a point of the screen: there to window
 // `grab`, if it is one and has pixels, else to the topmost window.
-#[derive(Drop)]
+#[derive(Clone, Copy)]
 pub enum Target {
     Nobody { answer: u32 },
     Focus,
@@ -31,7 +31,7 @@ pub enum Target {
 }
 
 // What a window is told, if `told`, and which one is remembered once it took the event; else the answer.
-#[derive(Drop)]
+#[derive(Clone, Copy)]
 pub struct Message {
     pub told: bool,
     pub grab: WinId,
@@ -40,7 +40,7 @@ pub struct Message {
 }
 
 // The place of the window that an event goes to, and what it is told.
-#[derive(Drop)]
+#[derive(Clone, Copy)]
 pub struct Aim {
     pub at: usize,
     pub what: Message,
@@ -48,7 +48,7 @@ pub struct Aim {
 
 // What a message makes of a window and of what is shared: the slot at the back of the queue, the cursor, the number of
 // events that wait, and who is remembered. The answer is 12 where the queue was full.
-#[derive(Drop)]
+#[derive(Clone, Copy)]
 pub struct Told {
     pub slot: Slot,
     pub cursor: CursorPos,
@@ -59,7 +59,7 @@ pub struct Told {
 
 // What a pop makes of a window: its cursor, the place of its oldest event, and how many wait. The event is absent where
 // the call was refused.
-#[derive(Drop)]
+#[derive(Clone, Copy)]
 pub struct Front {
     pub cursor: CursorPos,
     pub head: u8,

@@ -11,7 +11,7 @@ use window::ids::{WinId, in_use};
 
 // An id is not in use, or its window is hidden or shown. The rectangle is (0,0,0,0) where the id is not in use. The
 // rectangles above are those of the higher windows, lowest first; above a window that is not shown there are none.
-#[derive(Drop)]
+#[derive(Clone, Copy)]
 pub struct Found {
     pub used: bool,
     pub shown: bool,

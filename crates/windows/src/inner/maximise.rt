@@ -21,7 +21,7 @@ use window::ids::{WinId, in_use};
 
 // The window that a call of maximise is for, the display that it takes, and the answer.
 #[repr(C)]
-#[derive(Drop)]
+#[derive(Clone, Copy)]
 pub struct MaximisePlan {
     pub id: WinId,
     pub display: Rect16,
@@ -30,7 +30,7 @@ pub struct MaximisePlan {
 
 // The place of that window, and what it takes.
 #[repr(C)]
-#[derive(Drop)]
+#[derive(Clone, Copy)]
 pub struct MaximiseAt {
     pub at: usize,
     pub what: MaximisePlan,

@@ -18,14 +18,14 @@ use order::rects::Rects;
 use window::Window;
 
 // The next window of a walk: where its pixels begin in the store, and the rectangles of the windows above it.
-#[derive(Drop)]
+#[derive(Clone, Copy)]
 pub struct Next {
     pub base: usize,
     pub above: Rects,
 }
 
 // Whose turn it is: the place of the window, and what is lent for it.
-#[derive(Drop)]
+#[derive(Clone, Copy)]
 pub struct Turn {
     pub at: usize,
     pub next: Next,

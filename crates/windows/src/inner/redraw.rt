@@ -23,7 +23,7 @@ use window::ids::Place;
 
 // What was drawn: in full or not; and the answer.
 #[repr(C)]
-#[derive(Drop)]
+#[derive(Clone, Copy)]
 pub struct Drawn {
     pub full: bool,
     pub answer: u32,

@@ -34,7 +34,7 @@ use window::{Event, Window};
 
 // A window's damage after a fill or a blit; the answer, and how many pixels of the store differ.
 #[repr(C)]
-#[derive(Drop)]
+#[derive(Clone, Copy)]
 pub struct Painted {
     pub damage: Damage,
     pub result: Altered,

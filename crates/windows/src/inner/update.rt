@@ -22,7 +22,7 @@ use window::ids::WinId;
 // The windows that go, by number, in the first places of the order; and where all sixteen go. A window goes that takes
 // a display or whose rectangle changes.
 #[repr(C)]
-#[derive(Drop)]
+#[derive(Clone, Copy)]
 pub struct Moving {
     pub order: [WinId; 16],
     pub moves: Moves,
@@ -30,7 +30,7 @@ pub struct Moving {
 
 // `update_dims` before its turns: how many windows go, none where it is refused; the answer; and what the turns need.
 #[repr(C)]
-#[derive(Drop)]
+#[derive(Clone, Copy)]
 pub struct DimsPlan {
     pub n: usize,
     pub answer: u32,

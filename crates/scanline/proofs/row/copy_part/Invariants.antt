@@ -1,0 +1,18 @@
+-- `copy_part`: what is left to be copied, from here, gives the same.
+use mathlib.Core.Path.{◌≡◌, refl, sym, ap, ◌∙◌}
+use Prim.Native.Nat.{ℕ, ◌+◌, ◌-◌, ◌≤◌, ◌<◌}
+use native.Mathlib.Omega.{arith}
+use native.Mathlib.Nat.{sub-zero, add-zero}
+use lib.ListN.{length, length-set}
+use lib.Seq.{sets}
+use Rattle.scanline.specs.Pixels.{part}
+use Rattle.scanline.proofs.rows.Columns.{copy_turn}
+use Rattle.scanline.proofs.row.copy_part.Given as goal
+
+
+abbrev pub invariant-loop-i : goal.invariant-loop-i
+invariant-loop-i l =
+    (sets l.px (l.at + l.i) (part (l.from + l.i) (l.n - l.i) l.src) ≡ sets l.initial.px l.at (part l.from l.n l.src)) × (length l.px ≡ length l.initial.px) × (l.i ≤ l.n)
+
+abbrev pub decreases-loop-i : goal.decreases-loop-i
+decreases-loop-i l = l.n - l.i

@@ -1,0 +1,18 @@
+-- `move_eight`: the buffer keeps the eight, whatever the second copy writes over.
+use mathlib.Core.Path.{refl, ap, ◌∙◌}
+use native.Mathlib.Omega.{arith}
+use lib.ListN.{replicate}
+use lib.Seq.{sets}
+use Rattle.scanline.specs.Pixels.{part}
+use Rattle.scanline.proofs.rows.Runs.{full_part}
+use Rattle.scanline.proofs.rows.Move.{kept_is}
+use borrow.Author.Rules.{rules}
+use Rattle.scanline.proofs.shift.move_eight.Goals as goal
+
+pub returns : goal.returns
+returns c =
+    let a = c.args in
+    let k = c.copy_part in
+    c.copy_part-2.ensures
+    ∙ ap (λ t. sets a.px.now a.dst t)
+    (kept_is (replicate 8 0) (part a.src 8 a.px.now) k.new.px 8 refl (full_part a.px.now a.src 8 (omega arith)) k.ensures)
