@@ -59,7 +59,7 @@ pub fn damaged(old: Damage, size: Rect16, area: Rect) -> Damage
 
 // No pixel was written.
 fn unpainted(damage: Damage, answer: u32) -> Painted
-    ensures* { λ r. ⌜ r ≡ record { damage = damage; result = record { answer = answer; altered = 0 } } ⌝ }
+    ensures { result ≡ record { damage = damage; result = record { answer = answer; altered = 0 } } }
 {
     let result = Altered { answer, altered: 0 };
     Painted { damage, result }
