@@ -1,6 +1,8 @@
 // The render order: windows by their numbers, lowest first, in the first places of an array of sixteen.
 //
 // The functions here are called by our own crates. Each `requires` is part of what a session keeps of its order.
+#![tactic(auto)]
+
 ghost use Rattle.std.specs.Prelude.{◌≡◌, ℕ, ◌-◌, ◌≤◌, ◌<◌, cond, eqb, get_or};
 ghost use Rattle.window.specs.inner.Ids.{no_id};
 ghost use Rattle.order.specs.Ids.{ids};
