@@ -25,6 +25,7 @@ impl CursorPos {
         }
     }
 
+    #[tactic(auto, unfolding(crate::specs::Window::cursor_to))]
     pub fn update(mut self, x: u32, y: u32) -> CursorPos
         requires { RepCursor self × (x ≤ 32767) × (y ≤ 32767) }
         ensures { (result ≡ cursor_to self x y) × RepCursor result }

@@ -98,6 +98,7 @@ fn merges_down(e: Rect, a: Rect) -> bool
     false
 }
 
+#[tactic(auto, unfolding(crate::specs::Window::merges))]
 fn merges(e: Rect, a: Rect) -> bool
     requires { Fits e × Fits a }
     ensures { result ≡ rule.merges e a }

@@ -1,6 +1,8 @@
 // One window by value: its place, its damage, its queue of events and its cursor. Translated from window.rs and, for `CursorPos`, mod.rs.
 //
 // The functions here are called by our own crates. Each `requires` is part of what a session keeps of its windows (specs/Represents.antt).
+#![tactic(auto)]
+
 ghost use Rattle.std.specs.Prelude.{◌≡◌, false};
 ghost use Rattle.window.specs.Window.{new_win};
 ghost use Rattle.window.specs.Represents.{win_of, RepWindow};

@@ -73,6 +73,7 @@ pub fn front(head: u8) -> usize
 }
 
 // The place that the next event takes; behind one event alone, the front once that is popped.
+#[tactic(auto, unfolding(crate::specs::Represents::place))]
 pub fn back(head: u8, len: u8) -> usize
     requires { (head < 16) × (len ≤ 16) }
     ensures { (result ≡ place head len) × (result < 16) }

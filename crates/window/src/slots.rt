@@ -46,6 +46,7 @@ fn press(kind: u8, x: u32, y: u32, button: u8, count: u8) -> Slot
 }
 
 // A move and a KeyFire are never queued, so their slots are never read.
+#[tactic(auto, unfolding(crate::specs::inner::Changes::slot_of))]
 pub fn slot_of(e: Event) -> Slot
     requires { Queued e }
     ensures { result ≡ slot_of e }
@@ -73,6 +74,7 @@ pub fn slot_of(e: Event) -> Slot
     }
 }
 
+#[tactic(auto, unfolding(crate::specs::Represents::event_of))]
 pub fn event_of(s: Slot) -> Event
     ensures { result ≡ event_of s }
 {
