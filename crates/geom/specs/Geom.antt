@@ -1,5 +1,5 @@
 -- Document 01, "Rectangles": what each call on one or two rectangles gives. A rectangle is written (x,y,w,h).
-use Rattle.std.specs.Prelude.{ℕ, ◌+◌, ◌-◌, min, max, Bool, true, false, cond, ◌&&◌, ◌||◌, List, [], ◌∷◌, ◌++◌, leb, ltb, eqb}
+use Rattle.std.specs.Prelude.{ℕ, ◌+◌, ◌-◌, min, max, Bool, cond, ◌&&◌, ◌||◌, List, [], ◌∷◌, ◌++◌, leb, ltb, eqb}
 use Rattle.std.proofs.Math.Option.{Option, none, some}
 use Rattle.geom.specs.Questions.{small}
 use Rattle.geom.specs.declared.Rect.{Rect}

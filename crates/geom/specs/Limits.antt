@@ -1,5 +1,5 @@
 -- Question 14 at its limit: 4,294,967,295 passes, and one more gives 14 with the values that document 01 names.
-use Rattle.std.specs.Prelude.{ℕ, ◌≡◌, refl, true, false, []}
+use Rattle.std.specs.Prelude.{◌≡◌, refl, true, false, []}
 use Rattle.std.proofs.Math.Option.{some, none}
 use Rattle.geom.specs.declared.Rect.{Rect}
 use Rattle.geom.specs.Geom as Geom

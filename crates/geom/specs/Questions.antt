@@ -1,5 +1,5 @@
 -- Document 01, "The questions, in order": what a call answers.
-use Rattle.std.specs.Prelude.{ℕ, Bool, true, false, cond, List, [], ◌∷◌, leb}
+use Rattle.std.specs.Prelude.{ℕ, Bool, cond, List, [], ◌∷◌, leb}
 
 -- a question's number, and whether the answer is yes
 pub record Question : Type 0 where

@@ -2,6 +2,8 @@
 //
 // The calls here take any numbers and ask question 14. `inner` has the same without that question, for our own crates, whose coordinates are
 // known to fit.
+#![tactic(auto)]
+
 ghost use Rattle.std.specs.Prelude.{◌≡◌};
 ghost use Rattle.geom.specs.Geom.{rect};
 ghost use Rattle.geom.specs.Bare.{met, bare_contains, bare_contains_rect, bare_within, bare_intersect, bare_union, BareNotIntersect};

@@ -14,7 +14,7 @@ use Rattle.geom.specs.declared.Intersection.{Intersection}
 use Rattle.geom.specs.declared.Intersection.TheVariants.{Common, Apart, Refused}
 use Rattle.geom.specs.Geom.{rect, contains, contains_rect, meets, common, intersect, union, pieces}
 use Rattle.geom.specs.inner.Fits.{Fits}
-use Rattle.geom.specs.Bare.{Holds, both_fit, tested, bare_contains, bare_contains_rect, bare_union, Met, met, bare_intersect, bare_pieces, BareNotIntersect}
+use Rattle.geom.specs.Bare.{Holds, both_fit, tested, bare_contains, bare_contains_rect, bare_union, Met, met, bare_intersect, BareNotIntersect}
 use Rattle.geom.proofs.basics.Tests.{says_and}
 use Rattle.geom.proofs.geometry.Facts.{says_fits}
 

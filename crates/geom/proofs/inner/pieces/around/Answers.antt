@@ -1,0 +1,16 @@
+-- The four pieces join the empty list in turn.
+use Rattle.geom.proofs.geometry.Four.{right_is, below_is, four}
+use Rattle.geom.proofs.inner.pieces.around.Goals as goal
+
+pub returns : goal.returns
+returns c =
+    let a = c.args.a in
+    let i = c.args.i in
+    four a i _ _ _ _ _ _ _ _ _ c.none.ensures
+    c.new-above.ensures c.with.ensures
+    c.new-left.ensures c.with-2.ensures
+    (right_is a i _ _ _ c.right-r.ensures c.right.ensures c.new-right.ensures)
+    c.with-3.ensures
+    (below_is a i _ _ _ c.bottom-s.ensures c.bottom.ensures
+    c.new-below.ensures)
+    c.with-4.ensures
