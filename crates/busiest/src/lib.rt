@@ -1,4 +1,6 @@
 // The busiest second of a run of event times. Document 02, N13.
+#![tactic(auto)]
+
 ghost use Rattle.std.specs.Prelude.{◌≡◌};
 ghost use Rattle.busiest.specs.Busiest.{busiest, refused};
 

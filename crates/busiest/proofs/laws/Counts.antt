@@ -1,5 +1,5 @@
 -- How many events are in a span, told by the places that they have in the run; the greatest of some counts, and the first place that has it.
-use Prim.Native.Nat.{ℕ, zero, suc, ◌+◌, ◌-◌, ◌≤◌, ◌<◌, max}
+use Prim.Native.Nat.{ℕ, zero, suc, ◌+◌, ◌-◌, ◌≤◌, ◌<◌}
 use mathlib.Core.Path.{◌≡◌, refl}
 use mathlib.Core.Bool.{Bool, true, false, cond}
 use mathlib.Core.List.{List, [], ◌∷◌, map}
@@ -8,7 +8,7 @@ use native.Mathlib.Nat.{le_antisymm, max-le, le-max_left, le-max_right, le_trans
 use borrow.Author.Tests.{eqb-true, eq-eqb}
 use lib.Dec.{eqb}
 use lib.ListN.{length, get_or}
-use Rattle.geom.proofs.basics.Tests.{is_false, clash}
+use Rattle.geom.proofs.basics.Tests.{is_false}
 use Rattle.busiest.specs.Busiest.{in_span, events, greatest, first}
 
 -- no more are in a span than places from a up to b, if all that are in it have one of those
