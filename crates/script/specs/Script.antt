@@ -121,8 +121,8 @@ table =
     ∷ row "visible" Kind.visible 1
     ∷ row "focus" Kind.focus 0
     ∷ row "lend" Kind.lend 1
-    ∷ row "lend_screen" Kind.lend_screen 1
-    ∷ row "lend_list" Kind.lend_list 1
+    ∷ row "lend-screen" Kind.lend_screen 1
+    ∷ row "lend-list" Kind.lend_list 1
     ∷ row "screen" Kind.screen 2
     ∷ row "pixels" Kind.pixels 1
     ∷ row "picture" Kind.picture 2
@@ -130,11 +130,11 @@ table =
     ∷ row "pieces" Kind.pieces 8
     ∷ row "union" Kind.union 8
     ∷ row "contains" Kind.contains 6
-    ∷ row "contains_rect" Kind.contains_rect 8
+    ∷ row "contains-rect" Kind.contains_rect 8
     ∷ row "within" Kind.within 6
     ∷ row_more "scanline" Kind.scanline 5
-    ∷ row_more "fill_scanline" Kind.fill_scanline 6
-    ∷ row_more "set_scanline" Kind.set_scanline 6
+    ∷ row_more "fill-scanline" Kind.fill_scanline 6
+    ∷ row_more "set-scanline" Kind.set_scanline 6
     ∷ row_more "region" Kind.region 5
     ∷ row "begin" Kind.begin 1
     ∷ row "portion" Kind.portion 2
@@ -144,15 +144,15 @@ table =
     ∷ row "dim" Kind.dim 1
     ∷ row "layer" Kind.layer 2
     ∷ row "look" Kind.look 9
-    ∷ row "look_fit" Kind.look_fit 7
-    ∷ row "lend_target" Kind.lend_target 1
+    ∷ row "look-fit" Kind.look_fit 7
+    ∷ row "lend-target" Kind.lend_target 1
     ∷ row "display" Kind.display 4
-    ∷ row "display_at" Kind.display_at 2
+    ∷ row "display-at" Kind.display_at 2
     ∷ row "maximise" Kind.maximise 1
-    ∷ row "update_dims" Kind.update_dims 0
+    ∷ row "update-dims" Kind.update_dims 0
     ∷ row "sheet" Kind.sheet 1
-    ∷ row_more "read_sheet" Kind.read_sheet 0
-    ∷ row "lend_sheet" Kind.lend_sheet 1
+    ∷ row_more "read-sheet" Kind.read_sheet 0
+    ∷ row "lend-sheet" Kind.lend_sheet 1
     ∷ row "raise" Kind.raise 1
     ∷ row "drag" Kind.drag 3
     ∷ row "stale" Kind.stale 5

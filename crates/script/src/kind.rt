@@ -169,8 +169,8 @@ pub const ROWS: [u8; WORDS * ROW] = *b"\
     \x07\x01 visible         \
     \x05\x00 focus           \
     \x04\x01 lend            \
-    \x0b\x01 lend_screen     \
-    \x09\x01 lend_list       \
+    \x0b\x01 lend-screen     \
+    \x09\x01 lend-list       \
     \x06\x02 screen          \
     \x06\x01 pixels          \
     \x07\x02 picture         \
@@ -178,7 +178,7 @@ pub const ROWS: [u8; WORDS * ROW] = *b"\
     \x06\x08 pieces          \
     \x05\x08 union           \
     \x08\x06 contains        \
-    \x0d\x08 contains_rect   \
+    \x0d\x08 contains-rect   \
     \x06\x06 within          \
     \x08\x05+scanline        \
     \x0d\x06+fill-scanline   \
@@ -192,15 +192,15 @@ pub const ROWS: [u8; WORDS * ROW] = *b"\
     \x03\x01 dim             \
     \x05\x02 layer           \
     \x04\x09 look            \
-    \x08\x07 look_fit        \
-    \x0b\x01 lend_target     \
+    \x08\x07 look-fit        \
+    \x0b\x01 lend-target     \
     \x07\x04 display         \
-    \x0a\x02 display_at      \
+    \x0a\x02 display-at      \
     \x08\x01 maximise        \
-    \x0b\x00 update_dims     \
+    \x0b\x00 update-dims     \
     \x05\x01 sheet           \
     \x0a\x00+read-sheet      \
-    \x0a\x01 lend_sheet      \
+    \x0a\x01 lend-sheet      \
     \x05\x01 raise           \
     \x04\x03 drag            \
     \x05\x05 stale           \

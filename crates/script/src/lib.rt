@@ -1,4 +1,6 @@
 // The lines of a call script, read byte by byte: no line is stored, so none is too long. CALL-SCRIPT.md is the law.
+#![tactic(auto)]
+
 ghost use Rattle.std.specs.Prelude.{◌≡◌, ℕ, ◌≤◌, List, [], ◌++◌, length};
 ghost use Rattle.std.proofs.Math.Seq.{slice};
 ghost use Rattle.script.specs.Script.{Shaped, hears, heard_of};
