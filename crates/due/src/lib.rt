@@ -1,4 +1,6 @@
 // What is still to be drawn: whether a full redraw is owed, and a redraw that goes window by window. Document 02, N7.
+#![tactic(auto)]
+
 ghost use Rattle.std.specs.Prelude.{◌≡◌, ◌&&◌, ◌||◌, ◌<◌, leb};
 ghost use Rattle.due.specs.inner.Due.{no_walk, settled, owing, begun, further};
 
