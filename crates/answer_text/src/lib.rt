@@ -1,5 +1,7 @@
 // The text that waits to be written, at the front of the block `out`. Each function adds to it and hands back what waits
 // then.
+#![tactic(auto)]
+
 ghost use Rattle.std.specs.Prelude.{◌≡◌, [], ◌∷◌, ◌++◌, ◌+◌, ◌≤◌, ◌<◌, length, take};
 ghost use Rattle.answer_text.specs.Text as Text;
 ghost use Rattle.answer_text.specs.Text.{decimal};
@@ -7,7 +9,7 @@ ghost use Rattle.answer_text.specs.Added.{counted as counting, handed_over, Adds
 
 pub mod picture;
 
-use libc::STDOUT_FILENO;
+use std::io::{Stdout, Write};
 
 // The first `at` bytes of the block wait. `sent` bytes were handed to standard output before them, as far as 64 bits
 // count.
@@ -36,13 +38,14 @@ fn count_on(sent: u64, n: usize) -> u64
     sent + more
 }
 
-// Writes what waits. No other function writes to standard output.
-pub fn flush(out: &[u8], w: Waiting) -> Waiting
+// Writes what waits. No other function writes to standard output. Whether the system took all of it is not looked at: there
+// is nobody to tell.
+pub fn flush(mut stdout: Stdout, out: &[u8], w: Waiting) -> Waiting
     requires { w.at ≤ length out.now }
     ensures { result ≡ handed_over w }
 {
     let n = w.at;
-    io::write_all(STDOUT_FILENO, &out[0..n]);
+    let _ = stdout.write_all(&out[0..n]);
     Waiting {
         at: 0,
         sent: count_on(w.sent, n),
@@ -50,14 +53,14 @@ pub fn flush(out: &[u8], w: Waiting) -> Waiting
 }
 
 // Room for one more number.
-fn room(out: &[u8; 65536], w: Waiting) -> Waiting
+fn room(stdout: Stdout, out: &[u8; 65536], w: Waiting) -> Waiting
     requires { w.at ≤ 65536 }
     ensures { Adds [] w out.now result out.now × (result.at ≤ 65504) }
 {
     if w.at <= 65504 {
         return w;
     }
-    flush(out, w)
+    flush(stdout, out, w)
 }
 
 // Puts a byte behind the first `at`.
@@ -108,11 +111,11 @@ fn put_spaced(out: &mut [u8; 65536], at: usize, n: u64) -> usize
     put_number(out, space, n)
 }
 
-pub fn byte(out: &mut [u8; 65536], w: Waiting, b: u8) -> Waiting
+pub fn byte(stdout: Stdout, out: &mut [u8; 65536], w: Waiting, b: u8) -> Waiting
     requires { w.at ≤ 65536 }
     ensures { Adds (Text.sign b ∷ []) w out.old result out.new }
 {
-    let to = room(out, w);
+    let to = room(stdout, out, w);
     Waiting {
         at: put_byte(out, to.at, b),
         sent: to.sent,
@@ -120,11 +123,11 @@ pub fn byte(out: &mut [u8; 65536], w: Waiting, b: u8) -> Waiting
 }
 
 // The number that a line begins with.
-pub fn number(out: &mut [u8; 65536], w: Waiting, n: u64) -> Waiting
+pub fn number(stdout: Stdout, out: &mut [u8; 65536], w: Waiting, n: u64) -> Waiting
     requires { w.at ≤ 65536 }
     ensures { Adds (Text.first n ∷ []) w out.old result out.new }
 {
-    let to = room(out, w);
+    let to = room(stdout, out, w);
     Waiting {
         at: put_number(out, to.at, n),
         sent: to.sent,
@@ -132,11 +135,11 @@ pub fn number(out: &mut [u8; 65536], w: Waiting, n: u64) -> Waiting
 }
 
 // A number that is not the first word of its line.
-pub fn more(out: &mut [u8; 65536], w: Waiting, n: u32) -> Waiting
+pub fn more(stdout: Stdout, out: &mut [u8; 65536], w: Waiting, n: u32) -> Waiting
     requires { w.at ≤ 65536 }
     ensures { Adds (Text.number n ∷ []) w out.old result out.new }
 {
-    let to = room(out, w);
+    let to = room(stdout, out, w);
     Waiting {
         at: put_spaced(out, to.at, n as u64),
         sent: to.sent,
@@ -144,58 +147,58 @@ pub fn more(out: &mut [u8; 65536], w: Waiting, n: u32) -> Waiting
 }
 
 // The same of a count.
-pub fn count(out: &mut [u8; 65536], w: Waiting, n: usize) -> Waiting
+pub fn count(stdout: Stdout, out: &mut [u8; 65536], w: Waiting, n: usize) -> Waiting
     requires { w.at ≤ 65536 }
     ensures { Adds (Text.number n ∷ []) w out.old result out.new }
 {
-    let to = room(out, w);
+    let to = room(stdout, out, w);
     Waiting {
         at: put_spaced(out, to.at, n as u64),
         sent: to.sent,
     }
 }
 
-pub fn signed(out: &mut [u8; 65536], w: Waiting, z: i16) -> Waiting
+pub fn signed(stdout: Stdout, out: &mut [u8; 65536], w: Waiting, z: i16) -> Waiting
     requires { w.at ≤ 65536 }
     ensures { Adds (Text.signed z ∷ []) w out.old result out.new }
 {
-    let to = byte(out, w, b' ');
+    let to = byte(stdout, out, w, b' ');
     if z < 0 {
-        let minus = byte(out, to, b'-');
-        return number(out, minus, (-(z as i32)) as u64);
+        let minus = byte(stdout, out, to, b'-');
+        return number(stdout, out, minus, (-(z as i32)) as u64);
     }
-    number(out, to, z as u64)
+    number(stdout, out, to, z as u64)
 }
 
-pub fn end(out: &mut [u8; 65536], w: Waiting) -> Waiting
+pub fn end(stdout: Stdout, out: &mut [u8; 65536], w: Waiting) -> Waiting
     requires { w.at ≤ 65536 }
     ensures { Adds (Text.end ∷ []) w out.old result out.new }
 {
-    byte(out, w, b'\n')
+    byte(stdout, out, w, b'\n')
 }
 
-pub fn word(out: &mut [u8; 65536], w: Waiting, text: &[u8]) -> Waiting
+pub fn word(stdout: Stdout, out: &mut [u8; 65536], w: Waiting, text: &[u8]) -> Waiting
     requires { w.at ≤ 65536 }
     ensures { Adds (Text.word text.now ∷ []) w out.old result out.new }
 {
-    let mut to = byte(out, w, b' ');
+    let mut to = byte(stdout, out, w, b' ');
     let mut i: usize = 0;
     while i < text.len() {
-        to = byte(out, to, text[i]);
+        to = byte(stdout, out, to, text[i]);
         i += 1;
     }
     to
 }
 
 // The numbers of a list, each after a space.
-pub fn all(out: &mut [u8; 65536], w: Waiting, list: &[u32]) -> Waiting
+pub fn all(stdout: Stdout, out: &mut [u8; 65536], w: Waiting, list: &[u32]) -> Waiting
     requires { w.at ≤ 65536 }
     ensures { Adds (Text.numbers list.now) w out.old result out.new }
 {
     let mut to = w;
     let mut i: usize = 0;
     while i < list.len() {
-        to = more(out, to, list[i]);
+        to = more(stdout, out, to, list[i]);
         i += 1;
     }
     to
@@ -208,53 +211,53 @@ fn wide(b: u8) -> u32
 }
 
 // The same of bytes.
-pub fn bytes(out: &mut [u8; 65536], w: Waiting, list: &[u8]) -> Waiting
+pub fn bytes(stdout: Stdout, out: &mut [u8; 65536], w: Waiting, list: &[u8]) -> Waiting
     requires { w.at ≤ 65536 }
     ensures { Adds (Text.numbers list.now) w out.old result out.new }
 {
     let mut to = w;
     let mut i: usize = 0;
     while i < list.len() {
-        to = more(out, to, wide(list[i]));
+        to = more(stdout, out, to, wide(list[i]));
         i += 1;
     }
     to
 }
 
 // A line of an answer alone.
-pub fn answer(out: &mut [u8; 65536], w: Waiting, answer: u32) -> Waiting
+pub fn answer(stdout: Stdout, out: &mut [u8; 65536], w: Waiting, answer: u32) -> Waiting
     requires { w.at ≤ 65536 }
     ensures { Adds (Text.line answer []) w out.old result out.new }
 {
-    let to = number(out, w, answer as u64);
-    end(out, to)
+    let to = number(stdout, out, w, answer as u64);
+    end(stdout, out, to)
 }
 
 // A line of the answer 0 and a count.
-pub fn counted(out: &mut [u8; 65536], w: Waiting, n: usize) -> Waiting
+pub fn counted(stdout: Stdout, out: &mut [u8; 65536], w: Waiting, n: usize) -> Waiting
     requires { w.at ≤ 65536 }
     ensures { Adds (Text.line 0 (Text.number n ∷ [])) w out.old result out.new }
 {
-    let to = number(out, w, 0);
-    let then = count(out, to, n);
-    end(out, then)
+    let to = number(stdout, out, w, 0);
+    let then = count(stdout, out, to, n);
+    end(stdout, out, then)
 }
 
 // The line for what the program cannot lend or write.
-pub fn refused(out: &mut [u8; 65536], w: Waiting) -> Waiting
+pub fn refused(stdout: Stdout, out: &mut [u8; 65536], w: Waiting) -> Waiting
     requires { w.at ≤ 65536 }
     ensures { Adds Text.beyond w out.old result out.new }
 {
-    let to = byte(out, w, b'!');
-    end(out, to)
+    let to = byte(stdout, out, w, b'!');
+    end(stdout, out, to)
 }
 
-pub fn malformed(out: &mut [u8; 65536], w: Waiting, line: u64) -> Waiting
+pub fn malformed(stdout: Stdout, out: &mut [u8; 65536], w: Waiting, line: u64) -> Waiting
     requires { w.at ≤ 65536 }
     ensures { Adds (Text.malformed line) w out.old result out.new }
 {
-    let mark = byte(out, w, b'?');
-    let space = byte(out, mark, b' ');
-    let to = number(out, space, line);
-    end(out, to)
+    let mark = byte(stdout, out, w, b'?');
+    let space = byte(stdout, out, mark, b' ');
+    let to = number(stdout, out, space, line);
+    end(stdout, out, to)
 }

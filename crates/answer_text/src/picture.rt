@@ -2,8 +2,13 @@
 ghost use Rattle.std.specs.Prelude.{◌≡◌, ◌+◌, ◌*◌, ◌≤◌, min, length, take, drop};
 ghost use Rattle.answer_text.specs.Picture as Picture;
 
-// Whether all of it is written.
-pub fn write(
+use std::fs;
+use std::io::Write;
+use std::rt::Files;
+
+// Whether all of it is written. A file's name is text here, which every name of a script is.
+pub fn write<R: Files>(
+    files: &R,
     name: &[u8],
     len: usize,
     w: u32,
@@ -14,26 +19,24 @@ pub fn write(
 ) -> bool
     requires { (len ≤ length name.now) × (n ≤ length screen.now) }
 {
-    let fd = os::open_overwrite(&name[0..len]);
-    if fd < 0 {
+    let Ok(path) = str::from_utf8(&name[0..len]) else {
         return false;
-    }
-    let is_written = whole(fd, w, h, &screen[0..n], out);
-    if libc::close(fd) < 0 {
+    };
+    let Ok(mut file) = fs::create(files, path) else {
         return false;
-    }
-    is_written
+    };
+    whole(&mut file, w, h, &screen[0..n], out)
 }
 
 // The header, and then the pixels from the first on, block by block.
-fn whole(fd: i32, w: u32, h: u32, pixels: &[u32], out: &mut [u8; 65536]) -> bool {
+fn whole<W: Write>(file: &mut W, w: u32, h: u32, pixels: &[u32], out: &mut [u8; 65536]) -> bool {
     let n = head(w, h, out);
-    if !front(fd, out, n) {
+    if !front(file, out, n) {
         return false;
     }
     let mut from: usize = 0;
     while from < pixels.len() {
-        let put = part(fd, pixels, from, out);
+        let put = part(file, pixels, from, out);
         if put == 0 {
             return false;
         }
@@ -58,22 +61,22 @@ fn head(w: u32, h: u32, out: &mut [u8; 65536]) -> usize
 }
 
 // Writes the first n bytes of the block.
-fn front(fd: i32, out: &[u8], n: usize) -> bool
+fn front<W: Write>(file: &mut W, out: &[u8], n: usize) -> bool
     requires { n ≤ length out.now }
 {
-    io::write_all(fd, &out[0..n])
+    file.write_all(&out[0..n]).is_ok()
 }
 
 // Writes the pixels from a place on, at most 21,845, and answers how many: 0 where they could not be written. The
 // bytes that were written stand at the front of the block.
-fn part(fd: i32, pixels: &[u32], from: usize, out: &mut [u8; 65536]) -> usize
+fn part<W: Write>(file: &mut W, pixels: &[u32], from: usize, out: &mut [u8; 65536]) -> usize
     requires { from ≤ length pixels.now }
     ensures { (from + result ≤ length pixels.now)
         × (take (3 * result) out.new ≡ Picture.colours (take result (drop from pixels.now))) }
 {
     let n = least(pixels.len() - from, 21845);
     colours(&pixels[from..from + n], out);
-    if front(fd, out, 3 * n) {
+    if front(file, out, 3 * n) {
         return n;
     }
     0

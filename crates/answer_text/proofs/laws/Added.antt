@@ -1,10 +1,10 @@
 -- No text, one text behind another, and a text handed over: what was handed over and what waits are parts of one list.
-use Prim.Native.Nat.{ℕ, ◌+◌, ◌≤◌, min}
+use Prim.Native.Nat.{ℕ, ◌+◌, ◌≤◌}
 use mathlib.Core.Path.{◌≡◌, refl, sym, ap, subst, ◌∙◌}
 use mathlib.Core.List.{List, [], ◌∷◌, ◌++◌, append_assoc, append-nil}
 use native.Mathlib.Omega.{arith}
-use lib.ListN.{length, take, drop, length-append, length-take, length-drop}
-use lib.Seq.{length-take-le, drop-append-le, drop-drop, take_all, drop-length}
+use lib.ListN.{length, take, drop, length-append, length-drop}
+use lib.Seq.{length-take-le, drop-append-le, drop-drop, drop-length}
 use Rattle.answer_text.specs.Text.{Piece, spelled, said}
 use Rattle.answer_text.specs.Added.{counted, handed_over, Adds}
 use Rattle.answer_text.specs.declared.Waiting.{Waiting}

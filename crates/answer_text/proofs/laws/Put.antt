@@ -1,17 +1,15 @@
 -- What was put behind the bytes that wait is added; the digits of the kit are the decimal text; texts grow by one.
 use Prim.Native.Nat.{ℕ, zero, suc, ◌+◌, ◌-◌, ◌/◌, ◌%◌, ◌^◌, ◌≤◌, ◌<◌}
 use mathlib.Core.Path.{◌≡◌, refl, sym, ap, subst, ◌∙◌}
-use mathlib.Core.Bool.{Bool, true, false, cond}
 use mathlib.Core.List.{List, [], ◌∷◌, ◌++◌, map, append-nil}
 use native.Mathlib.Omega.{arith}
 use native.Mathlib.Numerals.{add-one}
-use lib.Dec.{ltb}
-use lib.ListN.{length, take, drop, get_or}
+use lib.ListN.{length, take, get_or}
 use lib.Seq.{take-suc, take_all}
 use borrow.Author.Tests.{lt-ltb, le-ltb}
 use Rattle.io.specs.Digits.{hex_digit_ascii, last_digits, IsDigitCount}
 use Rattle.answer_text.specs.Text.{Piece, number, sign, word, decimal_in, decimal, spelled, said, numbers}
-use Rattle.answer_text.specs.Added.{counted, Adds}
+use Rattle.answer_text.specs.Added.{Adds}
 use Rattle.answer_text.specs.declared.Waiting.{Waiting}
 use Rattle.answer_text.proofs.laws.Added.{then, respelled}
 

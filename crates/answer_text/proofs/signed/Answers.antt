@@ -10,23 +10,15 @@ use lib.Signed.{non_neg, lt_z}
 use mir.Syntax.{w16, w32, w64}
 use mir.Val.{Fits, SFits, of_z, to_z}
 use mir.Facts.{to_z-of_z}
-use borrow.Author.Rules.{rules}
 use borrow.Author.Tests.{ltb-true}
 use Rattle.geom.proofs.basics.Tests.{clash}
 use Rattle.answer_text.specs.Text.{sign, first, signed, decimal, said, spelled, signed_text}
 use Rattle.answer_text.proofs.laws.Added.{then, respelled}
-use Rattle.answer_text.proofs.signed.Statement.{statement}
-use Rattle.answer_text.proofs.signed.Tie as tie
-
--- Numbers of 16 bits --------------------------------------------------------------------------------------------------
+use Rattle.answer_text.proofs.signed.Goals as goal
 
 -- what is asked of a number that is read as a u64
 abbrev Counts : ℤ → Type 0
 Counts z = T (non_neg z) × Fits w64 (nat_abs z)
-
-above : (z : ℤ) → SFits w16 z → lt_z z (pos 0) ≡ false → Counts z
-above (pos n) h l = (tt, record { fits = omega (arith, h.sfits) })
-above (negsuc n) h l = clash {t = true} (λ i. true) l
 
 widened : (z : ℤ) → SFits w16 z → SFits w32 z
 widened z h = record { sfits = omega (arith, h.sfits) }
@@ -52,10 +44,6 @@ negated_32 z h l = subst (λ (v : ℤ). SFits w32 (pos 0 -ℤ v)) (sym (at_32 z 
 below : (z : ℤ) → SFits w16 z → lt_z z (pos 0) ≡ true → Counts (pos 0 -ℤ z)
 below (pos n) h l = absurd (never n l)
 below (negsuc n) h l = (tt, record { fits = omega (arith, h.sfits) })
-
-below_32 : (z : ℤ) → SFits w16 z → lt_z z (pos 0) ≡ true → Counts (to_z w32 (of_z w32 (pos 0 -ℤ to_z w32 (of_z w32 (to_z w16 (of_z w16 z))))))
-below_32 z h l =
-    subst Counts (sym (to_z-of_z (negated_32 z h l))) (subst (λ (v : ℤ). Counts (pos 0 -ℤ v)) (sym (at_32 z h)) (below z h l))
 
 -- below zero, the sign and the distance from zero; from zero on, the number
 distance : (z : ℤ) → lt_z z (pos 0) ≡ true → said (sign 32 ∷ sign 45 ∷ first (nat_abs (pos 0 -ℤ z)) ∷ []) ≡ said (signed z ∷ [])
@@ -89,80 +77,15 @@ plus z h l = ap (λ (v : ℤ). said (sign 32 ∷ first (nat_abs v) ∷ [])) (to_
 
 -- Need by need --------------------------------------------------------------------------------------------------------
 
--- the place behind the test, from the one before the number
-abbrev below_zero : tie.After-number-arg → tie.Then1
-below_zero c = c.before.before.before
+pub returns-then-z-lt0 : goal.returns-then-z-lt0
+returns-then-z-lt0 c =
+    let z = c.args.z in
+    let h = c.ranges.z in
+    respelled (minus z h (tested z h true c.if-z-lt0.true))
+    (then c.byte-to.ensures (then c.byte-minus.ensures c.number.ensures))
 
-byte-requires : tie.Need-byte-requires
-byte-requires c κs = search rules
-
-byte-requires-2 : tie.Need-byte-requires-2
-byte-requires-2 c κs = search rules
-
-cast-number : tie.Need-overflow-cast-number
-cast-number c =
-    let turn = below_zero c in
-    let entry = turn.before.before.before in
-    at_16 entry.args.z entry.fits.z
-
-sub_number : tie.Need-overflow-sub-number
-sub_number c =
-    let turn = below_zero c in
-    let entry = turn.before.before.before in
-    let z = entry.args.z in
-    let h = entry.fits.z in
-    negated_32 z h (tested z h true turn.if1.taken)
-
-cast-number-2 : tie.Need-overflow-cast-number-2
-cast-number-2 c =
-    let turn = below_zero c in
-    let entry = turn.before.before.before in
-    let z = entry.args.z in
-    let h = entry.fits.z in
-    below_32 z h (tested z h true turn.if1.taken)
-
-number-requires : tie.Need-number-requires
-number-requires c κs = search rules
-
-returns : tie.Need-returns
+pub returns : goal.returns
 returns c =
-    let after_minus = c.before.before in
-    let after_space = after_minus.before.before.before in
-    let entry = after_space.before.before in
-    let z = entry.args.z in
-    let h = entry.ranges.z in
-    respelled (minus z h (tested z h true after_minus.before.before.if1.true))
-    (then after_space.byte.ensures (then after_minus.byte2.ensures c.number.ensures))
-
-cast-number-3 : tie.Need-overflow-cast-number-3
-cast-number-3 c =
-    let z = c.before.before.before.before.args.z in
-    let h = c.before.before.before.before.ranges.z in
-    subst Counts (sym (to_z-of_z h)) (above z h (tested z h false c.before.if1.false))
-
-number-requires-2 : tie.Need-number-requires-2
-number-requires-2 c κs = search rules
-
-returns_2 : tie.Need-returns-2
-returns_2 c =
-    let turn = c.before.before in
-    let after_space = turn.before in
-    let entry = after_space.before.before in
-    let z = entry.args.z in
-    let h = entry.ranges.z in
-    respelled (plus z h (tested z h false turn.if1.false)) (then after_space.byte.ensures c.number2.ensures)
-
-pub signed_spec : {M : Type 1} → statement M
-signed_spec =
-    tie.close
-    (tie.spec
-    byte-requires
-    byte-requires-2
-    cast-number
-    sub_number
-    cast-number-2
-    number-requires
-    returns
-    cast-number-3
-    number-requires-2
-    returns_2)
+    let z = c.args.z in
+    let h = c.ranges.z in
+    respelled (plus z h (tested z h false c.if-z-lt0.false)) (then c.byte-to.ensures c.number-2.ensures)
