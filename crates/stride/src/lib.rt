@@ -1,5 +1,7 @@
 // Pixels with the stride of their rows: `StrideBuf` of video/mod.rs, with its names. The work is done over a slice and a number,
 // here by `rows` and in `winbuf` by `region`; the methods take the struct apart, and nothing else.
+#![tactic(auto)]
+
 ghost use Rattle.std.specs.Prelude.{◌≡◌, length};
 ghost use Rattle.winbuf.specs.Pixels.{region};
 ghost use Rattle.winbuf.specs.Bare.{Hands, region_start};
