@@ -1,4 +1,6 @@
 // The topmost window at a point of the screen. Translated from WindowGroup::get_win_at_pos.
+#![tactic(auto)]
+
 ghost use Rattle.std.specs.Prelude.{◌≡◌};
 ghost use Rattle.std.proofs.Math.Option.{none};
 ghost use Rattle.order.specs.Ids.{ids};
