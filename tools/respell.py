@@ -24,6 +24,11 @@ ALONE = {"crates/rules/proofs/demand/Asked.antt": {"in_use"}}
 # Fields and constants, which stand behind a dot.
 NO_LEMMA = {"has-list", "has-sheet", "has-target", "display-at"}
 
+# Words of the call script, which comments quote.
+SCRIPT = set(
+    "lend-screen lend-list contains-rect look-fit lend-target display-at update-dims lend-sheet fill-scanline set-scanline read-sheet".split()
+)
+
 
 def snake(name):
     low = lambda m: "_" + m[1].lower()
@@ -86,6 +91,12 @@ def cut(line, antt):
     return (line[: at.start()], line[at.start() :]) if at else (line, "")
 
 
+def outside_strings(turn, text):
+    """Turns what stands between strings and quotations."""
+    parts = re.split(r'("(?:[^"\\\n]|\\.)*")', text)
+    return "".join(p if i % 2 else turn(p) for i, p in enumerate(parts))
+
+
 def turned(path, text, names, clashes=None):
     kit = from_kit(text)
     antt = path.endswith(".antt")
@@ -96,9 +107,10 @@ def turned(path, text, names, clashes=None):
         body, rest = cut(line, antt)
         if plain:
             body = re.sub(rf"(?<![^{END}])(?<!\.)({TOKEN})", lambda m: m[1] + "_lem" if m[1] in plain else m[1], body)
-        body = WORD.sub(lambda m: snake(m[1]) if ours(m[1]) else m[1], body)
-        rest = WORD.sub(lambda m: snake(m[1]) if ours(m[1]) and CAMEL.match(m[1]) else m[1], rest)
-        rest = re.sub(r"`([^`]*)`", lambda m: "`" + WORD.sub(lambda k: snake(k[1]) if ours(k[1]) else k[1], m[1]) + "`", rest)
+        each = lambda t: WORD.sub(lambda m: snake(m[1]) if ours(m[1]) else m[1], t)
+        body = outside_strings(each, body)
+        rest = outside_strings(lambda t: WORD.sub(lambda m: snake(m[1]) if ours(m[1]) and CAMEL.match(m[1]) else m[1], t), rest)
+        rest = re.sub(r"`([^`]*)`", lambda m: m[0] if m[1].split()[0:1] and m[1].split()[0] in SCRIPT else "`" + each(m[1]) + "`", rest)
         lines.append(body + rest)
     if clashes is not None and antt:
         seen = set(re.findall(rf"(?<![^{END}])(?<!\.)({TOKEN})", code(text)))

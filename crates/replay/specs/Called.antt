@@ -67,7 +67,7 @@ who_event ns =
     (cond (eqb (num ns 0) 9) (MouseUp (num ns 1) (num ns 2) (num ns 3)) Resize)))))))
 
 -- "`resize ID W H`: resize"; "`fill ID X Y W H COLOUR`: fill"; "`blit ID X Y W H STRIDE DATA…`: blit"; "`maximise ID`: maximise_window";
--- "`update_dims`: update_dims". n is how many numbers the line has
+-- "`update-dims`: update_dims". n is how many numbers the line has
 abbrev pub store_calls : ℕ → List ℕ → List ℕ → List (ℕ × Call)
 store_calls n ns store =
     (Kind.resize, Call.Resize (id_of ns) (num ns 1) (num ns 2) store)
@@ -89,7 +89,7 @@ screen_call k ns store screen =
     cond (eqb k Kind.portion) (Call.Portion (num ns 0) (num ns 1) store screen)
     (Call.Redraw (eqb (num ns 0) 1) (num ns 1) (num ns 2) store screen)
 
--- "`look ID XHI XLO YHI YLO FHI FLO TW Th`"; "`look_fit ID XHI XLO YHI YLO TW Th`": where TW stands
+-- "`look ID XHI XLO YHI YLO FHI FLO TW TH`"; "`look-fit ID XHI XLO YHI YLO TW TH`": where TW stands
 abbrev pub size_at : ℕ → ℕ
 size_at k = cond (eqb k Kind.look_fit) 5 7
 

@@ -1,4 +1,4 @@
--- The lines `look` and `look_fit`: the look that a line names, and how many pixels its target has.
+-- The lines `look` and `look-fit`: the look that a line names, and how many pixels its target has.
 use Rattle.std.specs.Prelude.{ℕ, ◌+◌, ◌*◌, ◌≡◌, Bool, true, false, cond, List, ◌++◌, eqb, take, drop}
 use Rattle.look.specs.declared.Look.{Look}
 use Rattle.look.specs.declared.Zoom.{Zoom}
@@ -17,7 +17,7 @@ zoom_of false ns = Factor (float_of (num ns 5) (num ns 6))
 abbrev pub look_of : ℕ → List ℕ → Look
 look_of k ns = record { x = float_of (num ns 1) (num ns 2); y = float_of (num ns 3) (num ns 4); zoom = zoom_of (eqb k Kind.look_fit) ns }
 
--- how many pixels a target has: what `lend_target` said, or "the target has TW × TH pixels"
+-- how many pixels a target has: what `lend-target` said, or "the target has TW × TH pixels"
 abbrev pub target_len : Player → ℕ → List ℕ → ℕ
 target_len p k ns = cond p.has_target p.target (num ns (size_at k) * num ns (size_at k + 1))
 

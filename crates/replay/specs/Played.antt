@@ -54,7 +54,7 @@ pub record Begins (c : ℕ) (p : Player) (o : List ℕ) (r : Player) (q : List �
   pub next : Next (line (start c).answer []) (lend_store (16 * session_c c) p) r.session o r q
   pub after : group r.session ≡ (start c).group
 
--- how many pixels of the screen a redraw or a portion is lent: what `lend_screen` said, or "the screen lent has W × H pixels"
+-- how many pixels of the screen a redraw or a portion is lent: what `lend-screen` said, or "the screen lent has W × H pixels"
 abbrev pub screen_len : Player → ℕ → List ℕ → ℕ
 screen_len p k ns = cond p.is_set p.screen (cond (eqb k Kind.portion) (num ns 0 * num ns 1) (num ns 1 * num ns 2))
 
@@ -86,15 +86,15 @@ pub record HitsPart (g : Group) (points : List ℕ) (n : ℕ) (list : List ℕ) 
   pub listed : after ≡ (hits g points (take n list)).list ++ drop n list
   pub room : a ≡ 0 → 3 * (length points / 2) ≤ n
 
--- how many bytes the buffer of a sheet has: what `lend_sheet` said, or "lent 2,048 bytes"
+-- how many bytes the buffer of a sheet has: what `lend-sheet` said, or "lent 2,048 bytes"
 abbrev pub sheet_len : Player → ℕ
 sheet_len p = cond p.has_sheet p.sheet 2048
 
--- how many numbers of the list a line is lent: what `lend_list` said, or as many as else
+-- how many numbers of the list a line is lent: what `lend-list` said, or as many as else
 abbrev pub list_len : ℕ → Player → ℕ
 list_len n p = cond p.has_list p.list n
 
--- `resize`, `fill`, `blit`, `maximise` and `update_dims` are lent the store as `lend` says; l is the line's kind
+-- `resize`, `fill`, `blit`, `maximise` and `update-dims` are lent the store as `lend` says; l is the line's kind
 pub record Stores (l : ℕ) (k : Call) (p : Player) (store o : List ℕ) (r : Player) (after q : List ℕ) : Type 0 where
   pub makes : Makes k (wrote_line (is_counted l) (does (group p.session) k).answer (does (group p.session) k).altered) p o r q
   pub stored : after ≡ (does (group p.session) k).store ++ drop p.lent store
@@ -105,9 +105,9 @@ pub record Draws (k : ℕ) (ns : List ℕ) (len : ℕ) (p : Player) (store scree
   pub shown : after ≡ (does (group p.session) (screen_call k ns (take p.lent store) (take len screen))).screen ++ drop len screen
 
 -- "A `start` whose C document 01 accepts but whose store the program cannot lend (C from 384,001 on), a `lend`,
--- `lend_screen`, `lend_list`, `lend_target` or `lend_sheet` above those limits, a `redraw` or `portion` (with no
--- `lend_screen` pending), `screen` or `picture` of more than 3,072,000 pixels, and a `look` or `look_fit` (with no
--- `lend_target` pending) of more than 65,536 are answered by `!`, and nothing is called."
+-- `lend-screen`, `lend-list`, `lend-target` or `lend-sheet` above those limits, a `redraw` or `portion` (with no
+-- `lend-screen` pending), `screen` or `picture` of more than 3,072,000 pixels, and a `look` or `look-fit` (with no
+-- `lend-target` pending) of more than 65,536 are answered by `!`, and nothing is called."
 pub data Beyond (k : ℕ) (ns : List ℕ) (p : Player) : Type 0 where
   no_start : k ≡ Kind.start → 384000 < num ns 0 → num ns 0 ≤ 1048576 → Beyond k ns p
   no_redraw : OnScreen k → 3072000 < screen_len p k ns → Beyond k ns p
@@ -140,11 +140,11 @@ pub data Plays (l : Line) (ns : List ℕ) (p : Player) (a : Pixels) (o : List �
   redraws : OnScreen l.kind → screen_len p l.kind ns ≤ 3072000
       → ps ≡ line (does (group p.session) (screen_call l.kind ns (take p.lent a.store) (take (screen_len p l.kind ns) a.screen))).answer []
       → Draws l.kind ns (screen_len p l.kind ns) p a.store a.screen o r b.screen q → b.store ≡ a.store → Plays l ns p a o ps r b q
-  -- "the visible list, lent 1,984 numbers", or as many as `lend_list` said, which it uses up
+  -- "the visible list, lent 1,984 numbers", or as many as `lend-list` said, which it uses up
   lists : l.kind ≡ Kind.visible → (lent : List ℕ) → length lent ≡ list_len 1984 p
       → (let v = visible_list (group p.session) (id_of ns) lent in ps ≡ rects_line v.answer v.count v.list)
       → Next ps (unlisted p) p.session o r q → b ≡ a → Plays l ns p a o ps r b q
-  -- "lent 96 numbers", or as many as `lend_list` said, which it uses up
+  -- "lent 96 numbers", or as many as `lend-list` said, which it uses up
   asks_hits : l.kind ≡ Kind.hits → (lent : List ℕ) → length lent ≡ list_len 96 p
       → (let h = hits (group p.session) (take l.count ns) lent in ps ≡ hits_line h.answer (3 * (l.count / 2)) h.list)
       → Next ps (unlisted p) p.session o r q → b ≡ a → Plays l ns p a o ps r b q
@@ -165,18 +165,18 @@ pub data Plays (l : Line) (ns : List ℕ) (p : Player) (a : Pixels) (o : List �
   -- "the display that the position is on, or the closest one"
   asks_display : l.kind ≡ Kind.display_at → ps ≡ display_line (display_at (group p.session) (num ns 0) (num ns 1)) → Next ps p p.session o r q
       → b ≡ a → Plays l ns p a o ps r b q
-  -- "the target has TW × TH pixels, and starts as ones (4294967295)", or as many as `lend_target` said, which it uses up
+  -- "the target has TW × TH pixels, and starts as ones (4294967295)", or as many as `lend-target` said, which it uses up
   asks_look : OnTarget l.kind → target_len p l.kind ns ≤ 65536
       → (let s = asks (group p.session) l.kind ns (take p.lent a.store) (replicate (target_len p l.kind ns) 4294967295)
       in ps ≡ part_line s.answer s.target)
       → Next ps (untargeted p) p.session o r q → b ≡ a → Plays l ns p a o ps r b q
   lends_target : l.kind ≡ Kind.lend_target → num ns 0 ≤ 65536 → ps ≡ line 0 [] → Next ps (lend_target (num ns 0) p) p.session o r q → b ≡ a
       → Plays l ns p a o ps r b q
-  -- "lent 7,812 numbers", or as many as `lend_list` said, which it uses up
+  -- "lent 7,812 numbers", or as many as `lend-list` said, which it uses up
   reads_sheet : l.kind ≡ Kind.read_sheet → (lent : List ℕ) → length lent ≡ list_len 7812 p → (found : Listing) (list : List ℕ)
       → Reads (take l.count ns) lent found list → ps ≡ rects_line found.answer found.count list
       → Next ps (unlisted p) p.session o r q → b ≡ a → Plays l ns p a o ps r b q
-  -- "lent 2,048 bytes", or as many as `lend_sheet` said, which it uses up
+  -- "lent 2,048 bytes", or as many as `lend-sheet` said, which it uses up
   asks_sheet : l.kind ≡ Kind.sheet → (lent : List ℕ) → length lent ≡ sheet_len p
       → (let s = sheet (group p.session) (id_of ns) lent in ps ≡ sheet_line s.answer s.count s.bytes)
       → Next ps (unsheeted p) p.session o r q → b ≡ a → Plays l ns p a o ps r b q
