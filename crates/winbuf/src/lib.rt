@@ -1,6 +1,8 @@
 // Pixels in a lent slice: document 01, "Pixels". Translated from winbuf.rs, with its names.
 //
 // The calls here take any arguments and ask questions 5 and 13. Our own crates, which know what they lend, call `inner`.
+#![tactic(auto)]
+
 ghost use Rattle.std.specs.Prelude.{◌≡◌};
 ghost use Rattle.winbuf.specs.Pixels.{line_start, no_part, scanline_range, scanline, fill_scanline, set_scanline, region};
 ghost use Rattle.winbuf.specs.Bare.{Gives, Hands, none, region_start};

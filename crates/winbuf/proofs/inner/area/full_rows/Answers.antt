@@ -1,0 +1,37 @@
+-- `full_rows`: after r turns, r rows are written, and their counts add up.
+use Rattle.std.proofs.Common.{ℕ, ◌+◌, ◌*◌, ◌≤◌, List, drop, arith}
+use Rattle.std.proofs.Math.ListN.{length-take}
+use Rattle.std.proofs.lemmas.List.Edits.{sets}
+use Rattle.scanline.specs.Pixels.{part}
+use Rattle.scanline.specs.inner.Rows.{Counted}
+use Rattle.scanline.proofs.rows.Altered.{Along, along_none, along_run, along_few}
+use Rattle.scanline.proofs.rows.Turns.{rows_more, next_row}
+use Rattle.scanline.proofs.rows.Written.{rows_none}
+use Rattle.winbuf.proofs.inner.area.full_rows.Goals as goal
+
+-- what is counted once row r is written
+counted : {s t t' : List ℕ} {n m : ℕ} (at pitch w stride r : ℕ) (src : List ℕ) → w ≤ pitch → Along s t (at + r * pitch) n
+    → Counted (sets t (at + r * pitch) (part (r * stride) w src)) t t' m → Along s t' (at + (r + 1) * pitch) (n + m)
+counted at pitch w stride r src h a e =
+    along_run (part (r * stride) w src) a e (at + (r + 1) * pitch) (omega (arith, next_row r pitch, length-take w (drop (r * stride) src)))
+
+pub loop-r-init : goal.loop-r-init
+loop-r-init c = (rows_none _ _ _, along_none _ _, omega arith)
+
+pub overflow_add-altered : goal.overflow_add-altered
+overflow_add-altered c =
+    let a = c.args in
+    omega (
+      arith,
+      along_few (counted a.at a.pitch a.w a.stride c.loop-r.r a.src.now c.requires.1 c.loop-r.invariant.1 c.set_part-altered.ensures),
+    )
+
+pub loop-r-preserved : goal.loop-r-preserved
+loop-r-preserved c =
+    let l = c.loop-r in
+    let a = c.args in
+    let f = c.set_part-altered in (
+      rows_more (λ k. a.at + k * a.pitch) (λ k. part (k * a.stride) a.w a.src.now) a.px.now l.px f.new.px l.r l.invariant.0 f.ensures.pixels,
+      counted a.at a.pitch a.w a.stride l.r a.src.now c.requires.1 l.invariant.1 f.ensures,
+      omega arith,
+    )
