@@ -4,6 +4,8 @@
 //     target pixel i     0     1     2     3     4     5  …     corner 1.75, factor 2
 //     place in quarters  7     9    11    13    15    17  …     from 4 × 1.75 on, 4 / 2 apart
 //     window column      1     2     2     3     3     4  …     a quarter of it, rounded down
+#![tactic(auto)]
+
 ghost use Rattle.std.specs.Prelude.{◌≡◌, ◌+◌, ◌*◌, ◌≤◌, length};
 ghost use Rattle.look.specs.inner.Steps.{Looks};
 

@@ -5,7 +5,6 @@ use Rattle.look.specs.declared.Look.{Look}
 use Rattle.look.specs.declared.Sizes.{Sizes}
 use Rattle.look.specs.declared.Steps.{Steps}
 use Rattle.look.specs.declared.whole.Whole.{Whole}
-use Rattle.look.specs.declared.whole.Whole.TheVariants as Whole
 use Rattle.look.specs.Floats.{allowed}
 use Rattle.look.specs.View.{window_pixel, shown, lens_of, place, view, is_side, target_fits}
 use Rattle.look.specs.Quarters.{steps_of, place_quarters}

@@ -7,7 +7,6 @@ use Rattle.look.specs.declared.Steps.{Steps}
 use Rattle.look.specs.declared.quarters.Quarters.{Quarters}
 use Rattle.look.specs.declared.quarters.Quarters.TheVariants.{Of, None}
 use Rattle.look.specs.declared.whole.Whole.{Whole}
-use Rattle.look.specs.declared.whole.Whole.TheVariants as Whole
 use Rattle.look.specs.Floats.{allowed}
 use Rattle.look.specs.View.{line, view, target_fits}
 use Rattle.look.specs.Quarters.{step_of, steps_of, place_quarters}

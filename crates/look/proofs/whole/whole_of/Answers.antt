@@ -1,5 +1,5 @@
 -- `whole_of`: the factor is tested by its step, of a float that is in quarters at all.
-use Rattle.std.proofs.Common.{◌≡◌, Bool, true, false, not, ◌&&◌, eqb, refl, ◌∙◌, rules}
+use Rattle.std.proofs.Common.{◌≡◌, Bool, true, false, not, ◌&&◌, eqb, refl, ◌∙◌}
 use lib.Ieee.{Float}
 use Rattle.geom.proofs.basics.Tests.{clash, is_false}
 use Rattle.look.specs.Floats.{is_factor, is_corner, allowed}
@@ -11,11 +11,9 @@ use Rattle.look.specs.declared.Steps.{Steps}
 use Rattle.look.specs.declared.quarters.Quarters.{Quarters}
 use Rattle.look.specs.declared.quarters.Quarters.TheVariants.{Of, None}
 use Rattle.look.specs.declared.whole.Whole.{Whole}
-use Rattle.look.specs.declared.whole.Whole.TheVariants as Whole
 use Rattle.look.specs.declared.Zoom.TheVariants.{Factor, Fit}
 use Rattle.look.proofs.laws.Five.{factor_corner, asks}
-use Rattle.look.proofs.whole.whole_of.Statement.{statement}
-use Rattle.look.proofs.whole.whole_of.Tie as tie
+use Rattle.look.proofs.whole.whole_of.Goals as goal
 
 -- with a factor f, and the corner (x,y)
 module _ (f x y : Float) where
@@ -51,40 +49,12 @@ made : (l : Look) (s : Sizes) (factor : Float) (f x y : Quarters) (r : Whole) �
 unfolding whole_of allowed
 made l s factor f x y r z F X Y e = e ∙ simp (F, X, Y) (joined_is factor l.x l.y ∙ simp z)
 
-enum-known-zoom : tie.Need-enum-known-zoom
-enum-known-zoom c = search rules
+pub returns-in_default : goal.returns-in_default
+returns-in_default c =
+    let a = c.args in
+    fits a.look a.s c.fitted.result c.in_default.is c.fitted.ensures
 
-enum_told : tie.Need-enum-told
-enum_told c = search rules
-
-fitted-requires : tie.Need-fitted-requires
-fitted-requires c κs = search rules
-
-returns : tie.Need-returns
+pub returns : goal.returns
 returns c =
-    let a = c.before.before.before.args in
-    fits a.look a.s c.fitted.result c.before.enum_told.given.1 c.fitted.ensures
-
-quarters-of-requires : tie.Need-quarters-of-requires
-quarters-of-requires c κs = search rules
-
-quarters-of-requires-2 : tie.Need-quarters-of-requires-2
-quarters-of-requires-2 c κs = search rules
-
-quarters-of-requires-3 : tie.Need-quarters-of-requires-3
-quarters-of-requires-3 c κs = search rules
-
-joined-requires : tie.Need-joined-requires
-joined-requires c κs = search rules
-
-returns_2 : tie.Need-returns-2
-returns_2 c =
-    let y = c.before in
-    let x = y.before in
-    let f = x.before in
-    let z = f.before.before in
-    let a = z.before.before.args in
-    made a.look a.s _ _ _ _ _ z.zoom.given.1 f.quarters-of.ensures x.quarters-of2.ensures y.quarters-of3.ensures c.joined.ensures
-
-pub whole_of_spec : {M : Type 1} → statement M
-whole_of_spec = tie.close (tie.spec enum-known-zoom enum_told fitted-requires returns quarters-of-requires quarters-of-requires-2 quarters-of-requires-3 joined-requires returns_2)
+    let a = c.args in
+    made a.look a.s _ _ _ _ _ c.in-Factor.is c.quarters_of.ensures c.quarters_of-2.ensures c.quarters_of-3.ensures c.joined.ensures
