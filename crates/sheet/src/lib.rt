@@ -1,5 +1,7 @@
 // Region sheets: document 02, N6. A region as packed bits. `read_sheet` takes any bytes; the writer, `inner::write`, stands
 // behind the session's call `sheet`.
+#![tactic(auto)]
+
 ghost use Rattle.sheet.specs.Reader.{Reads};
 
 use geom::Listing;

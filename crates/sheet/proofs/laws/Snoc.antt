@@ -4,7 +4,6 @@ use mathlib.Core.Path.{◌≡◌, refl, ap, sym, ◌∙◌}
 use mathlib.Core.Bool.{Bool, ◌&&◌, ◌||◌, or_assoc, or-false}
 use mathlib.Core.List.{List, [], ◌∷◌, ◌++◌}
 use lib.Dec.{leb, ltb}
-use lib.ListN.{length}
 use Rattle.sheet.specs.Sheet.{Span, Band, Sheet, in_spans, has, Apart, Proper, Follows, Bands, BandFits, BandsFit}
 
 -- where the next interval may begin

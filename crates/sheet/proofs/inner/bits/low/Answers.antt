@@ -1,0 +1,9 @@
+-- A mask of n ones takes the rest by 2 ^ n.
+use Prim.Native.Nat.{ℕ, ◌-◌}
+use mathlib.Core.Path.{ap, ◌∙◌}
+use lib.Bits.{bit_and, and_mask}
+use Rattle.sheet.proofs.laws.Bits.{shifted_one}
+use Rattle.sheet.proofs.inner.bits.low.Goals as goal
+
+pub returns : goal.returns
+returns c = ap (λ (m : ℕ). bit_and c.args.v (m - 1)) (shifted_one c.args.n c.requires) ∙ and_mask c.args.v c.args.n

@@ -1,0 +1,40 @@
+-- The bands are checked in turn; then the sheet has to end in the last byte, before zero bits.
+use Rattle.sheet.proofs.laws.Checking.{going_none, going_broken, going_next, checked_rules, checked_size, checked_fill, checked_yes}
+use native.Mathlib.Omega.{arith}
+use Rattle.sheet.proofs.inner.valid.check.Goals as goal
+
+pub loop-i-init : goal.loop-i-init
+loop-i-init c = going_none
+
+pub returns-then-not-band_keeps : goal.returns-then-not-band_keeps
+returns-then-not-band_keeps c =
+    let r = c.read-n in
+    let l = c.loop-i in
+    let b = c.band_keeps in
+    checked_rules r.ensures (going_broken l.invariant c.loop-i-test.true b.ensures c.if-not-band_keeps.true)
+
+pub loop-i-preserved : goal.loop-i-preserved
+loop-i-preserved c =
+    let l = c.loop-i in
+    let b = c.band_keeps in
+    let r2 = c.read-end in
+    let r3 = c.read-m in
+    going_next l.invariant c.loop-i-test.true b.ensures c.if-not-band_keeps.false r2.ensures r3.ensures
+
+pub returns-then-read-eq0 : goal.returns-then-read-eq0
+returns-then-read-eq0 c =
+    let r = c.read-n in
+    let l = c.loop-i in
+    checked_yes r.ensures l.invariant c.loop-i-test.false c.if-bytes-size.true c.read.ensures (λ j. omega (arith, c.shared_slice_known-1.given j)) c.if-read-eq0.true
+
+pub returns-else-read-eq0 : goal.returns-else-read-eq0
+returns-else-read-eq0 c =
+    let r = c.read-n in
+    let l = c.loop-i in
+    checked_fill r.ensures l.invariant c.loop-i-test.false c.if-bytes-size.true c.read.ensures c.if-read-eq0.false
+
+pub returns-else-bytes-size : goal.returns-else-bytes-size
+returns-else-bytes-size c =
+    let r = c.read-n in
+    let l = c.loop-i in
+    checked_size r.ensures l.invariant c.loop-i-test.false c.if-bytes-size.false
