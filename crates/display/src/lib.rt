@@ -2,6 +2,8 @@
 //
 // The functions here are called by our own crates. Each `requires` is part of what a session keeps of its displays
 // (specs/Represents.antt).
+#![tactic(auto)]
+
 ghost use Rattle.std.specs.Prelude.{◌≡◌, [], ◌≤◌};
 ghost use Rattle.geom.specs.Displays.{first_on, closest_to, display_for};
 ghost use Rattle.geom.specs.Rect16.{Small};
