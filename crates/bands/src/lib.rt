@@ -1,4 +1,6 @@
 // The sheet of what is seen of a window under others: document 02, N6.
+#![tactic(auto)]
+
 ghost use Rattle.std.specs.Prelude.{◌≤◌};
 ghost use Rattle.geom.specs.Rect16.{Small};
 ghost use Rattle.sheet.specs.inner.Writer.{Writes};

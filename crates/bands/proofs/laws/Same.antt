@@ -1,12 +1,11 @@
 -- Intervals are compared number by number; those of a row are told by its columns.
 use Prim.Native.Nat.{ℕ, zero, suc, ◌+◌, ◌*◌, ◌≤◌, ◌<◌}
-use mathlib.Core.Path.{◌≡◌, refl, ap, ap₂, sym, ◌∙◌}
+use mathlib.Core.Path.{◌≡◌, refl, ap, sym, ◌∙◌}
 use mathlib.Core.Bool.{true, false}
 use mathlib.Core.List.{List, [], ◌∷◌}
 use mathlib.Core.Logic.{⊎_elim}
 use native.Mathlib.Omega.{arith}
-use native.Mathlib.Nat.{not-suc-le-zero}
-use lib.ListN.{length, get_or, drop}
+use lib.ListN.{length, get_or}
 use Rattle.geom.specs.declared.Rect.{Rect}
 use Rattle.geom.proofs.basics.Tests.{lt_or_le}
 use Rattle.sheet.specs.Sheet.{Span, in_spans, Apart}
@@ -16,7 +15,7 @@ use Rattle.sheet.proofs.laws.Numbers.{length_spans_in, spans_in_ext}
 use Rattle.sheet.proofs.laws.Pixels.{says_cols}
 use Rattle.sheet.proofs.laws.Reading.{says_yes, says_no}
 use Rattle.sheet.proofs.laws.Unique.{spans_unique}
-use Rattle.bands.specs.inner.Scan.{seen_in, RowMade, IsRow, Kept}
+use Rattle.bands.specs.inner.Scan.{RowMade, IsRow, Kept}
 
 -- Number by number ---------------------------------------------------------------------------------------------------
 

@@ -10,13 +10,13 @@ use lib.ListN.{length, get_or, set, length-set}
 use lib.Seq.{get_or-set_same, get_or-set_other}
 use borrow.Author.Tests.{lt-ltb, le-ltb, le-leb, lt-leb, ltb-true}
 use Rattle.geom.specs.declared.Rect.{Rect}
-use Rattle.geom.specs.Geom.{left, top, width, height, right, bottom}
+use Rattle.geom.specs.Geom.{left, top, width, height, bottom}
 use Rattle.geom.specs.Lists.{any_has}
 use Rattle.geom.specs.Rect16.{Small}
 use Rattle.geom.proofs.basics.Tests.{lt_or_le, fst, or_left, or_right}
 use Rattle.bands.specs.declared.scan.Made.{Made}
 use Rattle.sheet.specs.Sheet.{Span, Band, Sheet, in_spans, has, Apart, Proper, Bands, nothing, SpansFit, BandsFit}
-use Rattle.bands.specs.inner.Above.{Alike, RunRows}
+use Rattle.bands.specs.inner.Above.{RunRows}
 use Rattle.sheet.specs.inner.Numbers.{spans_in, count_in, band_in, past, bands_in, end_in}
 use Rattle.bands.specs.inner.Scan.{uncovered, seen_under, seen_in, RowMade, Scanned}
 use Rattle.bands.proofs.laws.Down.{seen_alike, alike_seen}
