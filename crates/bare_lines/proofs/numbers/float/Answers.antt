@@ -1,15 +1,13 @@
 -- Bits above those of the infinity, without their sign, are a NaN's; of all others the language makes the float.
 use mathlib.Core.Path.{◌≡◌, refl, sym, subst, ◌∙◌}
-use mathlib.Core.Bool.{Bool, true, false, not, false≢true}
+use mathlib.Core.Bool.{Bool, true, not, false≢true}
 use Prim.Native.Nat.{ℕ, ◌+◌, ◌*◌, ◌%◌, ◌≤◌, ◌<◌}
-use borrow.Author.Rules.{rules}
 use borrow.Author.Tests.{lt-ltb, le-ltb}
 use lib.Dec.{T}
 use lib.Ieee as Ieee
 use lib.Ieee.{Float, nan, inf, fin, binary64, is_nan, of_bits, nan_bits}
 use lib.Ieee.Bits.{nan_bits_is, nan_bits_above}
-use Rattle.bare_lines.proofs.numbers.float.Statement.{statement}
-use Rattle.bare_lines.proofs.numbers.float.Tie as tie
+use Rattle.bare_lines.proofs.numbers.float.Goals as goal
 
 is_nan_lem : (x : Float) → is_nan x ≡ true → nan ≡ x
 unfolding is_nan
@@ -23,21 +21,9 @@ made n h = is_nan_lem (of_bits binary64 n) (sym (nan_bits_is binary64 n) ∙ nan
 read : (n : ℕ) → n % 9223372036854775808 ≤ 9218868437227405312 → T (not (nan_bits binary64 n))
 read n h = subst (λ (b : Bool). T (not b)) (sym (nan_bits_above binary64 n ∙ le-ltb 9218868437227405312 (n % 9223372036854775808) h)) tt
 
-mul-bits : tie.Need-overflow-mul-bits
-mul-bits c = search rules
-
-add-bits : tie.Need-overflow-add-bits
-add-bits c = search rules
-
-returns : tie.Need-returns
+pub returns-then-bits-gt9218868437227405312 : goal.returns-then-bits-gt9218868437227405312
 unfolding of_bits Ieee.div
-returns c = let a = c.before.args in made (a.high * 4294967296 + a.low) c.if1.true
+returns-then-bits-gt9218868437227405312 c = let a = c.args in made (a.high * 4294967296 + a.low) c.if-bits-gt9218868437227405312.true
 
-float-from-bits-result : tie.Need-float-from-bits-result
-float-from-bits-result c = let a = c.before.args in read (a.high * 4294967296 + a.low) c.if1.false
-
-returns_2 : tie.Need-returns-2
-returns_2 c = search rules
-
-pub float_spec : {M : Type 1} → statement M
-float_spec = tie.close (tie.spec mul-bits add-bits returns float-from-bits-result returns_2)
+pub float_from_bits-result : goal.float_from_bits-result
+float_from_bits-result c = let a = c.args in read (a.high * 4294967296 + a.low) c.if-bits-gt9218868437227405312.false
