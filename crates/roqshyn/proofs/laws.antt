@@ -2,3 +2,4 @@
 pub mod Events
 pub mod Parts
 pub mod Redraw
+pub mod Written

@@ -24,6 +24,7 @@ pub struct RoqEvent {
 }
 
 // The event that numbers stand for: none where the kind is none of the nine.
+#[tactic(auto, unfolding(crate::specs::Events::event_of))]
 pub fn event_of(e: RoqEvent) -> NextEvent
     ensures { event_in result ≡ event_of e }
 {
@@ -55,6 +56,7 @@ pub fn event_of(e: RoqEvent) -> NextEvent
 }
 
 // All numbers are 0 where there is no event.
+#[tactic(auto, unfolding(crate::specs::Events::numbers_of))]
 pub fn numbers_of(next: NextEvent) -> RoqEvent
     ensures { result ≡ numbers_of (event_in next) }
 {
@@ -80,6 +82,7 @@ fn plain(kind: u8, value: u32) -> RoqEvent
     }
 }
 
+#[tactic(auto, unfolding(crate::specs::Events::numbers_of))]
 fn numbers(e: Event) -> RoqEvent
     ensures { result ≡ numbers_of (some e) }
 {

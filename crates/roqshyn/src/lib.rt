@@ -2,6 +2,8 @@
 //
 // The session lies behind a pointer. A slice is a pointer and a length in elements. No enum crosses: an event is a struct of numbers, and what a
 // call hands back beside its answer is a number or a struct of numbers.
+#![tactic(auto)]
+
 mod calls;
 mod events;
 mod looks;
