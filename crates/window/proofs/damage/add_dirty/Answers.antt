@@ -1,20 +1,7 @@
 -- An empty area or one inside an entry changes nothing; else it merges with an entry or joins the end.
-use mathlib.Core.Path.{◌≡◌, ◌∙◌, sym}
-use mathlib.Core.Bool.{false}
-use Rattle.geom.specs.Geom.{is_empty}
-use Rattle.window.specs.Window.{any_contains}
-use Rattle.window.specs.Represents.{rects}
+use mathlib.Core.Path.{◌∙◌, sym}
 use Rattle.window.proofs.laws.Entries.{dirty_empty, dirty_inside, dirty_merged, dirty_joined}
 use Rattle.window.proofs.damage.add_dirty.Goals as goal
-use Rattle.window.proofs.damage.add_dirty.Goals.{Else-any_contains, Else-is_empty}
-
--- the area has a pixel
-solid : (c : Else-is_empty) → is_empty c.args.area ≡ false
-solid c = sym c.is_empty.ensures ∙ c.if-is_empty.false
-
--- and no entry contains it
-away : (c : Else-any_contains) → any_contains (rects c.args.d) c.args.area ≡ false
-away c = sym c.any_contains.ensures ∙ c.if-any_contains.false
 
 pub returns-then-is_empty : goal.returns-then-is_empty
 returns-then-is_empty c =
@@ -22,15 +9,17 @@ returns-then-is_empty c =
 
 pub returns-then-any_contains : goal.returns-then-any_contains
 returns-then-any_contains c =
-    dirty_inside c.args.w c.args.h c.args.d c.args.area c.requires.0 (solid c.before.before)
+    dirty_inside c.args.w c.args.h c.args.d c.args.area c.requires.0 (sym c.is_empty.ensures ∙ c.if-is_empty.false)
     (sym c.any_contains.ensures ∙ c.if-any_contains.true)
 
 pub returns-then-m : goal.returns-then-m
 returns-then-m c =
-    dirty_merged c.args.w c.args.h c.args.d c.args.area c.requires.0 (solid c.before.before.before.before.before) (away c.before.before.before)
+    dirty_merged c.args.w c.args.h c.args.d c.args.area c.requires.0 (sym c.is_empty.ensures ∙ c.if-is_empty.false)
+    (sym c.any_contains.ensures ∙ c.if-any_contains.false)
     c.merge-m.result c.merge-m.ensures c.if-m.true
 
 pub returns : goal.returns
 returns c =
-    dirty_joined c.args.w c.args.h c.args.d c.args.area c.requires.0 (solid c.before.before.before.before.before.before) (away c.before.before.before.before)
+    dirty_joined c.args.w c.args.h c.args.d c.args.area c.requires.0 (sym c.is_empty.ensures ∙ c.if-is_empty.false)
+    (sym c.any_contains.ensures ∙ c.if-any_contains.false)
     c.merge-m.result c.merge-m.ensures c.if-m.false c.append.result c.append.ensures

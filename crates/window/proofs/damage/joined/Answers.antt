@@ -7,12 +7,10 @@ use Rattle.geom.proofs.geometry.Facts.{small_fits}
 use Rattle.window.specs.Represents.{Low}
 use Rattle.window.proofs.laws.Entries.{low_fits, low_union}
 use Rattle.window.proofs.damage.joined.Goals as goal
-use Rattle.window.proofs.damage.joined.Goals.{After-union}
-
-united : (c : After-union) → c.union.result.rect ≡ union c.args.e c.args.area
-united c = union_is (low_fits _ c.requires.0, small_fits _ c.requires.1) c.union.ensures
 
 pub new-requires : goal.new-requires
 new-requires c =
-    let low : Low c.union.result.rect = subst Low (sym (united c.before)) (low_union _ _ c.requires.0 c.requires.1) in
+    let e : c.union.result.rect ≡ union c.args.e c.args.area =
+    union_is (low_fits _ c.requires.0, small_fits _ c.requires.1) c.union.ensures in
+    let low : Low c.union.result.rect = subst Low (sym e) (low_union _ _ c.requires.0 c.requires.1) in
     omega arith
