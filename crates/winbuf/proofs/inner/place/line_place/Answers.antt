@@ -1,35 +1,25 @@
 -- Each test answers one test of the rule; small numbers keep every sum and product in 64 bits.
-use mathlib.Core.Path.{◌≡◌, sym, ◌∙◌}
-use mathlib.Core.Bool.{true}
-use Rattle.winbuf.specs.Pixels.{small_line, on_line}
+use mathlib.Core.Path.{sym, ◌∙◌}
 use Rattle.winbuf.proofs.bare.Scanlines.{place_found, place_outside, place_beside, place_large}
 use Rattle.winbuf.proofs.inner.place.line_place.Goals as goal
-use Rattle.winbuf.proofs.inner.place.line_place.Goals.{Then-on_line, Then-small_line}
-
-small : (c : Then-small_line)
-    → let a = c.args in small_line a.width a.height a.line a.ofs a.len ≡ true
-small c = sym c.small_line.ensures ∙ c.if-small_line.true
-
-on : (c : Then-on_line) → let a = c.args in on_line a.width a.height a.line a.ofs ≡ true
-on c = sym c.on_line.ensures ∙ c.if-on_line.true
 
 pub returns-then-start-count : goal.returns-then-start-count
 returns-then-start-count c =
     let a = c.args in
     place_found a.total a.width a.height a.line a.ofs a.len c.least-count.result
-    (small c.before.before.before.before) (on c.before.before) c.least-count.ensures c.if-start-count.true
+    (sym c.small_line.ensures ∙ c.if-small_line.true) (sym c.on_line.ensures ∙ c.if-on_line.true) c.least-count.ensures c.if-start-count.true
 
 pub returns-else-start-count : goal.returns-else-start-count
 returns-else-start-count c =
     let a = c.args in
     place_outside a.total a.width a.height a.line a.ofs a.len c.least-count.result
-    (small c.before.before.before.before) (on c.before.before) c.least-count.ensures c.if-start-count.false
+    (sym c.small_line.ensures ∙ c.if-small_line.true) (sym c.on_line.ensures ∙ c.if-on_line.true) c.least-count.ensures c.if-start-count.false
 
 pub returns-else-on_line : goal.returns-else-on_line
 returns-else-on_line c =
     let a = c.args in
     place_beside a.total a.width a.height a.line a.ofs a.len
-    (small c.before.before) (sym c.on_line.ensures ∙ c.if-on_line.false)
+    (sym c.small_line.ensures ∙ c.if-small_line.true) (sym c.on_line.ensures ∙ c.if-on_line.false)
 
 pub returns-else-small_line : goal.returns-else-small_line
 returns-else-small_line c =
