@@ -6,6 +6,8 @@
 // first, which gives the same list in the same order. Rectangles that do not meet the part are passed over in a loop;
 // the first that meets it splits it, and each piece that has a pixel goes on by itself. A part is passed as four
 // numbers and not as a rectangle, which would go through memory at each call.
+#![tactic(auto)]
+
 pub mod dirty;
 pub mod draw;
 pub mod extents;

@@ -13,7 +13,7 @@ use Rattle.geom.proofs.basics.Tests.{is_false}
 use Rattle.geom.proofs.geometry.Facts.{says_meet, says_empty}
 use Rattle.geom.proofs.geometry.Sides.{from_sides, common_sides}
 use Rattle.visible.specs.inner.Seen.{Missed}
-use Rattle.visible.proofs.laws.Split.{Splits}
+use Rattle.visible.proofs.laws.Split.{Splits, missed_more}
 use Rattle.visible.proofs.laws.Piece.{piece_none}
 
 -- the part (x,y,w,h) is split by the k-th rectangle, and l, u, r, s are the sides of what they have in common
@@ -42,6 +42,15 @@ cuts {x} {y} {w} {h} {n} {t} {i} {k} {l} {u} {r} {s} more missed met el eu er es
       high = omega (arith, m.high);
       south = omega arith;
     }
+
+-- the same of the rectangle that the search found
+pub found : {x y w h n : ℕ} {t : List ℕ} {i k l u r s : ℕ} → Missed (rect x y w h) n t i k → (k ≡ n → ⊥)
+    → (k < n → meets (rect x y w h) (rect_at t k) ≡ true) → l ≡ max x (left (rect_at t k)) → u ≡ max y (top (rect_at t k))
+    → r ≡ min (x + w) (right (rect_at t k)) → s ≡ min (y + h) (bottom (rect_at t k))
+    → Cuts x y w h n t i k l u r s
+found missed other met =
+    let m = missed_more missed other in
+    cuts m missed (met m)
 
 some : (p : Rect) → 0 < width p → 0 < height p → is_empty p ≡ false
 some p a b = is_false (λ e. omega (arith, (says_empty p).fact e))

@@ -12,7 +12,7 @@ use Rattle.geom.specs.declared.Rect.{Rect}
 use Rattle.geom.specs.Geom.{rect, left, top, width, height, right, contains, meets, common}
 use Rattle.geom.specs.inner.Fits.{Within}
 use Rattle.geom.specs.Lists.{any_has}
-use Rattle.geom.proofs.basics.Tests.{clash, or_left, or_right, on_cond, by_test, lt_or_le}
+use Rattle.geom.proofs.basics.Tests.{clash, on_cond, by_test, lt_or_le}
 use Rattle.geom.proofs.basics.Lists.{All}
 use Rattle.geom.proofs.geometry.Facts.{In, Meet, says_in, says_meet, not_in, common_in, common_within}
 use Rattle.scanline.specs.Pixels.{write_rows, part}
