@@ -17,5 +17,5 @@ loop-i-preserved c =
     let q = c.loop-i in
     let l = c.loop-i-test.true in (
       omega (arith, l),
-      mark_next c.args.order q.i _ (search rules) (omega (arith, l, c.requires.0)) refl (low c.before.before) q.flags q.invariant.1,
+      mark_next c.args.order q.i _ (search rules) (omega (arith, l, c.requires.0)) refl (low (goal.at.loop-i-preserved c).In-loop-i) q.flags q.invariant.1,
     )

@@ -16,5 +16,5 @@ pub loop-i-preserved : goal.loop-i-preserved
 loop-i-preserved c =
     let q = c.loop-i in (
       omega (arith, c.loop-i-test.true),
-      place_next c.args.order q.i _ (search rules) (omega (arith, c.loop-i-test.true, c.requires.0)) refl (low c.before.before) q.places q.invariant.1,
+      place_next c.args.order q.i _ (search rules) (omega (arith, c.loop-i-test.true, c.requires.0)) refl (low (goal.at.loop-i-preserved c).In-loop-i) q.places q.invariant.1,
     )

@@ -23,5 +23,5 @@ loop-next-preserved c =
     let q = c.loop-next.invariant in (
       omega (arith, q.0),
       above_next a.areas a.order a.shown a.p.0 (search rules) c.requires.0.few q.1 _ q.0 c.loop-next-test.true _ refl
-          (c.requires.0.small _ (low c.before.before.before.before.before.before.before)) _ (rw c.rect.ensures at c.write_rect.ensures),
+          (c.requires.0.small _ (low (goal.at.loop-next-preserved c).In-loop-next)) _ (rw c.rect.ensures at c.write_rect.ensures),
     )
