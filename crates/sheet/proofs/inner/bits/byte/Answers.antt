@@ -5,7 +5,7 @@ use Rattle.sheet.proofs.laws.Packing.{byte_field}
 use Rattle.sheet.proofs.inner.bits.byte.Goals as goal
 
 pub returns-then-i-bytes : goal.returns-then-i-bytes
-returns-then-i-bytes c = byte_field _ _ (omega (arith, c.shared_slice_known-1.given c.args.i))
+returns-then-i-bytes c = byte_field _ _ (omega (arith, c.type_inv.bytes c.args.i))
 
 pub returns : goal.returns
 returns c =

@@ -25,7 +25,7 @@ pub returns-then-read-eq0 : goal.returns-then-read-eq0
 returns-then-read-eq0 c =
     let r = c.read-n in
     let l = c.loop-i in
-    checked_yes r.ensures l.invariant c.loop-i-test.false c.if-bytes-size.true c.read.ensures (λ j. omega (arith, c.shared_slice_known-1.given j)) c.if-read-eq0.true
+    checked_yes r.ensures l.invariant c.loop-i-test.false c.if-bytes-size.true c.read.ensures (λ j. omega (arith, c.type_inv.bytes j)) c.if-read-eq0.true
 
 pub returns-else-read-eq0 : goal.returns-else-read-eq0
 returns-else-read-eq0 c =
