@@ -6,7 +6,6 @@ use Rattle.geom.specs.Geom.{left, top, width, height, contains}
 use Rattle.geom.specs.Lists.{any_has, Disjoint, most}
 use Rattle.paint.specs.Shade.{tone}
 use Rattle.window.specs.declared.Event.{Event}
-use Rattle.window.specs.declared.Event.TheVariants as Event
 use Rattle.rules.specs.Group.{Group, start, win}
 use Rattle.rules.specs.Order.{is_in, above}
 use Rattle.rules.specs.Visible.{Listed, visible_list, rects_of}

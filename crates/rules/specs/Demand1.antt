@@ -22,7 +22,6 @@ use Rattle.sheet.specs.Sheet.{rects}
 use Rattle.sheet.specs.Bytes.{encode}
 use Rattle.sheet.specs.Reader.{IsSheet, Reads}
 use Rattle.window.specs.declared.Event.{Event}
-use Rattle.window.specs.declared.Event.TheVariants as Event
 use Rattle.window.specs.Window.{Win}
 use Rattle.rules.specs.Group.{Group, Outcome, some_win, used, win, id_or, allowed_c, fresh, start}
 use Rattle.rules.specs.Order.{shown}

@@ -1,5 +1,5 @@
 -- Document 03, A3, "What waits."
-use Rattle.std.specs.Prelude.{ℕ, zero, suc, ◌+◌, ◌*◌, ◌/◌, ◌%◌, ◌≡◌, Bool, true, false, cond, List, [], ◌∷◌, eqb}
+use Rattle.std.specs.Prelude.{ℕ, zero, suc, ◌+◌, ◌*◌, ◌/◌, ◌%◌, ◌≡◌, Bool, cond, List, eqb}
 use Rattle.rules.specs.Group.{Group}
 use Rattle.rules.specs.Events.{pop}
 use Rattle.rules.specs.Calls.{Call, Pop, does, after}

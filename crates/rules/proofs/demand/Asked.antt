@@ -1,6 +1,6 @@
 -- The tests of demand 1, which are in the documents' words, are those of the rules: in every group that calls give.
 use Prim.Native.Nat.{ℕ}
-use mathlib.Core.Path.{◌≡◌, refl, sym, ap, ◌∙◌}
+use mathlib.Core.Path.{◌≡◌, refl, sym, ◌∙◌}
 use mathlib.Core.Bool.{Bool, true, false, cond, not, ◌&&◌, ◌||◌, and-false, or-false}
 use mathlib.Core.List.{List, [], ◌∷◌, map}
 use mathlib.Core.Option.{Option, none, some}
@@ -12,9 +12,8 @@ use Rattle.geom.specs.Questions.{◌is◌, asked, small}
 use Rattle.geom.specs.Geom.{is_empty, contains}
 use Rattle.geom.specs.Lists.{any_has}
 use Rattle.window.specs.declared.Event.{Event}
-use Rattle.window.specs.declared.Event.TheVariants as Event
 use Rattle.window.specs.Window.{Win}
-use Rattle.rules.specs.Group.{Group, some_win, used, win, first_free, some_id, id_or}
+use Rattle.rules.specs.Group.{Group, used, win, first_free, some_id, id_or}
 use Rattle.rules.specs.Events as Events
 use Rattle.rules.specs.Events.{room, topmost, topmost_of, popped, some_event, grabber, route_up}
 use Rattle.rules.specs.Demand1.{in_use, any_unused, waits, under_point, remembers, takes_release, room_of, press_questions, release_questions, route_questions}

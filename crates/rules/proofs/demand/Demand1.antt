@@ -43,7 +43,7 @@ use Rattle.rules.specs.DisplayAt as DisplayAt
 use Rattle.rules.specs.Stale as Stales
 use Rattle.rules.specs.State as State
 use Rattle.rules.specs.Calls.{Call, Create, Show, Hide, Drop, Mark, Pop, Move, Resize, Fill, Blit, Route, Redraw, Begin, Portion, Dim, SetLayer, AddDisplay, Maximise, UpdateDims, Raise, Drag, does, accepted, after}
-use Rattle.rules.specs.Demand1.{questions, Unchanged, Answers, Query, Visible, Share, Sheet, Hits, Look, GetDisplayForPos, RectOf, Focus, Stale, Waiting, Window, Session, window_numbers, query_questions, replies, reply, refusal, Replies, Bare, Contains, Within, ContainsRect, Union, Intersect, NotIntersect, ScanlineRange, Scanline, FillScanline, SetScanline, Region, Busiest, line_lies, bare_questions, bare_replies, bare_refusal, BareReplies, Started, ReadsSheet, Demand1}
+use Rattle.rules.specs.Demand1.{questions, Answers, Query, Visible, Share, Sheet, Hits, Look, GetDisplayForPos, RectOf, Focus, Stale, Waiting, Window, Session, window_numbers, query_questions, replies, reply, refusal, Replies, Bare, Contains, Within, ContainsRect, Union, Intersect, NotIntersect, ScanlineRange, Scanline, FillScanline, SetScanline, Region, Busiest, line_lies, bare_questions, bare_replies, bare_refusal, BareReplies, Started, ReadsSheet, Demand1}
 use Rattle.rules.proofs.group.Invariant.{Ok}
 use Rattle.rules.proofs.group.Kept.{ok_after}
 use Rattle.rules.proofs.group.Refused.{refused_group, refused_store, refused_lent, refused_nothing}

@@ -1,5 +1,4 @@
 -- The ledger keeps it: no queue holds a KeyFire, so a pop gives none.
-use Prim.Native.Nat.{ℕ}
 use mathlib.Core.Path.{◌≡◌, refl}
 use mathlib.Core.Bool.{Bool, true, false, cond}
 use mathlib.Core.List.{List, [], ◌∷◌}

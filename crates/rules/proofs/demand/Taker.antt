@@ -2,9 +2,9 @@
 -- window that it goes to alone.
 use Prim.Native.Nat.{ℕ, ◌-◌}
 use mathlib.Core.Path.{◌≡◌, refl, sym, ap, subst, ◌∙◌}
-use mathlib.Core.Logic.{◌≢◌, inl, inr}
-use mathlib.Core.Bool.{Bool, true, false, cond, ◌&&◌, and-true, and-false}
-use mathlib.Core.List.{List, [], ◌∷◌, ◌++◌}
+use mathlib.Core.Logic.{inl, inr}
+use mathlib.Core.Bool.{true, false, cond, ◌&&◌, and-true, and-false}
+use mathlib.Core.List.{[], ◌∷◌, ◌++◌}
 use mathlib.Core.Option.{Option, none, some, some-injective}
 use native.Mathlib.Omega.{arith}
 use lib.Dec.{eqb}
@@ -17,14 +17,13 @@ use Rattle.geom.specs.Nearest.{nearest_x, nearest_y}
 use Rattle.geom.proofs.basics.Tests.{clash, fst, snd, on_test₂}
 use Rattle.geom.proofs.basics.Questions.{asked₂, asked₃}
 use Rattle.window.specs.declared.Event.{Event}
-use Rattle.window.specs.declared.Event.TheVariants as Event
 use Rattle.window.specs.Window.{Win, pushed, cursor_to}
-use Rattle.rules.specs.Group.{Group, win_at, used, win, set_win, with_grab, some_id, id_or}
+use Rattle.rules.specs.Group.{Group, used, win, set_win, with_grab, some_id, id_or}
 use Rattle.rules.specs.Order.{shown}
 use Rattle.rules.specs.Events as Events
 use Rattle.rules.specs.Events.{with_queue, with_cursor, room, topmost, relative, grabber, pushed_to}
 use Rattle.rules.specs.Calls.{does, after}
-use Rattle.rules.specs.Taker.{Taker, nobody, the_focus, at_point, released, goes_to, taker, given, TookAt, TookNone, Took, Takes}
+use Rattle.rules.specs.Taker.{Taker, nobody, the_focus, at_point, released, taker, given, TookAt, Took, Takes}
 use Rattle.rules.proofs.group.Invariant.{Ok, used_small}
 use Rattle.rules.proofs.group.Inside.{topmost_used, among_shown}
 use Rattle.rules.proofs.group.Steps.{Among, grabber_grab}

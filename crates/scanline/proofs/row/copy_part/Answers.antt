@@ -1,11 +1,7 @@
 -- `copy_part`: what is left to be copied, from here, gives the same.
-use mathlib.Core.Path.{◌≡◌, refl, sym, ap, ◌∙◌}
-use Prim.Native.Nat.{ℕ, ◌+◌, ◌-◌, ◌≤◌, ◌<◌}
+use mathlib.Core.Path.{◌∙◌}
 use native.Mathlib.Omega.{arith}
-use native.Mathlib.Nat.{sub-zero, add-zero}
-use lib.ListN.{length, length-set}
-use lib.Seq.{sets}
-use Rattle.scanline.specs.Pixels.{part}
+use lib.ListN.{length-set}
 use Rattle.scanline.proofs.rows.Columns.{copy_turn}
 use Rattle.scanline.proofs.row.copy_part.Goals as goal
 

@@ -1,9 +1,8 @@
 -- `fill_all`: the first i of the row are v, the rest as they were.
-use mathlib.Core.Path.{◌≡◌, refl, sym, ap, ◌∙◌}
-use Prim.Native.Nat.{◌-◌, ◌≤◌}
+use mathlib.Core.Path.{refl, sym, ◌∙◌}
 use native.Mathlib.Omega.{arith}
-use lib.ListN.{length, replicate, length-replicate}
-use Rattle.scanline.proofs.rows.Fill.{mixed, mixed_none, mixed_all, filled_more, length_mixed}
+use lib.ListN.{length, length-replicate}
+use Rattle.scanline.proofs.rows.Fill.{mixed_none, mixed_all, filled_more}
 use Rattle.scanline.proofs.row.fill_all.Goals as goal
 
 pub loop-i-init : goal.loop-i-init

@@ -1,11 +1,9 @@
 -- `fill_all`: the first i of the row are v, the rest as they were.
-use mathlib.Core.Path.{◌≡◌, refl, sym, ap, ◌∙◌}
+use mathlib.Core.Path.{◌≡◌}
 use Prim.Native.Nat.{◌-◌, ◌≤◌}
-use native.Mathlib.Omega.{arith}
-use lib.ListN.{length, replicate, length-replicate}
-use Rattle.scanline.proofs.rows.Fill.{mixed, mixed_none, mixed_all, filled_more, length_mixed}
+use lib.ListN.{length, replicate}
+use Rattle.scanline.proofs.rows.Fill.{mixed}
 use Rattle.scanline.proofs.row.fill_all.Given as goal
-
 
 abbrev pub invariant-loop-i : goal.invariant-loop-i
 invariant-loop-i l = (l.dst ≡ mixed l.i (replicate (length l.initial.dst) l.v) l.initial.dst) × (l.i ≤ length l.initial.dst) × (l.n ≡ length l.initial.dst)

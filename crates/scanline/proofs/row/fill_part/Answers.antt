@@ -1,12 +1,10 @@
 -- `fill_part`: what is left to be filled, from here, gives the same; and of the pixels so far all but those that kept their values differ.
-use mathlib.Core.Path.{◌≡◌, refl, sym, ap, ◌∙◌}
-use Prim.Native.Nat.{ℕ, ◌+◌, ◌-◌, ◌≤◌}
+use mathlib.Core.Path.{◌≡◌, refl, ◌∙◌}
+use Prim.Native.Nat.{◌+◌}
 use native.Mathlib.Omega.{arith}
 use native.Mathlib.Nat.{sub-zero, add-zero}
-use lib.ListN.{replicate}
-use lib.Seq.{sets}
 use Rattle.scanline.proofs.rows.Columns.{fill_turn}
-use Rattle.scanline.proofs.rows.Altered.{Along, along_none, along_kept}
+use Rattle.scanline.proofs.rows.Altered.{along_none, along_kept}
 use Rattle.scanline.proofs.row.fill_part.Goals as goal
 
 pub loop-i-init : goal.loop-i-init

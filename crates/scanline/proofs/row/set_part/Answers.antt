@@ -1,13 +1,11 @@
 -- `set_part`: what is left to be copied, from here, gives the same; and of the pixels so far all but those that kept their values differ.
-use mathlib.Core.Path.{◌≡◌, refl, sym, ap, ◌∙◌}
-use Prim.Native.Nat.{ℕ, ◌+◌, ◌-◌, ◌≤◌}
+use mathlib.Core.Path.{◌≡◌, refl, ◌∙◌}
+use Prim.Native.Nat.{◌+◌}
 use native.Mathlib.Omega.{arith}
 use native.Mathlib.Nat.{sub-zero, add-zero}
 use lib.ListN.{get_or}
-use lib.Seq.{sets}
-use Rattle.scanline.specs.Pixels.{part}
 use Rattle.scanline.proofs.rows.Columns.{copy_turn}
-use Rattle.scanline.proofs.rows.Altered.{Along, along_none, along_kept}
+use Rattle.scanline.proofs.rows.Altered.{along_none, along_kept}
 use Rattle.scanline.proofs.row.set_part.Goals as goal
 
 pub loop-i-init : goal.loop-i-init

@@ -1,15 +1,10 @@
 -- `set_part`: what is left to be copied, from here, gives the same; and of the pixels so far all but those that kept their values differ.
-use mathlib.Core.Path.{◌≡◌, refl, sym, ap, ◌∙◌}
-use Prim.Native.Nat.{ℕ, ◌+◌, ◌-◌, ◌≤◌}
-use native.Mathlib.Omega.{arith}
-use native.Mathlib.Nat.{sub-zero, add-zero}
-use lib.ListN.{get_or}
+use mathlib.Core.Path.{◌≡◌}
+use Prim.Native.Nat.{◌+◌, ◌-◌, ◌≤◌}
 use lib.Seq.{sets}
 use Rattle.scanline.specs.Pixels.{part}
-use Rattle.scanline.proofs.rows.Columns.{copy_turn}
-use Rattle.scanline.proofs.rows.Altered.{Along, along_none, along_kept}
+use Rattle.scanline.proofs.rows.Altered.{Along}
 use Rattle.scanline.proofs.row.set_part.Given as goal
-
 
 abbrev pub invariant-loop-i : goal.invariant-loop-i
 invariant-loop-i l =

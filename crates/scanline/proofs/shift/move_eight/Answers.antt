@@ -6,7 +6,6 @@ use lib.Seq.{sets}
 use Rattle.scanline.specs.Pixels.{part}
 use Rattle.scanline.proofs.rows.Runs.{full_part}
 use Rattle.scanline.proofs.rows.Move.{kept_is}
-use borrow.Author.Rules.{rules}
 use Rattle.scanline.proofs.shift.move_eight.Goals as goal
 
 pub returns : goal.returns
