@@ -1,6 +1,6 @@
 -- Document 03, A2, "What is stale", of the program: what a call of `stale` gives after a run, and what the call that is
 -- meant leaves of the screen if it is made next.
-use Rattle.std.specs.Prelude.{ℕ, ◌<◌, ◌≡◌, Bool, true, false, cond, List}
+use Rattle.std.specs.Prelude.{ℕ, ◌<◌, ◌≡◌, true, false, cond, List}
 use Rattle.std.proofs.Math.Option.{Option, none, some}
 use Rattle.geom.specs.declared.Rect.{Rect}
 use Rattle.geom.specs.Geom.{contains}

@@ -37,7 +37,6 @@ use Rattle.windows.specs.declared.NewId.TheVariants.{Id, Absent}
 use Rattle.windows.specs.declared.Created.{Created}
 use Rattle.windows.specs.declared.NextEvent.{NextEvent}
 use Rattle.windows.specs.declared.Taker.{Taker}
-use Rattle.windows.specs.declared.NextEvent.TheVariants as NextEvent
 use Rattle.windows.specs.declared.Popped.{Popped}
 use Rattle.windows.specs.declared.Placed.{Placed}
 use Rattle.geom.specs.declared.Listing.{Listing}

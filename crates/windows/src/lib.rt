@@ -11,6 +11,8 @@
 //             redraw that goes window by window
 //     the lent store             C     C     C     C     C  …   C     window i has the C pixels from i × C on, rows of its own width
 //     the lent screen            what a redraw writes, window by window in the order, each under those above it
+#![tactic(auto)]
+
 use display::{Displays, Located};
 use due::Due;
 use geom::Rect;

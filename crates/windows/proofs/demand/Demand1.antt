@@ -17,15 +17,13 @@ use Rattle.rules.proofs.demand.Demand1.{demand_1}
 use Rattle.windows.specs.declared.Session.{Session}
 use Rattle.windows.specs.declared.Done.{Done}
 use Rattle.windows.specs.declared.NewId.{NewId}
-use Rattle.windows.specs.declared.NewId.TheVariants as NewId
 use Rattle.windows.specs.declared.NextEvent.{NextEvent}
-use Rattle.windows.specs.declared.NextEvent.TheVariants as NextEvent
 use Rattle.windows.specs.declared.Placed.{Placed}
 use Rattle.windows.specs.declared.Stale.{Stale}
 use Rattle.windows.specs.declared.WindowState.{WindowState}
 use Rattle.windows.specs.declared.SessionState.{SessionState}
 use Rattle.windows.specs.View.{group, Meets, id_of, event_in, is_due, rect_in}
-use Rattle.windows.specs.Run.{calls, LeftAs, Run, AsRuled}
+use Rattle.windows.specs.Run.{calls, LeftAs, AsRuled}
 use Rattle.windows.specs.Demand1.{WasAnswered, RunAnswered, Answered, Replied, window_numbers, session_numbers, NextCall, ProgramDemand1}
 use Rattle.windows.proofs.demand.Runs.{ruled_from, reached, ruled}
 

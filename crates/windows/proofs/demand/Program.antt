@@ -7,7 +7,7 @@ use mathlib.Core.List.{List, [], ◌∷◌, ◌++◌, append_assoc}
 use Rattle.geom.proofs.basics.Tests.{is_true, clash, snd}
 use Rattle.window.specs.declared.Event.TheVariants.{MouseUp}
 use Rattle.rules.specs.Group.{Group, start}
-use Rattle.rules.specs.Visible.{Listed, visible_list}
+use Rattle.rules.specs.Visible.{visible_list}
 use Rattle.rules.specs.Walk.{begun}
 use Rattle.rules.specs.Calls.{Call, Made, Route, does, accepted, by_rule, after}
 use Rattle.rules.specs.Book.{book_of, topmost}
@@ -20,7 +20,7 @@ use Rattle.rules.proofs.demand.Demand3.{demand_3}
 use Rattle.rules.proofs.demand.Walks.{walks}
 use Rattle.windows.specs.declared.Session.{Session}
 use Rattle.windows.specs.View.{group}
-use Rattle.windows.specs.Run.{calls, LeftAs, Run, AsRuled, RunPixels, RunPortions, RunPresses, RunReleases, RunVisibles, ProgramDemand3}
+use Rattle.windows.specs.Run.{calls, LeftAs, AsRuled, RunPixels, RunPortions, RunPresses, RunReleases, RunVisibles, ProgramDemand3}
 use Rattle.windows.proofs.demand.Runs.{calls_append, ruled_from, reached, ruled}
 
 -- The screens --------------------------------------------------------------------------------------------------------

@@ -4,12 +4,12 @@ use Prim.Native.Nat.{ℕ}
 use mathlib.Core.Path.{◌≡◌, refl, sym, ap, subst, ◌∙◌}
 use mathlib.Core.List.{List}
 use mathlib.Core.Option.{Option, none, some}
-use lib.Dec.{T, eqb}
+use lib.Dec.{T}
 use borrow.Author.Tests.{eq-eqb}
 use Rattle.geom.specs.declared.Rect.{Rect}
 use Rattle.geom.proofs.basics.Tests.{holds}
 use Rattle.rules.specs.Group.{Group}
-use Rattle.rules.specs.Calls.{Call, Made, does, accepted, after}
+use Rattle.rules.specs.Calls.{Call, does, accepted}
 use Rattle.rules.specs.Demand.{pixel_at}
 use Rattle.rules.specs.Stale as Rule
 use Rattle.rules.specs.Stale.{StaleRect, is_stale, IsSmallest, meant, Untouched, Overwritten}
@@ -18,7 +18,7 @@ use Rattle.windows.specs.declared.Session.{Session}
 use Rattle.windows.specs.declared.Done.{Done}
 use Rattle.windows.specs.declared.Stale.{Stale}
 use Rattle.windows.specs.View.{group, MeetsScreen, stale_of}
-use Rattle.windows.specs.Run.{calls, Run}
+use Rattle.windows.specs.Run.{calls}
 use Rattle.windows.specs.Stale.{handed, RunUntouched, RunOverwritten, ProgramStale}
 use Rattle.windows.proofs.demand.Runs.{reached}
 

@@ -1,5 +1,5 @@
 -- What the rules promise of who took an event, read of the session that the calls of a run left.
-use mathlib.Core.Path.{◌≡◌, sym, subst, subst₂}
+use mathlib.Core.Path.{sym, subst, subst₂}
 use Rattle.window.specs.declared.Event.{Event}
 use Rattle.rules.specs.Group.{Group}
 use Rattle.rules.specs.Calls.{Route, does}

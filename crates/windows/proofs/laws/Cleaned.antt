@@ -18,7 +18,7 @@ use Rattle.window.specs.declared.Window.{Window}
 use Rattle.window.specs.Window.{Win}
 use Rattle.window.specs.Represents.{win_of, RepWindow}
 use Rattle.rules.specs.Group.{Group, win, win_at, the_win, with_windows, set_win}
-use Rattle.rules.specs.Order.{is_in, shown}
+use Rattle.rules.specs.Order.{is_in}
 use Rattle.rules.specs.Redraw.{clean, clean_all, is_drawn}
 use Rattle.rules.proofs.group.Invariant.{used_small}
 use Rattle.order.specs.Ids.{ids}

@@ -49,7 +49,6 @@ use Rattle.windows.specs.inner.Sharing.{with_flags, sharing}
 use Rattle.windows.specs.inner.Drag.{turns_of, Drags, PlansDrag, dragged_win, uncovered_win, turned, OnTurn, settled, settled_by}
 use Rattle.windows.proofs.laws.Session.{cell_at, is_cell, no_cell, used_at, win_at_lem, put_rep, given_ok, refuses, gives}
 use Rattle.windows.proofs.laws.Shared.{debt_shared}
-use Rattle.windows.proofs.laws.One.{own}
 use Rattle.windows.proofs.laws.Frames.{shown_used}
 use Rattle.windows.proofs.laws.Turns.{turns_distinct, turns_in, first_turn}
 

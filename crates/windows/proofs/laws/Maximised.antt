@@ -19,12 +19,11 @@ use Rattle.window.specs.Represents.{win_of}
 use Rattle.rules.specs.Group.{Group, used, win, set_win, set_maximised, owing}
 use Rattle.rules.specs.Displays as Rule
 use Rattle.rules.specs.Displays.{locate, on_only, resized_to, resized_store, fits, display_of}
-use Rattle.rules.specs.Calls.{AddDisplay, Maximise, does, accepted}
+use Rattle.rules.specs.Calls.{AddDisplay, Maximise, does}
 use Rattle.rules.proofs.group.Refused.{refused_store}
 use Rattle.rules.proofs.group.Invariant.{used_small}
 use Rattle.display.specs.declared.Added.{Added}
 use Rattle.display.specs.Represents.{regions, Adds}
-use Rattle.display.specs.inner.Update.{place}
 use Rattle.windows.specs.declared.Session.{Session}
 use Rattle.windows.specs.declared.Shared.{Shared}
 use Rattle.windows.specs.declared.Changed.{Changed}

@@ -14,7 +14,7 @@ use Rattle.window.specs.Window.{Win}
 use Rattle.window.specs.Represents.{win_of, RepWindow}
 use Rattle.rules.specs.Group.{Group, used, win, win_at, the_win, some_win, with_windows, set_win}
 use Rattle.rules.specs.Store.{whole}
-use Rattle.rules.specs.Calls.{Call, does, after}
+use Rattle.rules.specs.Calls.{Call, does}
 use Rattle.rules.proofs.group.Refused.{refused_group}
 use Rattle.rules.proofs.group.Invariant.{Ok}
 use Rattle.rules.proofs.group.Kept.{ok_after}

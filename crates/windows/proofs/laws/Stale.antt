@@ -3,24 +3,24 @@
 use Prim.Native.Nat.{ℕ, suc, ◌+◌, ◌-◌, ◌≤◌, ◌<◌}
 use mathlib.Core.Path.{◌≡◌, refl, sym, ap, subst, subst₂, ◌∙◌}
 use mathlib.Core.Bool.{Bool, true, false, cond, not, ◌&&◌, ◌||◌, and-false, or-false}
-use mathlib.Core.Logic.{◌⊎◌, inl, inr, ⊎_elim}
-use mathlib.Core.List.{List, [], ◌∷◌, ◌++◌, map, map-append}
+use mathlib.Core.Logic.{⊎_elim}
+use mathlib.Core.List.{List, [], ◌∷◌, map, map-append}
 use mathlib.Core.Option.{Option, none, some}
 use native.Mathlib.Omega.{arith}
 use lib.Dec.{leb, ltb, eqb}
-use lib.ListN.{length, get_or, set, take, drop, length-set}
+use lib.ListN.{get_or, set, length-set}
 use lib.Seq.{take_all}
 use borrow.Author.Tests.{lt-ltb, ltb-true, ltb-false, leb-true, le-leb, eq-eqb}
 use Rattle.geom.specs.declared.Rect.{Rect}
-use Rattle.geom.specs.Geom.{rect, left, top, width, height, right, bottom, small_rect, contains, meets}
+use Rattle.geom.specs.Geom.{rect, small_rect, contains, meets}
 use Rattle.geom.specs.inner.Fits.{Fits}
-use Rattle.geom.specs.Lists.{outside_all, relative, meets_of, list_intersect, any_has}
+use Rattle.geom.specs.Lists.{outside_all, meets_of, list_intersect, any_has}
 use Rattle.geom.specs.declared.inner.rect16.Rect16.{Rect16}
 use Rattle.geom.specs.Rect16.{Small, rect_of}
 use Rattle.geom.proofs.basics.Tests.{is_false, clash, fst, snd, both, on_cond}
 use Rattle.geom.proofs.basics.Lists.{set_in}
 use Rattle.geom.proofs.geometry.Cover.{any_has_append}
-use Rattle.geom.proofs.geometry.Facts.{In, says_in, says_meet}
+use Rattle.geom.proofs.geometry.Facts.{says_in, says_meet}
 use Rattle.geom.proofs.geometry.Pieces.{left_within}
 use Rattle.window.specs.declared.Window.{Window}
 use Rattle.window.specs.declared.damage.Damage.{Damage}

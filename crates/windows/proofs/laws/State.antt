@@ -14,7 +14,6 @@ use Rattle.window.specs.declared.ids.WinId.{WinId}
 use Rattle.window.specs.Window.{Win}
 use Rattle.window.specs.Represents.{win_of}
 use Rattle.window.proofs.laws.Events.{events_count}
-use Rattle.rules.specs.Group as Rule
 use Rattle.rules.specs.Group.{Group, used, win, id_or}
 use Rattle.rules.specs.Order.{shown, place_of}
 use Rattle.rules.specs.Walk.{begun, is_full}

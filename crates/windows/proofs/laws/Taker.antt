@@ -1,16 +1,14 @@
 -- Who took an event, by where the event goes: the rule's taker at each end of a route.
-use Prim.Native.Nat.{ℕ, suc, ◌-◌}
+use Prim.Native.Nat.{ℕ, suc}
 use mathlib.Core.Path.{◌≡◌, refl, sym, ap, subst, ◌∙◌}
 use mathlib.Core.Bool.{Bool, true, false, cond}
 use mathlib.Core.Option.{Option, none, some}
 use lib.Dec.{eqb, eqb-suc-zero}
-use Rattle.geom.specs.Geom.{left, top}
-use Rattle.geom.specs.Nearest.{nearest_x, nearest_y}
 use Rattle.window.specs.declared.Event.{Event}
 use Rattle.window.specs.declared.Event.TheVariants.{Resize, KeyDown, KeyUp, KeyFire, Text, MouseMove, MouseDown, MouseClick, MouseUp}
 use Rattle.window.specs.declared.ids.WinId.{WinId}
-use Rattle.rules.specs.Group.{Group, win}
-use Rattle.rules.specs.Events.{topmost, grabber, route}
+use Rattle.rules.specs.Group.{Group}
+use Rattle.rules.specs.Events.{topmost, grabber}
 use Rattle.rules.specs.Calls.{Route, does}
 use Rattle.rules.specs.Taker as Taken
 use Rattle.order.specs.Ids.{grab_of}

@@ -11,8 +11,6 @@ use lib.Dec.{ltb, eqb, eqb-suc-zero}
 use lib.ListN.{length, set}
 use lib.Seq.{set-get_or}
 use borrow.Author.Tests.{lt-ltb, le-ltb}
-use denote.Enum.Declared.{tag_of}
-use types.Run.{OneOf, miss}
 use Rattle.geom.specs.Questions.{Question, ◌is◌, asked}
 use Rattle.geom.proofs.basics.Tests.{clash}
 use Rattle.window.specs.declared.Event.{Event}
@@ -25,7 +23,6 @@ use Rattle.window.specs.declared.ids.WinId.{WinId}
 use Rattle.window.specs.Window.{Win, pushed, cursor_to}
 use Rattle.window.specs.Represents.{place, no_slot, win_of, events, RepCursor, RepWindow}
 use Rattle.window.specs.inner.Changes.{Queued, slot_of, PushedTo}
-use Rattle.window.specs.contracts.Event.{the_type}
 use Rattle.window.proofs.laws.Events.{events_count}
 use Rattle.window.proofs.laws.Events as Queue
 use Rattle.rules.specs.Group.{Group, Outcome, win, set_win, with_grab, leaves}
@@ -36,12 +33,12 @@ use Rattle.windows.specs.declared.Shared.{Shared}
 use Rattle.windows.specs.declared.Session.{Session}
 use Rattle.windows.specs.declared.inner.events.Told.{Told}
 use Rattle.windows.specs.declared.inner.events.Message.{Message}
-use Rattle.windows.specs.View.{group, blank, window_at, Rep, Given, Meets, done}
+use Rattle.windows.specs.View.{group, window_at, Rep, Given, Meets, done}
 use Rattle.windows.specs.inner.One.{with_window}
 use Rattle.windows.specs.inner.Sharing.{grabbing}
 use Rattle.windows.specs.inner.Events.{move_or, Tellable, takes, told, ToldTo}
 use Rattle.windows.specs.inner.Aimed.{remembered, Heard, AtBack, told_back}
-use Rattle.windows.proofs.laws.Session.{win_at_lem, put_group, put_rep, put_window, refuses, gives}
+use Rattle.windows.proofs.laws.Session.{win_at_lem, put_group, put_rep, refuses, gives}
 use Rattle.windows.proofs.laws.One.{put_back}
 use Rattle.windows.proofs.laws.Parts.{set_queue, set_cursor, queue_rep, cursor_rep}
 
@@ -49,7 +46,7 @@ use Rattle.windows.proofs.laws.Parts.{set_queue, set_cursor, queue_rep, cursor_r
 
 -- what the last arm of a match knows, whose other arm is a move's: the event is of another kind
 abbrev pub Other : Event → Type 0
-Other e = OneOf (0 ∷ 1 ∷ 2 ∷ 3 ∷ 4 ∷ 6 ∷ 7 ∷ 8 ∷ []) (tag_of the_type e)
+Other e = (x y : ℕ) (dx dy : ℤ) → e ≡ MouseMove x y dx dy → ⊥
 
 by_other {ℓ} : {A : Type ℓ} (move : ℕ → ℕ → A) (other : Event → A) (e : Event) → Other e → move_or move other e ≡ other e
 by_other move other Resize k = refl
@@ -57,7 +54,7 @@ by_other move other (KeyDown v) k = refl
 by_other move other (KeyUp v) k = refl
 by_other move other (KeyFire v) k = refl
 by_other move other (Text v) k = refl
-by_other move other (MouseMove x y dx dy) k = absurd (miss (0 ∷ 1 ∷ 2 ∷ 3 ∷ 4 ∷ 6 ∷ 7 ∷ 8 ∷ []) 5 tt k)
+by_other move other (MouseMove x y dx dy) k = absurd (k x y dx dy refl)
 by_other move other (MouseDown x y b) k = refl
 by_other move other (MouseClick x y b n) k = refl
 by_other move other (MouseUp x y b) k = refl
