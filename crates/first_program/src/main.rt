@@ -1,6 +1,8 @@
 // A first program: a panel of 2 by 2 pixels on a screen of 3 by 2 is filled, drawn and pressed.
 //
 // `check::expect` requires that its argument is true: each check below is proved, from the contracts of the calls alone.
+#![tactic(auto)]
+
 ghost use Rattle.std.specs.Prelude.{◌≡◌};
 ghost use Rattle.windows.specs.View.{event_in};
 ghost use Rattle.first_program.specs.inner.Press.{is_press};
