@@ -7,7 +7,6 @@ use Rattle.script.specs.Script.{hears, heard_of}
 use Rattle.rules.specs.Group.{Group, start, session_c}
 use Rattle.rules.specs.Visible.{visible_list}
 use Rattle.rules.specs.Hits.{hits}
-use Rattle.rules.specs.Calls as Call
 use Rattle.rules.specs.Calls.{Call, does}
 use Rattle.windows.specs.declared.Session.{Session}
 use Rattle.windows.specs.declared.Done.{Done}

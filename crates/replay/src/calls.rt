@@ -21,6 +21,7 @@ use answer_text::Waiting;
 use bare_lines::numbers;
 use geom::inner::answers::OK;
 use script::{Line, kind};
+use std::io::Stdout;
 use windows::{Done, NewId, NextEvent, Session};
 
 // A line that hands back an answer alone.
@@ -47,89 +48,101 @@ fn plain(s: Session, line: Line, ns: &[u32; 384006]) -> Done
 }
 
 // A line that is lent no pixels and no list.
-pub fn call(p: Player, line: Line, ns: &[u32; 384006], out: &mut [u8; 65536]) -> Player
+pub fn call(
+    p: Player,
+    line: Line,
+    ns: &[u32; 384006],
+    stdout: Stdout,
+    out: &mut [u8; 65536],
+) -> Player
     requires { Ready p × Sound line ns.now × (is_lent line.kind ≡ false) }
     ensures { (a : Pixels) → Writes line ns.now p a out.old result a out.new }
 {
     let k = line.kind;
     match k {
         kind::PASSED => p,
-        kind::MALFORMED => p.malformed(out),
-        kind::START => start(p, ns, out),
-        kind::CREATE => create(p, out),
-        kind::POP => pop(p, ns, out),
-        kind::FOCUS => focus(p, out),
-        kind::LEND => lend::lend_store(p, ns, out),
-        kind::LEND_SCREEN => lend::lend_screen(p, ns, out),
-        kind::LEND_LIST => lend::lend_list(p, ns, out),
-        kind::BUSIEST => times::busiest(p, line, ns, out),
-        kind::SHARE => share::share(p, ns, out),
-        kind::LEND_TARGET => lend::lend_target(p, ns, out),
-        kind::DISPLAY_AT => displays::display_at(p, ns, out),
-        kind::SHEET => sheets::sheet(p, ns, out),
-        kind::LEND_SHEET => lend::lend_sheet(p, ns, out),
-        kind::STALE => stale::stale(p, ns, out),
-        kind::WAITING => waiting::waiting(p, out),
-        kind::WINDOW => state::window(p, ns, out),
-        kind::SESSION => state::session(p, out),
-        kind::WHO => who::who(p, line, ns, out),
+        kind::MALFORMED => p.malformed(stdout, out),
+        kind::START => start(p, ns, stdout, out),
+        kind::CREATE => create(p, stdout, out),
+        kind::POP => pop(p, ns, stdout, out),
+        kind::FOCUS => focus(p, stdout, out),
+        kind::LEND => lend::lend_store(p, ns, stdout, out),
+        kind::LEND_SCREEN => lend::lend_screen(p, ns, stdout, out),
+        kind::LEND_LIST => lend::lend_list(p, ns, stdout, out),
+        kind::BUSIEST => times::busiest(p, line, ns, stdout, out),
+        kind::SHARE => share::share(p, ns, stdout, out),
+        kind::LEND_TARGET => lend::lend_target(p, ns, stdout, out),
+        kind::DISPLAY_AT => displays::display_at(p, ns, stdout, out),
+        kind::SHEET => sheets::sheet(p, ns, stdout, out),
+        kind::LEND_SHEET => lend::lend_sheet(p, ns, stdout, out),
+        kind::STALE => stale::stale(p, ns, stdout, out),
+        kind::WAITING => waiting::waiting(p, stdout, out),
+        kind::WINDOW => state::window(p, ns, stdout, out),
+        kind::SESSION => state::session(p, stdout, out),
+        kind::WHO => who::who(p, line, ns, stdout, out),
         _ => {
             let s = p.session;
             let done = plain(s, line, ns);
-            p.answered(done, out)
+            p.answered(done, stdout, out)
         }
     }
 }
 
 // A start that document 01 accepts but whose store the program cannot lend is not called.
-fn start(p: Player, ns: &[u32; 384006], out: &mut [u8; 65536]) -> Player
+fn start(p: Player, ns: &[u32; 384006], stdout: Stdout, out: &mut [u8; 65536]) -> Player
     requires { Ready p }
     ensures { PlaysAt Kind.start ns.now p out.old result out.new }
 {
     let c = ns[0];
     if c <= 384000 {
-        return started(p, c, out);
+        return started(p, c, stdout, out);
     }
     if c <= 1048576 {
-        return p.refused(out);
+        return p.refused(stdout, out);
     }
-    started(p, c, out)
+    started(p, c, stdout, out)
 }
 
 // The store lent has 16 pixels for each of the session's C.
-fn started(mut p: Player, c: u32, out: &mut [u8; 65536]) -> Player
+fn started(mut p: Player, c: u32, stdout: Stdout, out: &mut [u8; 65536]) -> Player
     requires { Ready p × (16 * session_c c ≤ 6144000) }
     ensures { Begins c p out.old result out.new }
 {
     let done = Session::start(c);
     let session = done.session;
     p.lent = 16 * session.shared.c as usize;
-    p.answered(done, out)
+    p.answered(done, stdout, out)
 }
 
-fn write_id(id: NewId, out: &mut [u8; 65536], w: Waiting) -> Waiting
+fn write_id(id: NewId, stdout: Stdout, out: &mut [u8; 65536], w: Waiting) -> Waiting
     requires { w.at ≤ 65536 }
     ensures { Adds (new_id (View.id_of id)) w out.old result out.new }
 {
     match id {
-        NewId::Id(i) => answer_text::more(out, w, i.0 as u32),
+        NewId::Id(i) => answer_text::more(stdout, out, w, i.0 as u32),
         NewId::Absent => w,
     }
 }
 
-fn write_created(answer: u32, id: NewId, out: &mut [u8; 65536], w: Waiting) -> Waiting
+fn write_created(
+    answer: u32,
+    id: NewId,
+    stdout: Stdout,
+    out: &mut [u8; 65536],
+    w: Waiting,
+) -> Waiting
     requires { w.at ≤ 65536 }
     ensures { Adds (answered answer (new_id (View.id_of id))) w out.old result out.new }
 {
     if answer == OK {
-        let to = answer_text::number(out, w, 0);
-        let then = write_id(id, out, to);
-        return answer_text::end(out, then);
+        let to = answer_text::number(stdout, out, w, 0);
+        let then = write_id(id, stdout, out, to);
+        return answer_text::end(stdout, out, then);
     }
-    answer_text::answer(out, w, answer)
+    answer_text::answer(stdout, out, w, answer)
 }
 
-fn create(mut p: Player, out: &mut [u8; 65536]) -> Player
+fn create(mut p: Player, stdout: Stdout, out: &mut [u8; 65536]) -> Player
     requires { Ready p }
     ensures { Makes Call.Create (create_line (does (group p.session) Call.Create)) p out.old result out.new }
 {
@@ -138,33 +151,39 @@ fn create(mut p: Player, out: &mut [u8; 65536]) -> Player
     let session = made.session;
     p.session = session;
     let id = made.id;
-    p.waiting = write_created(made.answer, id, out, p.waiting);
+    p.waiting = write_created(made.answer, id, stdout, out, p.waiting);
     p
 }
 
-fn write_next(event: NextEvent, out: &mut [u8; 65536], w: Waiting) -> Waiting
+fn write_next(event: NextEvent, stdout: Stdout, out: &mut [u8; 65536], w: Waiting) -> Waiting
     requires { w.at ≤ 65536 }
     ensures { Adds (Told.event (event_in event)) w out.old result out.new }
 {
     match event {
-        NextEvent::Event(e) => events::write_event(e, out, w),
+        NextEvent::Event(e) => events::write_event(e, stdout, out, w),
         NextEvent::Absent => w,
     }
 }
 
-fn write_popped(answer: u32, event: NextEvent, out: &mut [u8; 65536], w: Waiting) -> Waiting
+fn write_popped(
+    answer: u32,
+    event: NextEvent,
+    stdout: Stdout,
+    out: &mut [u8; 65536],
+    w: Waiting,
+) -> Waiting
     requires { w.at ≤ 65536 }
     ensures { Adds (answered answer (Told.event (event_in event))) w out.old result out.new }
 {
     if answer == OK {
-        let to = answer_text::number(out, w, 0);
-        let then = write_next(event, out, to);
-        return answer_text::end(out, then);
+        let to = answer_text::number(stdout, out, w, 0);
+        let then = write_next(event, stdout, out, to);
+        return answer_text::end(stdout, out, then);
     }
-    answer_text::answer(out, w, answer)
+    answer_text::answer(stdout, out, w, answer)
 }
 
-fn pop(mut p: Player, ns: &[u32; 384006], out: &mut [u8; 65536]) -> Player
+fn pop(mut p: Player, ns: &[u32; 384006], stdout: Stdout, out: &mut [u8; 65536]) -> Player
     requires { Ready p }
     ensures { Makes (Call.Pop (id_of ns.now)) (pop_line (does (group p.session) (Call.Pop (id_of ns.now)))) p out.old result out.new }
 {
@@ -173,18 +192,18 @@ fn pop(mut p: Player, ns: &[u32; 384006], out: &mut [u8; 65536]) -> Player
     let session = popped.session;
     p.session = session;
     let event = popped.event;
-    p.waiting = write_popped(popped.answer, event, out, p.waiting);
+    p.waiting = write_popped(popped.answer, event, stdout, out, p.waiting);
     p
 }
 
-fn focus(mut p: Player, out: &mut [u8; 65536]) -> Player
+fn focus(mut p: Player, stdout: Stdout, out: &mut [u8; 65536]) -> Player
     requires { Ready p }
     ensures { Next (focus_line (group p.session)) p p.session out.old result out.new }
 {
     let s = p.session;
     let f = s.focus();
-    let to = answer_text::number(out, p.waiting, 0);
-    let then = answer_text::more(out, to, f.0 as u32);
-    p.waiting = answer_text::end(out, then);
+    let to = answer_text::number(stdout, out, p.waiting, 0);
+    let then = answer_text::more(stdout, out, to, f.0 as u32);
+    p.waiting = answer_text::end(stdout, out, then);
     p
 }

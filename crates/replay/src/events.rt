@@ -10,6 +10,7 @@ ghost use Rattle.replay.specs.Told.{event_pieces};
 
 use answer_text::Waiting;
 use script::{Line, kind};
+use std::io::Stdout;
 use window::Event;
 
 // The event that a line routes.
@@ -46,57 +47,80 @@ pub fn event(line: Line, ns: &[u32; 384006]) -> Event
     }
 }
 
-fn write_key(name: &[u8], v: u32, out: &mut [u8; 65536], w: Waiting) -> Waiting
+fn write_key(name: &[u8], v: u32, stdout: Stdout, out: &mut [u8; 65536], w: Waiting) -> Waiting
     requires { w.at ≤ 65536 }
     ensures { Adds (word name.now ∷ number v ∷ []) w out.old result out.new }
 {
-    let to = answer_text::word(out, w, name);
-    answer_text::more(out, to, v)
+    let to = answer_text::word(stdout, out, w, name);
+    answer_text::more(stdout, out, to, v)
 }
 
-fn write_point(name: &[u8], x: u32, y: u32, out: &mut [u8; 65536], w: Waiting) -> Waiting
+fn write_point(
+    name: &[u8],
+    x: u32,
+    y: u32,
+    stdout: Stdout,
+    out: &mut [u8; 65536],
+    w: Waiting,
+) -> Waiting
     requires { w.at ≤ 65536 }
     ensures { Adds (word name.now ∷ number x ∷ number y ∷ []) w out.old result out.new }
 {
-    let to = write_key(name, x, out, w);
-    answer_text::more(out, to, y)
+    let to = write_key(name, x, stdout, out, w);
+    answer_text::more(stdout, out, to, y)
 }
 
 // A point and a button.
-fn write_press(name: &[u8], x: u32, y: u32, b: u8, out: &mut [u8; 65536], w: Waiting) -> Waiting
+fn write_press(
+    name: &[u8],
+    x: u32,
+    y: u32,
+    b: u8,
+    stdout: Stdout,
+    out: &mut [u8; 65536],
+    w: Waiting,
+) -> Waiting
     requires { w.at ≤ 65536 }
     ensures { Adds (word name.now ∷ number x ∷ number y ∷ number b ∷ []) w out.old result out.new }
 {
-    let to = write_point(name, x, y, out, w);
-    answer_text::more(out, to, b as u32)
+    let to = write_point(name, x, y, stdout, out, w);
+    answer_text::more(stdout, out, to, b as u32)
 }
 
 // The name of an event and its values.
-pub fn write_event(e: Event, out: &mut [u8; 65536], w: Waiting) -> Waiting
+pub fn write_event(e: Event, stdout: Stdout, out: &mut [u8; 65536], w: Waiting) -> Waiting
     requires { w.at ≤ 65536 }
     ensures { Adds (event_pieces e) w out.old result out.new }
 {
     match e {
-        Event::Resize => answer_text::word(out, w, b"Resize"),
-        Event::KeyDown(v) => write_key(b"KeyDown", v, out, w),
-        Event::KeyUp(v) => write_key(b"KeyUp", v, out, w),
-        Event::KeyFire(v) => write_key(b"KeyFire", v, out, w),
-        Event::Text(v) => write_key(b"Text", v, out, w),
+        Event::Resize => answer_text::word(stdout, out, w, b"Resize"),
+        Event::KeyDown(v) => write_key(b"KeyDown", v, stdout, out, w),
+        Event::KeyUp(v) => write_key(b"KeyUp", v, stdout, out, w),
+        Event::KeyFire(v) => write_key(b"KeyFire", v, stdout, out, w),
+        Event::Text(v) => write_key(b"Text", v, stdout, out, w),
         Event::MouseMove { x, y, dx, dy } => {
-            let to = write_point(b"MouseMove", x, y, out, w);
-            let then = answer_text::signed(out, to, dx);
-            answer_text::signed(out, then, dy)
+            let to = write_point(b"MouseMove", x, y, stdout, out, w);
+            let then = answer_text::signed(stdout, out, to, dx);
+            answer_text::signed(stdout, out, then, dy)
         }
-        Event::MouseDown { x, y, button } => write_press(b"MouseDown", x, y, button, out, w),
+        Event::MouseDown { x, y, button } => write_press(
+            b"MouseDown",
+            x,
+            y,
+            button,
+            stdout,
+            out,
+            w,
+        ),
         Event::MouseClick {
             x,
             y,
             button,
             count,
         } => {
-            let to = write_press(b"MouseClick", x, y, button, out, w);
-            answer_text::more(out, to, count as u32)
+            let to = write_press(b"MouseClick", x, y, button, stdout, out, w);
+            answer_text::more(stdout, out, to, count as u32)
         }
-        Event::MouseUp { x, y, button } => write_press(b"MouseUp", x, y, button, out, w),
+        Event::MouseUp { x, y, button } => write_press(b"MouseUp", x, y, button, stdout, out, w),
     }
 }

@@ -13,6 +13,7 @@ use crate::player::Player;
 use answer_text::Waiting;
 use geom::inner::answers::OK;
 use script::Line;
+use std::io::Stdout;
 use windows::Session;
 
 // The numbers of the line are the points; the answers go to the front of the list.
@@ -27,6 +28,7 @@ fn write_hits(
     answer: u32,
     n: usize,
     list: &[u32; 7812],
+    stdout: Stdout,
     out: &mut [u8; 65536],
     w: Waiting,
 ) -> Waiting
@@ -34,11 +36,11 @@ fn write_hits(
     ensures { Adds (hits_line answer n list.now) w out.old result out.new }
 {
     if answer == OK {
-        let to = answer_text::number(out, w, 0);
-        let last = lend::write_list(list, n, out, to);
-        return answer_text::end(out, last);
+        let to = answer_text::number(stdout, out, w, 0);
+        let last = lend::write_list(list, n, stdout, out, to);
+        return answer_text::end(stdout, out, last);
     }
-    answer_text::answer(out, w, answer)
+    answer_text::answer(stdout, out, w, answer)
 }
 
 pub fn hits(
@@ -46,6 +48,7 @@ pub fn hits(
     line: Line,
     ns: &[u32; 384006],
     list: &mut [u32; 7812],
+    stdout: Stdout,
     out: &mut [u8; 65536],
 ) -> Player
     requires { Ready p × Sound line ns.now }
@@ -55,6 +58,6 @@ pub fn hits(
     let len = lend::list_len(p, 96);
     let answer = hits_at(s, ns, line.count, list, len);
     p.has_list = false;
-    p.waiting = write_hits(answer, 3 * (line.count / 2), list, out, p.waiting);
+    p.waiting = write_hits(answer, 3 * (line.count / 2), list, stdout, out, p.waiting);
     p
 }

@@ -8,8 +8,9 @@ ghost use Rattle.replay.specs.Run.{Finished};
 ghost use Rattle.replay.specs.inner.Run.{HearsOut, RunsTo};
 
 use crate::player::Player;
-use libc::STDIN_FILENO;
 use script::Reading;
+use std::io::{Read, Stdin, Stdout};
+use std::rt::Files;
 
 // The player, and how far the line has been read that the next block goes on with.
 #[derive(Clone, Copy)]
@@ -18,7 +19,10 @@ struct Played {
     reading: Reading,
 }
 
-pub fn play(
+pub fn play<R: Files>(
+    files: &R,
+    stdin: Stdin,
+    stdout: Stdout,
     store: &mut [u32; 6144000],
     screen: &mut [u32; 3072000],
     list: &mut [u32; 7812],
@@ -36,11 +40,11 @@ pub fn play(
     let mut turns: u64 = 18446744073709551615;
     while 0 < turns {
         // A person at a terminal sees the answers before the next line is read.
-        p = flushed(p, out);
-        let n = next(input);
+        p = flushed(p, stdout, out);
+        let n = next(stdin, input);
         sized(name);
         let played = block(
-            p, reading, input, n, store, screen, list, ns, word, name, out,
+            files, p, reading, input, n, store, screen, list, ns, word, name, stdout, out,
         );
         p = played.player;
         reading = played.reading;
@@ -48,17 +52,19 @@ pub fn play(
     }
     // The last line may lack its newline.
     sized(name);
-    p = ended(p, reading, store, screen, list, ns, word, name, out);
-    flushed(p, out);
+    p = ended(
+        files, p, reading, store, screen, list, ns, word, name, stdout, out,
+    );
+    flushed(p, stdout, out);
 }
 
 // Nothing waits any more. What waited had its place in the block.
-fn flushed(p: Player, out: &[u8; 65536]) -> Player
+fn flushed(p: Player, stdout: Stdout, out: &[u8; 65536]) -> Player
     requires { Ready p }
     ensures { Ready result × (result ≡ waiting_for (handed_over p.waiting) p) × (p.waiting.at ≤ length out.now) }
 {
     lent(out);
-    p.flushed(out)
+    p.flushed(stdout, out)
 }
 
 // Does nothing. It says how long the name is, to a caller that lent it to be written.
@@ -72,7 +78,8 @@ fn sized(name: &[u8; 64])
 fn lent(bytes: &[u8]) {}
 
 // Plays the line that has been read.
-fn ended(
+fn ended<R: Files>(
+    files: &R,
     player: Player,
     reading: Reading,
     store: &mut [u32; 6144000],
@@ -81,6 +88,7 @@ fn ended(
     ns: &mut [u32; 384006],
     word: &[u8; 16],
     name: &[u8; 64],
+    stdout: Stdout,
     out: &mut [u8; 65536],
 ) -> Player
     requires { Ready player }
@@ -90,7 +98,7 @@ fn ended(
 {
     let line = script::line(reading, word, ns);
     let p = player.counted();
-    p.line(line, ns, name, store, screen, list, out)
+    p.line(files, line, ns, name, store, screen, list, stdout, out)
 }
 
 // The turns that are left after a block of n bytes: none after the end of the input.
@@ -104,16 +112,16 @@ fn left(turns: u64, n: usize) -> u64
     turns - 1
 }
 
-// How many bytes the next block has: none at the end of the input.
-fn next(input: &mut [u8]) -> usize
+// How many bytes the next block has: none at the end of the input, or where it cannot be read.
+fn next(mut stdin: Stdin, input: &mut [u8]) -> usize
     ensures { result ≤ length input.new }
 {
-    let got = libc::read(STDIN_FILENO, input);
-    io::count(got, input)
+    stdin.read(input).unwrap_or(0)
 }
 
 // Plays the lines that end in a block.
-fn block(
+fn block<R: Files>(
+    files: &R,
     player: Player,
     begun: Reading,
     input: &[u8],
@@ -124,6 +132,7 @@ fn block(
     ns: &mut [u32; 384006],
     word: &mut [u8; 16],
     name: &mut [u8; 64],
+    stdout: Stdout,
     out: &mut [u8; 65536],
 ) -> Played
     requires { Ready player × (n ≤ length input.now) }
@@ -142,7 +151,9 @@ fn block(
         at = step.at;
         if at < n {
             sized(name);
-            p = ended(p, reading, store, screen, list, ns, word, name, out);
+            p = ended(
+                files, p, reading, store, screen, list, ns, word, name, stdout, out,
+            );
             reading = Reading::fresh();
             at += 1;
         }

@@ -18,6 +18,7 @@ use bare_lines::numbers;
 use geom::Listing;
 use geom::inner::answers::OK;
 use script::{Line, kind};
+use std::io::Stdout;
 use windows::{Done, Session, Written};
 
 // The data of a blit are the numbers of the line after its first six.
@@ -95,6 +96,7 @@ pub fn stored(
     line: Line,
     ns: &[u32; 384006],
     store: &mut [u32; 6144000],
+    stdout: Stdout,
     out: &mut [u8; 65536],
 ) -> Player
     requires { Ready p × Sound line ns.now × OnStore line.kind }
@@ -103,7 +105,7 @@ pub fn stored(
 {
     let s = p.session;
     let written = lent(s, line, ns, store, p.lent);
-    p.wrote(written, counts(line.kind), out)
+    p.wrote(written, counts(line.kind), stdout, out)
 }
 
 // The calls that draw on the screen.
@@ -153,6 +155,7 @@ fn drawn(
     store: &[u32; 6144000],
     screen: &mut [u32; 3072000],
     len: usize,
+    stdout: Stdout,
     out: &mut [u8; 65536],
 ) -> Player
     requires { Ready p × (len ≤ 3072000) }
@@ -161,7 +164,7 @@ fn drawn(
     let s = p.session;
     let done = draw_part(s, k, ns, store, p.lent, screen, len);
     p.is_set = false;
-    p.answered(done, out)
+    p.answered(done, stdout, out)
 }
 
 // The lines redraw and portion.
@@ -171,6 +174,7 @@ pub fn redraw(
     ns: &[u32; 384006],
     store: &[u32; 6144000],
     screen: &mut [u32; 3072000],
+    stdout: Stdout,
     out: &mut [u8; 65536],
 ) -> Player
     requires { Ready p × OnScreen line.kind }
@@ -179,9 +183,9 @@ pub fn redraw(
     let k = line.kind;
     let len = screen_len(p, k, ns);
     if len <= 3072000 {
-        return drawn(p, k, ns, store, screen, len as usize, out);
+        return drawn(p, k, ns, store, screen, len as usize, stdout, out);
     }
-    p.refused(out)
+    p.refused(stdout, out)
 }
 
 // How many numbers of the list a line is lent: what was said, or as many as else.
@@ -202,11 +206,17 @@ fn listed(s: Session, ns: &[u32; 384006], list: &mut [u32], len: usize) -> Listi
     s.visible(numbers::id(ns), &mut list[0..len])
 }
 
-pub fn write_list(list: &[u32], n: usize, out: &mut [u8; 65536], w: Waiting) -> Waiting
+pub fn write_list(
+    list: &[u32],
+    n: usize,
+    stdout: Stdout,
+    out: &mut [u8; 65536],
+    w: Waiting,
+) -> Waiting
     requires { (n ≤ length list.now) × (w.at ≤ 65536) }
     ensures { Adds (numbers_of (take n list.now)) w out.old result out.new }
 {
-    answer_text::all(out, w, &list[0..n])
+    answer_text::all(stdout, out, w, &list[0..n])
 }
 
 // A line of the answer and, where it is 0, how many rectangles there are and then these, which stand at the front of the list.
@@ -214,6 +224,7 @@ pub fn write_rects(
     answer: u32,
     count: usize,
     list: &[u32; 7812],
+    stdout: Stdout,
     out: &mut [u8; 65536],
     w: Waiting,
 ) -> Waiting
@@ -221,18 +232,19 @@ pub fn write_rects(
     ensures { Adds (rects_line answer count list.now) w out.old result out.new }
 {
     if answer == OK {
-        let to = answer_text::number(out, w, 0);
-        let then = answer_text::count(out, to, count);
-        let last = write_list(list, 4 * count, out, then);
-        return answer_text::end(out, last);
+        let to = answer_text::number(stdout, out, w, 0);
+        let then = answer_text::count(stdout, out, to, count);
+        let last = write_list(list, 4 * count, stdout, out, then);
+        return answer_text::end(stdout, out, last);
     }
-    answer_text::answer(out, w, answer)
+    answer_text::answer(stdout, out, w, answer)
 }
 
 pub fn visible(
     mut p: Player,
     ns: &[u32; 384006],
     list: &mut [u32; 7812],
+    stdout: Stdout,
     out: &mut [u8; 65536],
 ) -> Player
     requires { Ready p }
@@ -242,24 +254,34 @@ pub fn visible(
     let len = list_len(p, 1984);
     let found = listed(s, ns, list, len);
     p.has_list = false;
-    p.waiting = write_rects(found.answer, found.count, list, out, p.waiting);
+    p.waiting = write_rects(found.answer, found.count, list, stdout, out, p.waiting);
     p
 }
 
 // The lend lines: more than the program has is refused.
-pub fn lend_store(mut p: Player, ns: &[u32; 384006], out: &mut [u8; 65536]) -> Player
+pub fn lend_store(
+    mut p: Player,
+    ns: &[u32; 384006],
+    stdout: Stdout,
+    out: &mut [u8; 65536],
+) -> Player
     requires { Ready p }
     ensures { PlaysAt Kind.lend ns.now p out.old result out.new }
 {
     let n = numbers::wide(ns[0]);
     if n <= 6144000 {
         p.lent = n;
-        return p.accepted(out);
+        return p.accepted(stdout, out);
     }
-    p.refused(out)
+    p.refused(stdout, out)
 }
 
-pub fn lend_screen(mut p: Player, ns: &[u32; 384006], out: &mut [u8; 65536]) -> Player
+pub fn lend_screen(
+    mut p: Player,
+    ns: &[u32; 384006],
+    stdout: Stdout,
+    out: &mut [u8; 65536],
+) -> Player
     requires { Ready p }
     ensures { PlaysAt Kind.lend_screen ns.now p out.old result out.new }
 {
@@ -267,12 +289,12 @@ pub fn lend_screen(mut p: Player, ns: &[u32; 384006], out: &mut [u8; 65536]) -> 
     if n <= 3072000 {
         p.is_set = true;
         p.screen = n;
-        return p.accepted(out);
+        return p.accepted(stdout, out);
     }
-    p.refused(out)
+    p.refused(stdout, out)
 }
 
-pub fn lend_list(mut p: Player, ns: &[u32; 384006], out: &mut [u8; 65536]) -> Player
+pub fn lend_list(mut p: Player, ns: &[u32; 384006], stdout: Stdout, out: &mut [u8; 65536]) -> Player
     requires { Ready p }
     ensures { PlaysAt Kind.lend_list ns.now p out.old result out.new }
 {
@@ -280,12 +302,17 @@ pub fn lend_list(mut p: Player, ns: &[u32; 384006], out: &mut [u8; 65536]) -> Pl
     if n <= 7812 {
         p.has_list = true;
         p.list = n;
-        return p.accepted(out);
+        return p.accepted(stdout, out);
     }
-    p.refused(out)
+    p.refused(stdout, out)
 }
 
-pub fn lend_target(mut p: Player, ns: &[u32; 384006], out: &mut [u8; 65536]) -> Player
+pub fn lend_target(
+    mut p: Player,
+    ns: &[u32; 384006],
+    stdout: Stdout,
+    out: &mut [u8; 65536],
+) -> Player
     requires { Ready p }
     ensures { PlaysAt Kind.lend_target ns.now p out.old result out.new }
 {
@@ -293,12 +320,17 @@ pub fn lend_target(mut p: Player, ns: &[u32; 384006], out: &mut [u8; 65536]) -> 
     if n <= 65536 {
         p.has_target = true;
         p.target = n;
-        return p.accepted(out);
+        return p.accepted(stdout, out);
     }
-    p.refused(out)
+    p.refused(stdout, out)
 }
 
-pub fn lend_sheet(mut p: Player, ns: &[u32; 384006], out: &mut [u8; 65536]) -> Player
+pub fn lend_sheet(
+    mut p: Player,
+    ns: &[u32; 384006],
+    stdout: Stdout,
+    out: &mut [u8; 65536],
+) -> Player
     requires { Ready p }
     ensures { PlaysAt Kind.lend_sheet ns.now p out.old result out.new }
 {
@@ -306,7 +338,7 @@ pub fn lend_sheet(mut p: Player, ns: &[u32; 384006], out: &mut [u8; 65536]) -> P
     if n <= 2048 {
         p.has_sheet = true;
         p.sheet = n;
-        return p.accepted(out);
+        return p.accepted(stdout, out);
     }
-    p.refused(out)
+    p.refused(stdout, out)
 }

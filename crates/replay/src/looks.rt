@@ -14,6 +14,7 @@ use answer_text::Waiting;
 use bare_lines::{numbers, pixels};
 use look::{Look, Zoom};
 use script::{Line, kind};
+use std::io::Stdout;
 use windows::Session;
 
 // The look that a line names.
@@ -90,13 +91,14 @@ fn write_target(
     answer: u32,
     target: &[u32],
     len: usize,
+    stdout: Stdout,
     out: &mut [u8; 65536],
     w: Waiting,
 ) -> Waiting
     requires { (len ≤ length target.now) × (w.at ≤ 65536) }
     ensures { Adds (part_line answer (take len target.now)) w out.old result out.new }
 {
-    pixels::write_part(answer, &target[0..len], out, w)
+    pixels::write_part(answer, &target[0..len], stdout, out, w)
 }
 
 fn looked(
@@ -105,6 +107,7 @@ fn looked(
     ns: &[u32; 384006],
     store: &[u32; 6144000],
     len: usize,
+    stdout: Stdout,
     out: &mut [u8; 65536],
 ) -> Player
     requires { Ready p × (len ≤ 65536) }
@@ -114,7 +117,7 @@ fn looked(
     let s = p.session;
     let answer = look_at(s, k, ns, store, p.lent, &mut target, len);
     p.has_target = false;
-    p.waiting = write_target(answer, &target, len, out, p.waiting);
+    p.waiting = write_target(answer, &target, len, stdout, out, p.waiting);
     p
 }
 
@@ -123,6 +126,7 @@ pub fn look(
     line: Line,
     ns: &[u32; 384006],
     store: &[u32; 6144000],
+    stdout: Stdout,
     out: &mut [u8; 65536],
 ) -> Player
     requires { Ready p × OnTarget line.kind }
@@ -131,7 +135,7 @@ pub fn look(
     let k = line.kind;
     let len = target_len(p, k, ns);
     if len <= 65536 {
-        return looked(p, k, ns, store, len as usize, out);
+        return looked(p, k, ns, store, len as usize, stdout, out);
     }
-    p.refused(out)
+    p.refused(stdout, out)
 }

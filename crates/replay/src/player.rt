@@ -15,6 +15,8 @@ use answer_text::Waiting;
 use bare_lines::{geometry, pixels};
 use geom::inner::answers::OK;
 use script::{Line, kind};
+use std::io::Stdout;
+use std::rt::Files;
 use windows::{Done, Session, Written};
 
 // `lent` pixels of the store are lent. The next redraw or portion is lent `screen` pixels where `is_set`, the next visible list, hits or
@@ -73,74 +75,82 @@ impl Player {
     }
 
     // Nothing waits any more.
-    pub fn flushed(mut self, out: &[u8; 65536]) -> Player
+    pub fn flushed(mut self, stdout: Stdout, out: &[u8; 65536]) -> Player
         requires { Ready self }
         ensures { Ready result × (result ≡ waiting_for (handed_over self.waiting) self) }
     {
-        self.waiting = answer_text::flush(out, self.waiting);
+        self.waiting = answer_text::flush(stdout, out, self.waiting);
         self
     }
 
     // A call handed back a session and an answer.
-    pub fn answered(mut self, done: Done, out: &mut [u8; 65536]) -> Player
+    pub fn answered(mut self, done: Done, stdout: Stdout, out: &mut [u8; 65536]) -> Player
         requires { Ready self × Given done.session }
         ensures { Next (Text.line done.answer []) self done.session out.old result out.new }
     {
         let session = done.session;
         self.session = session;
-        self.waiting = answer_text::answer(out, self.waiting, done.answer);
+        self.waiting = answer_text::answer(stdout, out, self.waiting, done.answer);
         self
     }
 
     // A call that is lent the store handed back a session and an answer; of a fill or a blit, the pixels altered are written too.
-    pub fn wrote(mut self, written: Written, counts: bool, out: &mut [u8; 65536]) -> Player
+    pub fn wrote(
+        mut self,
+        written: Written,
+        counts: bool,
+        stdout: Stdout,
+        out: &mut [u8; 65536],
+    ) -> Player
         requires { Ready self × Given written.session }
         ensures { Next (wrote_line counts written.answer written.altered) self written.session out.old result out.new }
     {
         let session = written.session;
         self.session = session;
         if counts && written.answer == OK {
-            self.waiting = answer_text::counted(out, self.waiting, written.altered);
+            self.waiting = answer_text::counted(stdout, out, self.waiting, written.altered);
         } else {
-            self.waiting = answer_text::answer(out, self.waiting, written.answer);
+            self.waiting = answer_text::answer(stdout, out, self.waiting, written.answer);
         }
         self
     }
 
     // A line of 0.
-    pub fn accepted(mut self, out: &mut [u8; 65536]) -> Player
+    pub fn accepted(mut self, stdout: Stdout, out: &mut [u8; 65536]) -> Player
         requires { Ready self }
         ensures { Next (Text.line 0 []) self self.session out.old result out.new }
     {
-        self.waiting = answer_text::answer(out, self.waiting, 0);
+        self.waiting = answer_text::answer(stdout, out, self.waiting, 0);
         self
     }
 
     // The program's own limits do not allow the line.
-    pub fn refused(mut self, out: &mut [u8; 65536]) -> Player
+    pub fn refused(mut self, stdout: Stdout, out: &mut [u8; 65536]) -> Player
         requires { Ready self }
         ensures { Next Text.beyond self self.session out.old result out.new }
     {
-        self.waiting = answer_text::refused(out, self.waiting);
+        self.waiting = answer_text::refused(stdout, out, self.waiting);
         self
     }
 
-    pub fn malformed(mut self, out: &mut [u8; 65536]) -> Player
+    pub fn malformed(mut self, stdout: Stdout, out: &mut [u8; 65536]) -> Player
         requires { Ready self }
         ensures { Next (Text.malformed self.lines) self self.session out.old result out.new }
     {
-        self.waiting = answer_text::malformed(out, self.waiting, self.lines);
+        self.waiting = answer_text::malformed(stdout, out, self.waiting, self.lines);
         self
     }
 
     // The lines that change neither the session nor what is lent.
-    fn shown(
+    fn shown<R: Files>(
         mut self,
+        files: &R,
         line: Line,
         ns: &mut [u32; 384006],
         name: &[u8; 64],
         store: &[u32; 6144000],
         screen: &[u32; 3072000],
+        stdout: Stdout,
         out: &mut [u8; 65536],
     ) -> Player
         requires { Ready self × Sound line ns.old × (Kind.screen ≤ line.kind) × (line.kind ≤ Kind.region) }
@@ -150,26 +160,28 @@ impl Player {
         let w = self.waiting;
         if k == kind::PIXELS {
             let s = self.session;
-            self.waiting = show::pixels(s, ns, store, self.lent, out, w);
+            self.waiting = show::pixels(s, ns, store, self.lent, stdout, out, w);
         } else if k <= kind::PICTURE {
-            self.waiting = show::screen(line, ns, name, screen, out, w);
+            self.waiting = show::screen(files, line, ns, name, screen, stdout, out, w);
         } else if k <= kind::WITHIN {
-            self.waiting = geometry::rect_line(k, ns, out, w);
+            self.waiting = geometry::rect_line(k, ns, stdout, out, w);
         } else {
-            self.waiting = pixels::pixel_line(line, ns, out, w);
+            self.waiting = pixels::pixel_line(line, ns, stdout, out, w);
         }
         self
     }
 
     // Plays one line.
-    pub fn line(
+    pub fn line<R: Files>(
         self,
+        files: &R,
         line: Line,
         ns: &mut [u32; 384006],
         name: &[u8; 64],
         store: &mut [u32; 6144000],
         screen: &mut [u32; 3072000],
         list: &mut [u32; 7812],
+        stdout: Stdout,
         out: &mut [u8; 65536],
     ) -> Player
         requires { Ready self × Sound line ns.old }
@@ -178,15 +190,19 @@ impl Player {
         let k = line.kind;
         match k {
             kind::RESIZE | kind::FILL | kind::BLIT | kind::MAXIMISE | kind::UPDATE_DIMS => {
-                lend::stored(self, line, ns, store, out)
+                lend::stored(self, line, ns, store, stdout, out)
             }
-            kind::REDRAW | kind::PORTION => lend::redraw(self, line, ns, store, screen, out),
-            kind::VISIBLE => lend::visible(self, ns, list, out),
-            kind::HITS => hits::hits(self, line, ns, list, out),
-            kind::READ_SHEET => sheets::read_sheet(self, line, ns, list, out),
-            kind::LOOK | kind::LOOK_FIT => looks::look(self, line, ns, store, out),
-            kind::SCREEN..=kind::REGION => self.shown(line, ns, name, store, screen, out),
-            _ => calls::call(self, line, ns, out),
+            kind::REDRAW | kind::PORTION => lend::redraw(
+                self, line, ns, store, screen, stdout, out,
+            ),
+            kind::VISIBLE => lend::visible(self, ns, list, stdout, out),
+            kind::HITS => hits::hits(self, line, ns, list, stdout, out),
+            kind::READ_SHEET => sheets::read_sheet(self, line, ns, list, stdout, out),
+            kind::LOOK | kind::LOOK_FIT => looks::look(self, line, ns, store, stdout, out),
+            kind::SCREEN..=kind::REGION => self.shown(
+                files, line, ns, name, store, screen, stdout, out,
+            ),
+            _ => calls::call(self, line, ns, stdout, out),
         }
     }
 }

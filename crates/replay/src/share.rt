@@ -12,6 +12,7 @@ use crate::player::Player;
 use answer_text::Waiting;
 use bare_lines::numbers;
 use geom::inner::answers::OK;
+use std::io::Stdout;
 use windows::{InView, Session};
 
 fn share_of(s: Session, ns: &[u32; 384006]) -> InView
@@ -21,25 +22,25 @@ fn share_of(s: Session, ns: &[u32; 384006]) -> InView
     s.share(numbers::id(ns))
 }
 
-fn write_share(found: InView, out: &mut [u8; 65536], w: Waiting) -> Waiting
+fn write_share(found: InView, stdout: Stdout, out: &mut [u8; 65536], w: Waiting) -> Waiting
     requires { w.at ≤ 65536 }
     ensures { Adds (answered found.answer (number found.percent ∷ number found.remainder ∷ [])) w out.old result out.new }
 {
     if found.answer == OK {
-        let to = answer_text::number(out, w, 0);
-        let then = answer_text::more(out, to, found.percent);
-        let last = answer_text::more(out, then, found.remainder);
-        return answer_text::end(out, last);
+        let to = answer_text::number(stdout, out, w, 0);
+        let then = answer_text::more(stdout, out, to, found.percent);
+        let last = answer_text::more(stdout, out, then, found.remainder);
+        return answer_text::end(stdout, out, last);
     }
-    answer_text::answer(out, w, found.answer)
+    answer_text::answer(stdout, out, w, found.answer)
 }
 
-pub fn share(mut p: Player, ns: &[u32; 384006], out: &mut [u8; 65536]) -> Player
+pub fn share(mut p: Player, ns: &[u32; 384006], stdout: Stdout, out: &mut [u8; 65536]) -> Player
     requires { Ready p }
     ensures { Next (share_line (share (group p.session) (id_of ns.now))) p p.session out.old result out.new }
 {
     let s = p.session;
     let found = share_of(s, ns);
-    p.waiting = write_share(found, out, p.waiting);
+    p.waiting = write_share(found, stdout, out, p.waiting);
     p
 }

@@ -16,6 +16,7 @@ use bare_lines::numbers;
 use geom::Listing;
 use geom::inner::answers::OK;
 use script::Line;
+use std::io::Stdout;
 use windows::Session;
 
 // The numbers of the line as bytes, of which each is one.
@@ -54,6 +55,7 @@ pub fn read_sheet(
     line: Line,
     ns: &[u32; 384006],
     list: &mut [u32; 7812],
+    stdout: Stdout,
     out: &mut [u8; 65536],
 ) -> Player
     requires { Ready p × Sound line ns.now × (line.kind ≡ Kind.read_sheet) }
@@ -62,7 +64,7 @@ pub fn read_sheet(
     let len = lend::list_len(p, 7812);
     let found = read_numbers(ns, line.count, list, len);
     p.has_list = false;
-    p.waiting = lend::write_rects(found.answer, found.count, list, out, p.waiting);
+    p.waiting = lend::write_rects(found.answer, found.count, list, stdout, out, p.waiting);
     p
 }
 
@@ -90,21 +92,27 @@ fn buffer() -> [u8; 2048] {
     [0u8; 2048]
 }
 
-fn write_sheet(found: Listing, bytes: &[u8], out: &mut [u8; 65536], w: Waiting) -> Waiting
+fn write_sheet(
+    found: Listing,
+    bytes: &[u8],
+    stdout: Stdout,
+    out: &mut [u8; 65536],
+    w: Waiting,
+) -> Waiting
     requires { (found.count ≤ length bytes.now) × (w.at ≤ 65536) }
     ensures { Adds (sheet_line found.answer found.count bytes.now) w out.old result out.new }
 {
     if found.answer == OK {
-        let to = answer_text::number(out, w, 0);
+        let to = answer_text::number(stdout, out, w, 0);
         let n = found.count;
-        let then = answer_text::count(out, to, n);
-        let last = answer_text::bytes(out, then, &bytes[0..n]);
-        return answer_text::end(out, last);
+        let then = answer_text::count(stdout, out, to, n);
+        let last = answer_text::bytes(stdout, out, then, &bytes[0..n]);
+        return answer_text::end(stdout, out, last);
     }
-    answer_text::answer(out, w, found.answer)
+    answer_text::answer(stdout, out, w, found.answer)
 }
 
-pub fn sheet(mut p: Player, ns: &[u32; 384006], out: &mut [u8; 65536]) -> Player
+pub fn sheet(mut p: Player, ns: &[u32; 384006], stdout: Stdout, out: &mut [u8; 65536]) -> Player
     requires { Ready p }
     ensures { PlaysAt Kind.sheet ns.now p out.old result out.new }
 {
@@ -113,6 +121,6 @@ pub fn sheet(mut p: Player, ns: &[u32; 384006], out: &mut [u8; 65536]) -> Player
     let len = sheet_len(p);
     let found = printed(s, ns, &mut bytes, len);
     p.has_sheet = false;
-    p.waiting = write_sheet(found, &bytes, out, p.waiting);
+    p.waiting = write_sheet(found, &bytes, stdout, out, p.waiting);
     p
 }

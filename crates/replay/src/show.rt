@@ -13,24 +13,35 @@ use answer_text::{Waiting, picture};
 use bare_lines::numbers;
 use geom::inner::answers::OK;
 use script::{Line, kind};
+use std::io::Stdout;
+use std::rt::Files;
 use windows::Session;
 
 // A line of 0 and so many pixels from a place on.
-fn write_pixels(pixels: &[u32], from: usize, n: usize, out: &mut [u8; 65536], w: Waiting) -> Waiting
+fn write_pixels(
+    pixels: &[u32],
+    from: usize,
+    n: usize,
+    stdout: Stdout,
+    out: &mut [u8; 65536],
+    w: Waiting,
+) -> Waiting
     requires { (from + n ≤ length pixels.now) × (w.at ≤ 65536) }
     ensures { Adds (line_of 0 (numbers_of (take n (drop from pixels.now)))) w out.old result out.new }
 {
-    let to = answer_text::number(out, w, 0);
-    let then = answer_text::all(out, to, &pixels[from..from + n]);
-    answer_text::end(out, then)
+    let to = answer_text::number(stdout, out, w, 0);
+    let then = answer_text::all(stdout, out, to, &pixels[from..from + n]);
+    answer_text::end(stdout, out, then)
 }
 
 // The lines screen and picture.
-pub fn screen(
+pub fn screen<R: Files>(
+    files: &R,
     line: Line,
     ns: &[u32; 384006],
     name: &[u8; 64],
     screen: &[u32; 3072000],
+    stdout: Stdout,
     out: &mut [u8; 65536],
     w: Waiting,
 ) -> Waiting
@@ -41,16 +52,18 @@ pub fn screen(
     let height = ns[1];
     let n = numbers::size(width, height);
     if 3072000 < n {
-        return answer_text::refused(out, w);
+        return answer_text::refused(stdout, out, w);
     }
     if line.kind == kind::SCREEN {
-        return write_pixels(screen, 0, n as usize, out, w);
+        return write_pixels(screen, 0, n as usize, stdout, out, w);
     }
-    let empty = answer_text::flush(out, w);
-    if picture::write(name, line.name, width, height, screen, n as usize, out) {
-        return answer_text::answer(out, empty, 0);
+    let empty = answer_text::flush(stdout, out, w);
+    if picture::write(
+        files, name, line.name, width, height, screen, n as usize, out,
+    ) {
+        return answer_text::answer(stdout, out, empty, 0);
     }
-    answer_text::refused(out, empty)
+    answer_text::refused(stdout, out, empty)
 }
 
 // The line pixels: the window's pixels begin at its number times C in the store.
@@ -59,6 +72,7 @@ pub fn pixels(
     ns: &[u32; 384006],
     store: &[u32; 6144000],
     lent: usize,
+    stdout: Stdout,
     out: &mut [u8; 65536],
     w: Waiting,
 ) -> Waiting
@@ -72,8 +86,8 @@ pub fn pixels(
         if 16 * c <= lent {
             let rect = placed.rect;
             let n = rect.dims.w as usize * rect.dims.h as usize;
-            return write_pixels(store, id.0 as usize * c, n, out, w);
+            return write_pixels(store, id.0 as usize * c, n, stdout, out, w);
         }
     }
-    answer_text::answer(out, w, 0)
+    answer_text::answer(stdout, out, w, 0)
 }

@@ -14,6 +14,7 @@ use crate::player::Player;
 use answer_text::Waiting;
 use bare_lines::{geometry, numbers};
 use geom::inner::answers::OK;
+use std::io::Stdout;
 use windows::{Session, SessionState, WindowState};
 
 fn window_of(s: Session, ns: &[u32; 384006]) -> WindowState
@@ -24,40 +25,40 @@ fn window_of(s: Session, ns: &[u32; 384006]) -> WindowState
 }
 
 // What stands behind the rectangle.
-fn write_rest(state: WindowState, out: &mut [u8; 65536], w: Waiting) -> Waiting
+fn write_rest(state: WindowState, stdout: Stdout, out: &mut [u8; 65536], w: Waiting) -> Waiting
     requires { w.at ≤ 65536 }
     ensures { Adds (flag state.shown ∷ number state.place ∷ number state.layer ∷ flag state.maximised ∷ flag state.marked ∷ number state.queued ∷ flag state.moved ∷ []) w out.old result out.new }
 {
-    let shown = answer_text::more(out, w, state.shown as u32);
-    let place = answer_text::more(out, shown, state.place);
-    let layer = answer_text::more(out, place, state.layer);
-    let maximised = answer_text::more(out, layer, state.maximised as u32);
-    let marked = answer_text::more(out, maximised, state.marked as u32);
-    let queued = answer_text::more(out, marked, state.queued);
-    answer_text::more(out, queued, state.moved as u32)
+    let shown = answer_text::more(stdout, out, w, state.shown as u32);
+    let place = answer_text::more(stdout, out, shown, state.place);
+    let layer = answer_text::more(stdout, out, place, state.layer);
+    let maximised = answer_text::more(stdout, out, layer, state.maximised as u32);
+    let marked = answer_text::more(stdout, out, maximised, state.marked as u32);
+    let queued = answer_text::more(stdout, out, marked, state.queued);
+    answer_text::more(stdout, out, queued, state.moved as u32)
 }
 
-fn write_window(state: WindowState, out: &mut [u8; 65536], w: Waiting) -> Waiting
+fn write_window(state: WindowState, stdout: Stdout, out: &mut [u8; 65536], w: Waiting) -> Waiting
     requires { w.at ≤ 65536 }
     ensures { Adds (standing_line state) w out.old result out.new }
 {
     if state.answer == OK {
         let rect = state.rect;
-        let to = answer_text::number(out, w, 0);
-        let then = geometry::write_rect(rect, out, to);
-        let last = write_rest(state, out, then);
-        return answer_text::end(out, last);
+        let to = answer_text::number(stdout, out, w, 0);
+        let then = geometry::write_rect(rect, stdout, out, to);
+        let last = write_rest(state, stdout, out, then);
+        return answer_text::end(stdout, out, last);
     }
-    answer_text::answer(out, w, state.answer)
+    answer_text::answer(stdout, out, w, state.answer)
 }
 
-pub fn window(mut p: Player, ns: &[u32; 384006], out: &mut [u8; 65536]) -> Player
+pub fn window(mut p: Player, ns: &[u32; 384006], stdout: Stdout, out: &mut [u8; 65536]) -> Player
     requires { Ready p }
     ensures { Next (window_line (window_state (group p.session) (id_of ns.now))) p p.session out.old result out.new }
 {
     let s = p.session;
     let state = window_of(s, ns);
-    p.waiting = write_window(state, out, p.waiting);
+    p.waiting = write_window(state, stdout, out, p.waiting);
     p
 }
 
@@ -74,29 +75,29 @@ fn walk_of(walk: bool, full: bool) -> u32
     0
 }
 
-fn write_session(state: SessionState, out: &mut [u8; 65536], w: Waiting) -> Waiting
+fn write_session(state: SessionState, stdout: Stdout, out: &mut [u8; 65536], w: Waiting) -> Waiting
     requires { w.at ≤ 65536 }
     ensures { Adds (stands_line state) w out.old result out.new }
 {
-    let to = answer_text::number(out, w, 0);
-    let c = answer_text::more(out, to, state.c);
-    let shown = answer_text::more(out, c, state.shown);
-    let focus = answer_text::more(out, shown, state.focus.0);
-    let grab = answer_text::more(out, focus, state.grab.0);
-    let dimmed = answer_text::more(out, grab, state.dimmed as u32);
-    let owed = answer_text::more(out, dimmed, state.owed as u32);
-    let walk = answer_text::more(out, owed, walk_of(state.walk, state.full));
-    let left = answer_text::more(out, walk, state.left);
-    let displays = answer_text::more(out, left, state.displays);
-    answer_text::end(out, displays)
+    let to = answer_text::number(stdout, out, w, 0);
+    let c = answer_text::more(stdout, out, to, state.c);
+    let shown = answer_text::more(stdout, out, c, state.shown);
+    let focus = answer_text::more(stdout, out, shown, state.focus.0);
+    let grab = answer_text::more(stdout, out, focus, state.grab.0);
+    let dimmed = answer_text::more(stdout, out, grab, state.dimmed as u32);
+    let owed = answer_text::more(stdout, out, dimmed, state.owed as u32);
+    let walk = answer_text::more(stdout, out, owed, walk_of(state.walk, state.full));
+    let left = answer_text::more(stdout, out, walk, state.left);
+    let displays = answer_text::more(stdout, out, left, state.displays);
+    answer_text::end(stdout, out, displays)
 }
 
-pub fn session(mut p: Player, out: &mut [u8; 65536]) -> Player
+pub fn session(mut p: Player, stdout: Stdout, out: &mut [u8; 65536]) -> Player
     requires { Ready p }
     ensures { Next (session_line (session_state (group p.session))) p p.session out.old result out.new }
 {
     let s = p.session;
     let state = s.state();
-    p.waiting = write_session(state, out, p.waiting);
+    p.waiting = write_session(state, stdout, out, p.waiting);
     p
 }

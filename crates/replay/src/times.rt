@@ -11,6 +11,7 @@ use answer_text::Waiting;
 use busiest::Second;
 use geom::inner::answers::OK;
 use script::Line;
+use std::io::Stdout;
 
 // The numbers of the line are the times.
 fn busiest_second(ns: &[u32], count: usize) -> Second
@@ -20,24 +21,30 @@ fn busiest_second(ns: &[u32], count: usize) -> Second
     busiest::busiest(&ns[..count])
 }
 
-fn write_second(second: Second, out: &mut [u8; 65536], w: Waiting) -> Waiting
+fn write_second(second: Second, stdout: Stdout, out: &mut [u8; 65536], w: Waiting) -> Waiting
     requires { w.at ≤ 65536 }
     ensures { Adds (busiest_line second) w out.old result out.new }
 {
     if second.answer == OK {
-        let to = answer_text::number(out, w, 0);
-        let then = answer_text::count(out, to, second.count);
-        let last = answer_text::count(out, then, second.place);
-        return answer_text::end(out, last);
+        let to = answer_text::number(stdout, out, w, 0);
+        let then = answer_text::count(stdout, out, to, second.count);
+        let last = answer_text::count(stdout, out, then, second.place);
+        return answer_text::end(stdout, out, last);
     }
-    answer_text::answer(out, w, second.answer)
+    answer_text::answer(stdout, out, w, second.answer)
 }
 
-pub fn busiest(mut p: Player, line: Line, ns: &[u32; 384006], out: &mut [u8; 65536]) -> Player
+pub fn busiest(
+    mut p: Player,
+    line: Line,
+    ns: &[u32; 384006],
+    stdout: Stdout,
+    out: &mut [u8; 65536],
+) -> Player
     requires { Ready p × Sound line ns.now }
     ensures { Next (busiest_line (busiest (take line.count ns.now))) p p.session out.old result out.new }
 {
     let second = busiest_second(ns, line.count);
-    p.waiting = write_second(second, out, p.waiting);
+    p.waiting = write_second(second, stdout, out, p.waiting);
     p
 }

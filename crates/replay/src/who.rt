@@ -16,6 +16,7 @@ use crate::player::Player;
 use answer_text::Waiting;
 use geom::inner::answers::OK;
 use script::Line;
+use std::io::Stdout;
 use window::Event;
 use windows::Taker;
 
@@ -66,38 +67,57 @@ fn event(line: Line, ns: &[u32; 384006]) -> Event
     }
 }
 
-fn write_three(id: u32, x: u32, y: u32, out: &mut [u8; 65536], w: Waiting) -> Waiting
+fn write_three(
+    id: u32,
+    x: u32,
+    y: u32,
+    stdout: Stdout,
+    out: &mut [u8; 65536],
+    w: Waiting,
+) -> Waiting
     requires { w.at ≤ 65536 }
     ensures { Adds (number id ∷ number x ∷ number y ∷ []) w out.old result out.new }
 {
-    let to = answer_text::more(out, w, id);
-    let then = answer_text::more(out, to, x);
-    answer_text::more(out, then, y)
+    let to = answer_text::more(stdout, out, w, id);
+    let then = answer_text::more(stdout, out, to, x);
+    answer_text::more(stdout, out, then, y)
 }
 
-fn write_taker(taker: Taker, out: &mut [u8; 65536], w: Waiting) -> Waiting
+fn write_taker(taker: Taker, stdout: Stdout, out: &mut [u8; 65536], w: Waiting) -> Waiting
     requires { w.at ≤ 65536 }
     ensures { Adds (taker_pieces (taker_in taker)) w out.old result out.new }
 {
     match taker {
-        Taker::Window { id, x, y } => write_three(id.0, x, y, out, w),
-        Taker::Nobody => write_three(NOBODY, 0, 0, out, w),
+        Taker::Window { id, x, y } => write_three(id.0, x, y, stdout, out, w),
+        Taker::Nobody => write_three(NOBODY, 0, 0, stdout, out, w),
     }
 }
 
-fn write_routed(answer: u32, taker: Taker, out: &mut [u8; 65536], w: Waiting) -> Waiting
+fn write_routed(
+    answer: u32,
+    taker: Taker,
+    stdout: Stdout,
+    out: &mut [u8; 65536],
+    w: Waiting,
+) -> Waiting
     requires { w.at ≤ 65536 }
     ensures { Adds (who_line answer (taker_in taker)) w out.old result out.new }
 {
     if answer == OK {
-        let to = answer_text::number(out, w, 0);
-        let then = write_taker(taker, out, to);
-        return answer_text::end(out, then);
+        let to = answer_text::number(stdout, out, w, 0);
+        let then = write_taker(taker, stdout, out, to);
+        return answer_text::end(stdout, out, then);
     }
-    answer_text::answer(out, w, answer)
+    answer_text::answer(stdout, out, w, answer)
 }
 
-pub fn who(mut p: Player, line: Line, ns: &[u32; 384006], out: &mut [u8; 65536]) -> Player
+pub fn who(
+    mut p: Player,
+    line: Line,
+    ns: &[u32; 384006],
+    stdout: Stdout,
+    out: &mut [u8; 65536],
+) -> Player
     requires { Ready p × Sound line ns.now × (line.kind ≡ Kind.who) }
     ensures { Makes (Call.Route (who_event ns.now)) (who_line (does (group p.session) (Call.Route (who_event ns.now))).answer (taker (group p.session) (who_event ns.now))) p out.old result out.new }
 {
@@ -106,6 +126,6 @@ pub fn who(mut p: Player, line: Line, ns: &[u32; 384006], out: &mut [u8; 65536])
     let session = routed.session;
     p.session = session;
     let taker = routed.taker;
-    p.waiting = write_routed(routed.answer, taker, out, p.waiting);
+    p.waiting = write_routed(routed.answer, taker, stdout, out, p.waiting);
     p
 }

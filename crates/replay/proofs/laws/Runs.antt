@@ -98,18 +98,21 @@ abbrev handed : Stage → Stage
 handed s = record { player = waiting_for (handed_over s.player.waiting) s.player; pixels = s.pixels; block = s.block; line = s.line }
 
 -- bytes of a line that has not ended, and what comes behind them
-joins : {t : Stage} (s : Stage) (xs : List ℕ) {ys : List ℕ} {qs : List Piece} → OneLine xs → Runs t (at_line s (s.line ++ xs)) ys qs
+joins : {t : Stage} (s u : Stage) (xs : List ℕ) {ys : List ℕ} {qs : List Piece} → u ≡ at_line s (s.line ++ xs) → OneLine xs → Runs t u ys qs
     → Runs t s (xs ++ ys) qs
-joins s xs o (pends ys p e) =
-    pends (xs ++ ys) (one_append xs ys o p) (e ∙ ap (λ (l : List ℕ). at_line s l) (append_assoc s.line xs ys))
-joins {t} s xs o (ends bs rest ps qs r b q p h k) =
+joins s u xs v o (pends ys p e) =
+    pends (xs ++ ys) (one_append xs ys o p)
+    (e ∙ ap (λ (m : Stage). at_line m (m.line ++ ys)) v ∙ ap (λ (l : List ℕ). at_line s l) (append_assoc s.line xs ys))
+joins {t} s u xs v o (ends bs rest ps qs r b q p h k) =
     subst (λ (l : List ℕ). Runs t s l (ps ++ qs)) (append_assoc xs bs (10 ∷ rest))
     (ends (xs ++ bs) rest ps qs r b q (one_append xs bs o p)
-    (subst (λ (l : List ℕ). Hears l s.player s.pixels s.block ps r b q) (append_assoc s.line xs bs) h) k)
-joins s xs o (hands f k) = hands f (joins (handed s) xs o k)
+    (subst (λ (l : List ℕ). Hears l s.player s.pixels s.block ps r b q) (append_assoc s.line xs bs)
+    (subst (λ (m : Stage). Hears (m.line ++ bs) m.player m.pixels m.block ps r b q) v h)) k)
+joins s u xs v o (hands f k) =
+    hands (subst (λ (m : Stage). m.player.waiting.at ≤ length m.block) v f) (joins (handed s) (handed u) xs (ap handed v) o k)
 
 pub runs_then : {m t s : Stage} {xs ys : List ℕ} {ps qs : List Piece} → Runs m s xs ps → Runs t m ys qs → Runs t s (xs ++ ys) (ps ++ qs)
-runs_then {t = t} {s = s} {ys = ys} {qs = qs} (pends xs o e) k = joins s xs o (subst (λ (u : Stage). Runs t u ys qs) e k)
+runs_then {t = t} {s = s} {ys = ys} {qs = qs} (pends xs o e) k = joins s (at_line s (s.line ++ xs)) xs refl o (subst (λ (u : Stage). Runs t u ys qs) e k)
 runs_then {t = t} {s = s} {ys = ys} {qs = qs} (ends bs rest ps os r b q o h j) k =
     subst₂ (λ (l : List ℕ) (text : List Piece). Runs t s l text) (sym (append_assoc bs (10 ∷ rest) ys)) (sym (append_assoc ps os qs))
     (ends bs (rest ++ ys) ps (os ++ qs) r b q o h (runs_then j k))

@@ -1,0 +1,6 @@
+-- The name with the first value, and the second behind them.
+use Rattle.answer_text.proofs.laws.Added.{then}
+use Rattle.replay.proofs.events.write_point.Goals as goal
+
+pub returns : goal.returns
+returns c = then c.write_key-to.ensures c.more.ensures
