@@ -5,6 +5,7 @@ import os
 import pathlib
 import re
 import shutil
+import signal
 import subprocess
 import sys
 import tempfile
@@ -188,6 +189,8 @@ def look(mistakes):
 
 
 def main(words):
+    # What was begun ends with this.
+    signal.signal(signal.SIGTERM, lambda *_: sys.exit(1))
     places, words = "--places" in words, [word for word in words if word != "--places"]
     mistakes = named(words)
     return int(bool(look(mistakes) if places else tried(mistakes, words)))

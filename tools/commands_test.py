@@ -69,7 +69,7 @@ def proofs(room):
     expect("a proof is not announced", "about 8 minutes on two cores" in said.stderr and room.called.exists(), said)
     said = room.run("mistakes/run")
     expect("a proof before mistakes is not announced", "8 minutes" in said.stderr and room.called.exists(), said)
-    room.program(room.root / "target/bin/replay", (ROOT / "tools/stand_in.py").read_text())
+    room.program(room.root / "crates/replay/out/replay", (ROOT / "tools/stand_in.py").read_text())
     said = room.run("play", script)
     expect("a proof is announced that is done", "minutes" not in said.stderr and room.called.exists(), said)
     silent = ". ./tools/prove.sh; { echo a; sleep 1.2; printf 'b\\nc'; } | alive 1"
