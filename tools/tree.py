@@ -60,7 +60,7 @@ class Tree:
     def __init__(self, files):
         self.files = files
         self.folders = {folder for path in files for folder in above(path)}
-        self.crates = re.findall(r"^(\w+):", files["crates.txt"], re.M)
+        self.crates = re.findall(r"^(\w+)(?: staticlib)?:", files["crates.txt"], re.M)
         self.commands = {path for path, text in files.items() if text.startswith("#!")}
         self.script = self.script_lines()
 
