@@ -67,6 +67,11 @@ def modules_in(text):
     return {file_of(module) for module in re.findall(r"Rattle\.[\w.]*\w", text)}
 
 
+def prefixes(words):
+    """What else words name: `Walk.next` names Walk, and `w.at.pos` w."""
+    return {".".join(word.split(".")[:count]) for word in words for count in range(1, word.count(".") + 1)}
+
+
 class Specs:
     """The spec files. A definition is a pair: its file, below `crates/`, and its name."""
 
@@ -111,8 +116,7 @@ class Specs:
         file, name = definition
         spec = self.files.get(file)
         words = spec.definitions[name].words if spec and name in spec.definitions else set()
-        # `Walk.next` names Walk, and `w.at.pos` names w.
-        words = words | {".".join(word.split(".")[:count]) for word in words for count in range(1, word.count(".") + 1)}
+        words = words | prefixes(words)
         return sorted({self.names[file][word] for word in words if word in self.names[file]})
 
     def reach(self, roots, opaque):
