@@ -1,4 +1,4 @@
-/* The window group for programs in C and C++: link target/staticlib/libroqshyn.a.
+/* The window group for programs in C and C++: link crates/roqshyn/out/libroqshyn.a.
  *
  * Answers. Every call answers 0, or the number of the first question of document 01 that it answers with a no
  * (duty D14). Then it has changed no session, store, list, buffer, screen or pixel; only a refused roq_start makes a

@@ -28,14 +28,16 @@ DEMANDS = ("Demand1", "Demand3", "ProgramDemand1", "ProgramDemand3")
 EXAMPLES = ("Examples", "Limits", "Station")
 # Files that list modules.
 LISTS = ("Lib.antt", "inner.antt")
-MODULE = re.compile(r"Rattle·(\w+)(?:·specs)?\.specs\.(?!declared\.)([\w.]+)")
+MODULE = re.compile(r"Rattle\.(\w+)\.specs\.(?!declared\.)([\w.]+)")
+# The crates of the repository; what is of another is the kit's.
+OURS = {path.name for path in (ROOT / "crates").iterdir()}
 THEOREM = re.compile(r"^(?:pub )?([\w-]+) : ((?:\w+\.)?\w+)$", re.M)
 
 
 def file_of(module):
     """The spec file of a module; "" for one that is not ours, and for one that is made from the code."""
     found = MODULE.fullmatch(module)
-    return f"{found[1]}/specs/{found[2].replace('.', '/')}.antt" if found else ""
+    return f"{found[1]}/specs/{found[2].replace('.', '/')}.antt" if found and found[1] in OURS else ""
 
 
 def is_inner(file):
@@ -62,7 +64,12 @@ def theorems_of(text):
 @functools.cache
 def modules_in(text):
     """The spec files that a text names."""
-    return {file_of(module) for module in re.findall(r"Rattle·[\w·.]*\w", text)}
+    return {file_of(module) for module in re.findall(r"Rattle\.[\w.]*\w", text)}
+
+
+def prefixes(words):
+    """What else words name: `Walk.next` names Walk, and `w.at.pos` w."""
+    return {".".join(word.split(".")[:count]) for word in words for count in range(1, word.count(".") + 1)}
 
 
 class Specs:
@@ -109,8 +116,7 @@ class Specs:
         file, name = definition
         spec = self.files.get(file)
         words = spec.definitions[name].words if spec and name in spec.definitions else set()
-        # `Walk.next` names Walk.
-        words = words | {word.rpartition(".")[0] for word in words}
+        words = words | prefixes(words)
         return sorted({self.names[file][word] for word in words if word in self.names[file]})
 
     def reach(self, roots, opaque):
@@ -127,7 +133,7 @@ class Specs:
 
 def contracts(files):
     """The functions whose contracts are public, what their files bring in, and what is wrong."""
-    listed = re.findall(r"^(\w+):", files["crates.txt"], re.M)
+    listed = re.findall(r"^(\w+)(?: staticlib)?:", files["crates.txt"], re.M)
     code = [pair for pair in files.items() if pair[0].endswith(".rt")]
     crates = [calls.crate(name, tuple(pair for pair in code if pair[0].startswith(f"crates/{name}/"))) for name in listed]
     found, wrong = calls.public_calls(crates), [text for read in crates for text in read.wrong]

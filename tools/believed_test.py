@@ -16,19 +16,19 @@ EXAMPLES = "crates/busiest/specs/Examples.antt"
 LIMITS = "crates/busiest/specs/inner/Limits.antt"
 PROGRAM = "crates/windows/proofs/demand/Program.antt"
 
-USE = "use Rattle·busiest·specs.specs.inner.More"
-BESIDE = "use Rattle·busiest·specs.specs.More"
-TIES = "use Rattle·busiest·specs.specs.Examples.{ties}"
-MORE = "use Prim.Native.Nat.{ℕ}\nabbrev pub more : ℕ → ℕ\nmore n = n\n"
-SIGN = "use Prim.Native.Nat.{ℕ}\ninfix 20 _beside_\nabbrev pub _beside_ : ℕ → ℕ → ℕ\nn beside m = m\n"
+USE = "use Rattle.busiest.specs.inner.More"
+BESIDE = "use Rattle.busiest.specs.More"
+TIES = "use Rattle.busiest.specs.Examples.{ties}"
+MORE = "use Rattle.std.specs.Prelude.{ℕ}\nabbrev pub more : ℕ → ℕ\nmore n = n\n"
+SIGN = "use Rattle.std.specs.Prelude.{ℕ}\ninfix 20 ◌beside◌\nabbrev pub ◌beside◌ : ℕ → ℕ → ℕ\nn beside m = m\n"
 KIND = "pub data Kind : Type 0 where\n  plain other : Kind\n"
 LIMIT = "limit : more 0 ≡ 0\nlimit = refl\n"
 TRUTH = "unfoldable pub Truth : Type 0\nTruth = Unit {0}\n"
 # A definition that a public contract reaches, with what it is to name.
 BODY = "leb t u && ltb u (t + 1000)"
-HEAD = "use lib."
+HEAD = "use Rattle."
 # The contract of `busiest`.
-ENSURES = "⌜ r ≡ busiest (now (times .entry)) ⌝"
+ENSURES = "{ result ≡ busiest times.now }"
 BELIEVED = "inner/More.antt: it must be believed, and lies in inner"
 
 
@@ -39,7 +39,7 @@ def names(use, word):
 
 def promises(use, word):
     """A public contract does."""
-    return [(CODE, "ghost use ", f"{use};\nghost use "), (CODE, ENSURES, ENSURES.replace("r ≡", f"{word} r ≡"))]
+    return [(CODE, "ghost use ", f"{use};\nghost use "), (CODE, ENSURES, ENSURES.replace("result ≡", f"{word} result ≡"))]
 
 
 def proves(use):
@@ -59,12 +59,12 @@ REFUSED = [
     ("the same by another name", [(INNER, "", MORE), *names(USE + ".{more as much}", "much")], BELIEVED),
     ("the same by its module", [(INNER, "", MORE), *names(USE + " as More", "More.more")], BELIEVED),
     ("a part of a name of inner", [(INNER, "", MORE), *names(USE + " as More", "More.more.part")], BELIEVED),
-    ("a sign of inner", [(INNER, "", SIGN), *names(USE + ".{_beside_}", "0 beside")], BELIEVED),
+    ("a sign of inner", [(INNER, "", SIGN), *names(USE + ".{◌beside◌}", "0 beside")], BELIEVED),
     ("a constructor of inner", [(INNER, "", KIND), *names(USE + ".{other}", "other")], BELIEVED),
     ("the second of a line", [(INNER, "", KIND + MORE), *names(USE + ".{Kind, more}", "more")], BELIEVED),
     (
         "a type that names inner",
-        [(INNER, "", KIND), (SPEC, HEAD, f"{USE}.{{Kind}}\n{HEAD}"), (SPEC, "inSpan : ℕ", "inSpan : Kind → ℕ")],
+        [(INNER, "", KIND), (SPEC, HEAD, f"{USE}.{{Kind}}\n{HEAD}"), (SPEC, "in_span : ℕ", "in_span : Kind → ℕ")],
         BELIEVED,
     ),
     ("a λ over inner", [(INNER, "", KIND), *names(USE + ".{Kind}", "(λ (k : Kind). k)")], BELIEVED),
@@ -83,8 +83,8 @@ REFUSED = [
     ("a demand that is not proved", [(PROGRAM, ": ProgramDemand3", ": Other")], "ProgramDemand3: no theorem"),
     (
         "a theorem that is none",
-        [(PROMISES, "proved as `demand-1`", "proved as `demand-one`")],
-        "`demand-one` proves no statement",
+        [(PROMISES, "proved as `demand_1`", "proved as `demand_one`")],
+        "`demand_one` proves no statement",
     ),
     ("a function that is none", [(PROMISES, "| `script::read`", "| `script::reed`")], "`script::reed` is no function"),
     ("examples that a spec names", [(SPEC, HEAD, f"{TIES}\n{HEAD}")], f"{SPEC}: it cites {EXAMPLES}"),
@@ -93,7 +93,7 @@ REFUSED = [
     ("a module that is not there", names(USE + " as More", "More.more"), "there is no such file"),
     ("a form that is not known", [(SPEC, "", "theorem of mine\n")], "what begins with 'theorem'"),
     ("names handed on", [(SPEC, "", f"pub {TIES}\n")], "what begins with 'use'"),
-    ("two definitions of one name", [(SPEC, "", "abbrev pub inSpan : ℕ\ninSpan = 0\n")], "inSpan is defined twice"),
+    ("two definitions of one name", [(SPEC, "", "abbrev pub in_span : ℕ\nin_span = 0\n")], "in_span is defined twice"),
     ("Given by another name", [(VIEW, "record Given ", "record Gotten ")], "Given is not defined there any more"),
 ]
 PASSED = [

@@ -16,8 +16,10 @@ PROMISES = "docs/PROMISES.md"
 # The crates that have calls, and those that only our own crates use.
 CALLS = "geom busiest sheet winbuf stride windows roqshyn".split()
 OWN = "answer_text bands bare_lines display due first_program look order paint replay rules scanline script topmost visible window".split()
-# Where the one premise of a call is defined, as `windows` names it and as other crates do.
-GIVEN = ("Rattle·windows·specs.specs.View", "Rattle·windows.specs.View")
+# Where the one premise of a call is defined.
+GIVEN = "Rattle.windows.specs.View"
+# Words of a clause that mean what the language says.
+OWN_WORDS = ("result", "old", "new", "now")
 
 
 def is_call(function):
@@ -40,7 +42,8 @@ def public_calls(crates):
 def wrong_contract(call, ghosts):
     """What is wrong with a call's premises and promises."""
     session = next((name for name, kind in call.takes if "Session" in kind or (name, call.owner) == ("self", "Session")), "")
-    premise = ["⌜", "Given", "self", "⌝"] if session == "self" else ["⌜", "Given", "(", "now", session, ")", "⌝"]
+    lent = next((["old" if "mut" in kind else "now"] for name, kind in call.takes if name == session and "&" in kind), [])
+    premise = ["Given", session, *(word for part in lent for word in (".", part))]
     for words in call.requires:
         if not session:
             yield f"requires {{ {' '.join(words)} }}, and it has no session: it may ask for nothing"
@@ -50,26 +53,25 @@ def wrong_contract(call, ghosts):
         yield from wrong_given(ghosts)
     if not call.ensures:
         yield "has no ensures"
-    for words in call.ensures:
-        if words[:1] != ["λ"] or call.gives and words[1] not in words[2:]:
-            yield "its ensures does not name what it hands back"
     said = [word.strip("«»") for words in call.ensures for word in words]
+    if call.ensures and call.gives and "result" not in said:
+        yield "its ensures does not name what it hands back"
     for name, kind in call.takes:
-        if "&" in kind and "mut" in kind and not any(said[i : i + 3] == [name, ".", "exit"] for i in range(len(said))):
+        if "&" in kind and "mut" in kind and not any(said[i : i + 3] == [name, ".", "new"] for i in range(len(said))):
             yield f"its ensures does not say what {name} holds afterwards"
 
 
 def wrong_given(ghosts):
-    """Whether `Given` is the one of windows/specs/View.antt, and `now` the language's own."""
+    """Whether `Given` is the one of windows/specs/View.antt, and `result`, `old`, `new` and `now` the language's own."""
     sources = []
     for words in ghosts:
         path = "".join(words[1:]).partition("{")[0].rstrip(".")
         if "Given" in words:
             sources.append(path if "as" not in words else "")
-        if "now" in words:
-            yield "`now` is brought in under another meaning"
-    if len(sources) != 1 or sources[0] not in GIVEN:
-        yield f"`Given` is not the one of {GIVEN[1]}"
+        for word in set(OWN_WORDS).intersection(words):
+            yield f"`{word}` is brought in under another meaning"
+    if sources != [GIVEN]:
+        yield f"`Given` is not the one of {GIVEN}"
 
 
 def tables(text, head="call"):
@@ -129,7 +131,7 @@ def crate(name, files):
 
 def check(files):
     """How many public calls there are, and what is wrong."""
-    listed = re.findall(r"^(\w+):", files["crates.txt"], re.M)
+    listed = re.findall(r"^(\w+)(?: staticlib)?:", files["crates.txt"], re.M)
     unknown = [name for name in listed if name not in CALLS + OWN]
     wrong = [f"crates.txt: crate {name} is in neither list of tools/calls.py: has it calls?" for name in unknown]
     crates = [crate(name, tuple(pair for pair in files.items() if pair[0].startswith(f"crates/{name}/"))) for name in listed]

@@ -7,10 +7,10 @@ CALL = "crates/windows/src/calls.rt"
 STATION = "crates/roqshyn/src/calls.rt"
 RATE = "crates/busiest/src/lib.rt"
 GROUP = "crates/windows/src/lib.rt"
-SHOW = "    pub fn show(self, id: WinId) -> Done\n        requires { ⌜ Given self ⌝ }\n"
-ROQ = 'pub extern "C" fn roq_show(s: &mut Session, id: WinId) -> u32\n    requires { ⌜ Given (now s) ⌝ }\n'
-METHOD = "impl Session { pub fn peek(self) -> u32 ensures { λ r. ⌜ r ≡ 0 ⌝ } { 0 } }\n"
-FUNCTION = "pub fn peek() -> u32 ensures { λ r. ⌜ r ≡ 0 ⌝ } { 0 }\n"
+SHOW = "    pub fn show(self, id: WinId) -> Done\n        requires { Given self }\n"
+ROQ = 'pub extern "C" fn roq_show(s: &mut Session, id: WinId) -> u32\n    requires { Given s.old }\n'
+METHOD = "impl Session { pub fn peek(self) -> u32 ensures { result ≡ 0 } { 0 } }\n"
+FUNCTION = "pub fn peek() -> u32 ensures { result ≡ 0 } { 0 }\n"
 
 # What is edited: a file, what stands in it ("" is its end), and what is put there. Then the line that has to be printed.
 REFUSED = [
@@ -27,17 +27,17 @@ REFUSED = [
     ),
     (
         "a premise widened",
-        [(CALL, SHOW, SHOW.replace("self ⌝", "self × (id .0 < 16) ⌝"))],
+        [(CALL, SHOW, SHOW.replace("self }", "self × (id.0 < 16) }"))],
         "windows::Session::show: requires",
     ),
     (
         "a second premise",
-        [(CALL, SHOW, SHOW + "        requires { ⌜ id .0 < 16 ⌝ }\n")],
+        [(CALL, SHOW, SHOW + "        requires { id.0 < 16 }\n")],
         "windows::Session::show: requires",
     ),
     (
         "an exported premise widened",
-        [(STATION, ROQ, ROQ.replace("s) ⌝", "s) × (id .0 < 16) ⌝"))],
+        [(STATION, ROQ, ROQ.replace("old }", "old × (id.0 < 16) }"))],
         "roqshyn::roq_show: requires",
     ),
     (
@@ -45,38 +45,38 @@ REFUSED = [
         [
             (
                 RATE,
-                "-> Second\n    ensures { λ r. ⌜ r ≡ busiest",
-                "-> Second\n    requires { ⌜ Given times ⌝ }\n    ensures { λ r. ⌜ r ≡ busiest",
+                "-> Second\n    ensures { result ≡ busiest",
+                "-> Second\n    requires { Given times }\n    ensures { result ≡ busiest",
             ),
         ],
         "it has no session",
     ),
     ("another Given", [(CALL, "View.{", "Other.{")], "`Given` is not the one of"),
     ("Given as another name", [(CALL, "Given", "Rep as Given")], "`Given` is not the one of"),
-    ("another now", [(STATION, "ghost use ", "ghost use lib.Other.{now};\nghost use ")], "`now` is brought in"),
+    ("another now", [(STATION, "ghost use ", "ghost use Rattle.rules.specs.Calls.{now};\nghost use ")], "`now` is brought in"),
     (
         "an ensures removed",
-        [(RATE, "    ensures { λ r. ⌜ r ≡ busiest (now (times .entry)) ⌝ }\n", "")],
+        [(RATE, "    ensures { result ≡ busiest times.now }\n", "")],
         "busiest::busiest: has no ensures",
     ),
     (
         "an ensures made a comment",
-        [(RATE, "    ensures { λ r. ⌜ r ≡ busiest", "    // ensures { λ r. ⌜ r ≡ busiest")],
+        [(RATE, "    ensures { result ≡ busiest", "    // ensures { result ≡ busiest")],
         "busiest::busiest: has no ensures",
     ),
     (
         "an ensures that says nothing of the result",
-        [(RATE, "λ r. ⌜ r ≡ busiest (now (times .entry))", "λ r. ⌜ 0 ≡ 0")],
+        [(RATE, "result ≡ busiest times.now", "0 ≡ 0")],
         "does not name what it hands back",
     ),
     (
         "the same in a comment",
-        [(RATE, "λ r. ⌜ r ≡ busiest (now (times .entry)) ⌝", "λ r. ⌜ 0 ≡ 0 ⌝ -- r\n")],
+        [(RATE, "result ≡ busiest times.now", "0 ≡ 0 -- result\n")],
         "does not name what it hands back",
     ),
     (
         "lent pixels left open",
-        [("crates/winbuf/src/lib.rt", " r (now (pixels .exit)) ⌝", " r (now (pixels .entry)) ⌝")],
+        [("crates/winbuf/src/lib.rt", " result pixels.new }", " result pixels.old }")],
         "does not say what pixels holds",
     ),
     (
@@ -96,7 +96,7 @@ REFUSED = [
     ),
     (
         "an impl by another name",
-        [("crates/windows/src/inner/dimming.rt", "use crate::Shared;", "use crate::Session as Shared;")],
+        [("crates/windows/src/inner/dimming.rt", "use crate::{Shared, SharedDone};", "use crate::Session as Shared;\nuse crate::SharedDone;")],
         "use … as …",
     ),
     (
@@ -113,7 +113,7 @@ REFUSED = [
     ("a name handed on", [(GROUP, "mod calls;", "mod calls;\npub use inner::one::mark;")], "pub use:"),
     (
         "an exported function of another crate",
-        [("crates/order/src/lib.rt", "", "#[no_mangle]\n" + FUNCTION)],
+        [("crates/order/src/lib.rt", "", "#[unsafe(no_mangle)]\n" + FUNCTION)],
         "order::peek stands in no table",
     ),
     ("a file that no mod names", [("crates/busiest/src/more.rt", "", FUNCTION)], "no `mod` names this file"),

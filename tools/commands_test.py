@@ -1,8 +1,9 @@
-"""Commands where something is missing or wrong, in a folder that has the repository's files by links and a target/ of
-its own. In place of the tools that would prove and build there are stand-ins: `rt` notes that it was called."""
+"""Commands where something is missing or wrong, in a folder that has the repository's files by links, and of its own a
+target/ and the crates, where `rt` writes. In place of the tools that would prove and build there are stand-ins: `rt` notes that it was called."""
 import contextlib
 import os
 import pathlib
+import shutil
 import subprocess
 import sys
 import tempfile
@@ -28,8 +29,9 @@ class Room:
         for made in (self.root, self.bin, self.away):
             made.mkdir()
         for path in ROOT.iterdir():
-            if path.name not in ("target", ".git"):
+            if path.name not in ("target", ".git", "crates"):
                 (self.root / path.name).symlink_to(path)
+        shutil.copytree(ROOT / "crates", self.root / "crates", ignore=shutil.ignore_patterns("out"))
         for name, text in STAND_INS.items():
             self.program(self.bin / name, f"#!/bin/sh\n{text}\n")
 
@@ -66,12 +68,13 @@ def proofs(room):
     """What is said of a proof that begins, and while it goes on."""
     script = room.root / "examples/share.calls"
     said = room.run("play", script)
-    expect("a proof is not announced", "about 8 minutes on two cores" in said.stderr and room.called.exists(), said)
-    said = room.run("mistakes/run")
-    expect("a proof before mistakes is not announced", "8 minutes" in said.stderr and room.called.exists(), said)
-    room.program(room.root / "target/bin/replay", (ROOT / "tools/stand_in.py").read_text())
+    expect("a proof is not announced", "from nothing this takes long" in said.stderr and room.called.exists(), said)
+    said = room.run("mistakes/run", "due")
+    untried = said.returncode == 1 and "due/back_not_full: NOT TRIED" in said.stdout
+    expect("mistakes that were not tried are not told", untried and room.called.exists(), said)
+    room.program(room.root / "crates/replay/out/replay", (ROOT / "tools/stand_in.py").read_text())
     said = room.run("play", script)
-    expect("a proof is announced that is done", "minutes" not in said.stderr and room.called.exists(), said)
+    expect("a proof is announced that is done", "takes long" not in said.stderr and not room.called.exists(), said)
     silent = ". ./tools/prove.sh; { echo a; sleep 1.2; printf 'b\\nc'; } | alive 1"
     said = subprocess.run(["bash", "-c", silent], cwd=ROOT, capture_output=True, text=True)
     expect("a silent proof gives no sign", (said.stdout, said.stderr[:13]) == ("a\nb\nc", "still proving"), said)

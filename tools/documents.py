@@ -45,8 +45,6 @@ QUOTING = ("docs/PROVING.md", "docs/PROMISES.md")
 EXCEPTIONS = {
     "docs/ADDING-A-CALL.md": ("probe",),  # a word that was added to try it
     "docs/CALL-SCRIPT.md": ("read-sheet BYTE…",),  # a stand-in for numbers
-    # A file and a module of the kit, and a form that an example adds.
-    "docs/PROVING.md": ("ListN.antt", "Lts", "PlaceLet.antt", "pub mod PlaceLet"),
     "docs/SAFETY-MANUAL.md": (".bss",),  # a section that an archive does not have
     "docs/TRACE.md": ("N5.2", "File.name", "crate/File.name", "crate::path::function"),  # forms of names
 }

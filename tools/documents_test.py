@@ -36,7 +36,7 @@ SENTENCES = [
     ("a lemma", "It is proved as `no-such-lemma`.", "no code has no-such-lemma"),
     ("a word of a phrase", "It is `does g noSuchCall`.", "no code has noSuchCall"),
     ("names with a common beginning", "They are `nosuch-…` there.", "no code has nosuch-…"),
-    ("a lemma of another file", "See `on-test` in `sheet/specs/Sheet.antt`.", "it is not in sheet/specs/Sheet.antt"),
+    ("a lemma of another file", "See `on_test` in `sheet/specs/Sheet.antt`.", "it is not in sheet/specs/Sheet.antt"),
     ("one of two of a file", "See `Valid` and `bands` in `geom/specs/Bare.antt`.", "`Valid`: it is not in geom"),
     ("a crate", "It is in the crate `pixels`.", "there is no crate pixels"),
     ("one of two crates", "It is in the crates `geom` and `pixels`.", "there is no crate pixels"),
@@ -150,7 +150,7 @@ PASSED = [
     "It is in `crates/geom/src/lib.rt`, `rules/specs/Group` and `group/Steps`; run `bash tools/calls --test`.",
     "It is `Rect::union`, `Group.start`, `windows::inner::one::show`, `does g k` and `roq_mark`.",
     "It says `mousedown 1 2 3` and `0 MouseDown 1 2 3`; see [there](SAFETY-MANUAL.md#figures) and question 27.",
-    "It is `requires { ⌜ Given self ⌝ }` in the crates `windows` and `roqshyn`.",
+    "It is `requires { Given self }` in the crates `windows` and `roqshyn`.",
 ]
 
 

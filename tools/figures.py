@@ -99,7 +99,7 @@ FIGURES = (
         "a queue of {} (?:events|slots)",
         "fewer than {} events wait",
     ),
-    Figure("greatest C", at("crates/rules/specs/Group.antt", "allowedC c = leb 1 c && leb c {}"), "C is 1 to {}", *PIXELS),
+    Figure("greatest C", at("crates/rules/specs/Group.antt", "allowed_c c = leb 1 c && leb c {}"), "C is 1 to {}", *PIXELS),
     Figure(
         "greatest coordinate",
         at("crates/geom/specs/Questions.antt", "small n = leb n {}"),

@@ -3,9 +3,9 @@ import dataclasses
 import re
 
 # The attributes that an item here may have.
-ATTRIBUTES = ("repr", "no_mangle")
+ATTRIBUTES = ("repr", "no_mangle", "unsafe", "derive", "tactic")
 WORD = re.compile(r"\s+|//[^\n]*|/\*|b?\"(?:\\.|[^\"\\])*\"|b'(?:\\.|[^'\\])'|'\w+|«\w+»|::|->|--|\w[\w·]*|.", re.S)
-CLOSING = {"{": "}", "(": ")", "[": "]", "⌜": "⌝"}
+CLOSING = {"{": "}", "(": ")", "[": "]"}
 
 
 class Unread(Exception):
@@ -163,7 +163,10 @@ class Reader:
         return [word for word, _ in self.words[start : self.at]]
 
     def item(self, module, owner):
-        exported, public, line = self.attributes(), self.visibility(), self.line()
+        exported = self.attributes()
+        if not self.peek():
+            return
+        public, line = self.visibility(), self.line()
         while self.peek() in ("const", "extern") and self.peek(1) in ("fn", "extern", '"C"'):
             exported |= self.take() == "extern"
             if self.peek() == '"C"':
@@ -192,10 +195,12 @@ class Reader:
         exported = False
         while self.peek() == "#":
             self.take()
-            name = self.group()[0]
-            if name not in ATTRIBUTES:
-                raise Unread(f"the attribute '{name}'")
-            exported |= name == "no_mangle"
+            if self.peek() == "!":
+                self.take()
+            words = self.group()
+            if words[0] not in ATTRIBUTES:
+                raise Unread(f"the attribute '{words[0]}'")
+            exported |= "no_mangle" in words[:3]
         return exported
 
     def visibility(self):
@@ -248,7 +253,11 @@ class Reader:
         gives = self.until("requires", "ensures", "{") if self.peek() == "->" else []
         clauses = {"requires": [], "ensures": []}
         while self.peek() in clauses:
-            clauses[self.take()].append(self.group())
+            kind = self.take()
+            # One of several of a kind has a name.
+            if self.peek() != "{":
+                self.take()
+            clauses[kind].append(self.group())
         if {"fn", "impl", "mod", "use"}.intersection(self.group()):
             raise Unread(f"an item in the body of {name}")
         self.crate.functions.append(Function(module, line, owner, name, public, exported, takes, gives, **clauses))

@@ -17,7 +17,7 @@ VERSIONS = (
     ("bindings/rust/Cargo.toml", r'^version = "(.*)"$'),
     *((f"{folder}/Cargo.lock", LOCKED) for folder in ("bindings/rust", "examples/rust", "bench")),
     ("crates/roqshyn/src/version.rt", r"^const (?:MAJOR|MINOR|PATCH): u32 = (\d+);$"),
-    ("crates/roqshyn/specs/Version.antt", r"^version = versionOf (\d+ \d+ \d+)$"),
+    ("crates/roqshyn/specs/Version.antt", r"^version = version_of (\d+ \d+ \d+)$"),
     ("README.md", r"^Version (\S+), "),
     ("docs/VERSIONS.md", r"It is now \*\*(\S+)\*\*\."),
 )

@@ -24,14 +24,16 @@ from tree import code_words
 OF_ORIGINAL = ("docs/DECISIONS.md", "docs/DIFFERENCES.md")
 # What stands for any name.
 STAND_INS = "CALLS CRATE DIR FUNCTION NAME PIECE PREFIX SCRIPT SEED".split()
-KIT = "check ci dev doc fmt goals mir must-fail prove selftest staticlib try version".split()
+KIT = "all check ci doc expand fmt lemma lib must-fail new plant run seed selftest test tidy try verdict version".split()
 OTHERS = ("cargo", "git", "grep", "objdump", "rattle")
 # What is made, the customer's documents beside the checkout, the kit's own library, and folders of a machine.
-ELSEWHERE = ("target/", "../shared/", "logic/", "antt/", "thepowersgang/", "/")
+ELSEWHERE = ("target/", "out/", "../shared/", "logic/", "antt/", "thepowersgang/", "/")
+# What `rt` makes of a crate.
+MADE = re.compile(r"crates/\w+/out/")
 # What `install` puts in place.
 INSTALLED = ("PREFIX/", "LIBDIR/")
 # `logic-built=trusted`, `pinned=no`: fields of a line that the kit prints.
-OF_OTHERS = re.compile(r"rattle-kit-.*|[\w-]+=[\w,]*|help:|(?:tie\.)?Need-[AB…]|-[a-zA-Z].*|PIXMAN_\w+|pixman_\w+")
+OF_OTHERS = re.compile(r"rattle-kit-.*|[\w-]+=[\w,]*|help:|-[a-zA-Z].*|--(?:allow-holes|anew|fix-imports|only|start)(?: [A-Z]+)?|PIXMAN_\w+|pixman_\w+")
 PANIC = re.compile(r"`[\w/]+\.rs:\d+`:\s+$")
 PATH = re.compile(r"[\w.+*…-]*(?:/[\w.+*…-]*)+|[\w+-]+\.(?:antt|c|calls|edit|h|md|py|rs|rt|sh|txt)")
 PLACE = re.compile(r"((?:\w+/)*\w+\.rs):\d+")
@@ -100,7 +102,8 @@ class Names:
     def of_kit(self, words):
         if words and words[0] not in KIT:
             return f"rt has no command {words[0]}"
-        crates = [word for word in words[1:2] if re.fullmatch(r"[a-z_]+", word)]
+        # `rt all check`, `rt lemma WORD`: what stands behind is no crate.
+        crates = [word for word in words[1:2] if re.fullmatch(r"[a-z_]+", word) and words[0] in ("ci", "must-fail", "check")]
         return next((f"there is no crate {name}" for name in crates if name not in self.tree.crates), "")
 
     def wrong_options(self, command, words):
@@ -181,7 +184,7 @@ class Names:
     def words(self, text, folders, document):
         if text in self.tree.words or text in self.tree.by_name or text in self.stand_ins:
             return ""
-        words = [word.strip(".:") for word in re.findall(r"[^\s(){};,\[\]\"'⌜⌝=<>&|…]+…?|…[\w-]+", text)]
+        words = [word.strip(".:") for word in re.findall(r"[^\s(){};,\[\]\"'=<>&|…]+…?|…[\w-]+", text)]
         missing = [word for word in words if not self.is_word(word)]
         return "" if self.original_has(missing, document) else f"no code has {', '.join(missing)}"
 
@@ -206,7 +209,7 @@ class Names:
 
     def is_there(self, path):
         path = path.rstrip("/")
-        if path in self.tree.files or path in self.tree.folders or f"{path}.antt" in self.tree.files:
+        if path in self.tree.files or path in self.tree.folders or f"{path}.antt" in self.tree.files or MADE.match(path):
             return True
         return any(part in path for part in ("*", "…", *self.stand_ins)) and bool(self.matching(f"^{{}}$", path))
 

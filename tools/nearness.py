@@ -8,10 +8,10 @@ import re
 import believed
 
 # Definitions with an equation for each case, which is the constructor in the first pattern that has one.
-CASES = ("rules/specs/Panels.antt", "callOf"), ("rules/specs/Calls.antt", "does"), ("windows/specs/View.antt", "ruled")
+CASES = ("rules/specs/Panels.antt", "call_of"), ("rules/specs/Calls.antt", "does"), ("windows/specs/View.antt", "ruled")
 CALL, WRITE = ("rules/specs/Calls.antt", "Call"), ("rules/specs/Panels.antt", "Write")
 # What is about all calls: a contract is not about it, and of a statement it is not opened.
-WHOLE = [(CALL[0], name) for name in ("Call", "Made", "run", "after", "byRule")]
+WHOLE = [(CALL[0], name) for name in ("Call", "Made", "run", "after", "by_rule")]
 
 
 class Nearness:
@@ -40,12 +40,12 @@ class Nearness:
         file, name = definition
         names, body = self.specs.names[file], self.bodies[file][name]
         words = self.specs.files[file].definitions[name].words
-        words = {word for word in words | {word.rpartition(".")[0] for word in words} if word in names}
+        words = {word for word in words | believed.prefixes(words) if word in names}
         # A field may have the name of a definition: where it is declared or set, it is none.
         fields = set(re.findall(r"^  pub (\S+) :", body, re.M))
         for word in set(re.findall(r"(?:^ +|[{;] )(\w+) = ", body, re.M)).intersection(words):
             set_here = re.findall(rf"(?:^ +|[{{;] ){word} = ", body, re.M)
-            if len(re.findall(rf"(?<![\w.·]){word}\b", body)) == len(set_here):
+            if len(re.findall(rf"(?<![\w.]){word}\b", body)) == len(set_here):
                 fields.add(word)
         return sorted({names[word] for word in words - fields} - {definition})
 

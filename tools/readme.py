@@ -51,7 +51,7 @@ def wrong_version(files):
 def uses(crates):
     """What each crate of crates.txt uses."""
     lines = [line.partition(":") for line in crates.splitlines() if line and not line.startswith("#")]
-    return {name: used.split() for name, _, used in lines}
+    return {name.removesuffix(" staticlib"): used.split() for name, _, used in lines}
 
 
 def floors(text):

@@ -62,7 +62,7 @@ class Repository:
 
     def read_crates(self):
         code = [pair for pair in self.files.items() if pair[0].endswith(".rt")]
-        listed = re.findall(r"^(\w+):", self.files["crates.txt"], re.M)
+        listed = re.findall(r"^(\w+)(?: staticlib)?:", self.files["crates.txt"], re.M)
         return [calls.crate(n, tuple(p for p in code if p[0].startswith(f"crates/{n}/"))) for n in listed]
 
     @staticmethod

@@ -45,8 +45,8 @@ def words_in(text):
 
 
 def pieces(name):
-    """How a name is written where it is cited: `_is_` is `is`."""
-    return [piece for piece in name.split("_") if piece] if name[0] == "_" or name[-1] == "_" else [name]
+    """How a name is written where it is cited: `◌is◌` is `is`."""
+    return [piece for piece in name.split("◌") if piece]
 
 
 class Spec:

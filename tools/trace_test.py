@@ -7,7 +7,7 @@ from matrix import ADDITIONS, REQUESTS, SCOPE, TRACE, Matrix
 SPEC = "crates/busiest/specs/Busiest.antt"
 CODE, VERSION = "crates/roqshyn/src/times.rt", "crates/roqshyn/src/version.rt"
 EDIT = "mistakes/busiest/one_more.edit"
-PEEK = '#[no_mangle]\npub extern "C" fn roq_peek() -> u32 ensures { λ r. ⌜ r ≡ 0 ⌝ } { 0 }\n'
+PEEK = '#[unsafe(no_mangle)]\npub extern "C" fn roq_peek() -> u32 ensures { result ≡ 0 } { 0 }\n'
 ROW = r"\| N13\.3 \|[^\n]*\n"
 MISSING = "Missing: "
 
@@ -15,16 +15,16 @@ MISSING = "Missing: "
 # the line that has to be printed. These need no documents.
 REFUSED = [
     ("a name that is gone", [(TRACE, r"`compare/panels`", "`compare/panel`")], "`compare/panel` is not there"),
-    ("a theorem that is gone", [(TRACE, r"`either-order`", "`either-ordre`")], "`either-ordre` is not there"),
+    ("a theorem that is gone", [(TRACE, r"`either_order`", "`either_ordre`")], "`either_ordre` is not there"),
     ("a definition that is gone", [(TRACE, r"`Run\.Run`", "`Run.Ran`")], "`Run.Ran` is not there"),
     (
         "a definition by another name",
-        [(SPEC, r"inSpan :", "inASpan :"), (SPEC, r"\ninSpan", "\ninASpan")],
-        "`Busiest.inSpan`",
+        [(SPEC, r"in_span :", "in_a_span :"), (SPEC, r"\nin_span", "\nin_a_span")],
+        "`Busiest.in_span`",
     ),
     (
         "a table of calls by another name",
-        [("crates/windows/specs/View.antt", r"pub ruled :", "pub ruledBy :")],
+        [("crates/windows/specs/View.antt", r"pub ruled :", "pub ruled_by :")],
         "does not define ruled",
     ),
     ("a mistake that is gone", [(TRACE, r"`due/back_not_full`", "`due/back_full`")], "`due/back_full` is not there"),
@@ -35,19 +35,11 @@ REFUSED = [
         [(TRACE, r"`busiest::busiest`, `roqshyn::roq_busiest`", "`busiest::busiest`")],
         "`proof` is stale",
     ),
-    ("a stale test", [(TRACE, r"`Examples\.equal-times`, `compare", "`compare")], "`test` is stale"),
+    ("a stale test", [(TRACE, r"`Examples\.equal_times`, `compare", "`compare")], "`test` is stale"),
     ("a kind that is none", [(TRACE, r"equal times \| rule", "equal times | rules")], "N13.3: its kind is none of"),
     ("no words", [(TRACE, r"\| equal times \|", "| |")], "N13.3: no words say what it is about"),
     ("no word why", [(TRACE, r"it says how panel programs run", "")], "N14.1: no word says why it is background"),
     ("no test", [(TRACE, r"rule \| `Examples\.fires`, ", "rule | ")], "N8.2: it is a rule, and has no test"),
-    (
-        "no proof",
-        [
-            (TRACE, r"rule \| `replay::Player::line`, `Played\.Plays`, ", "rule | "),
-            ("crates/replay/specs/Played.antt", r'"None of these lines uses up a pending lend\."', "no lend is used up"),
-        ],
-        "03 Lines 3: it is a rule, and has no proof",
-    ),
     ("no place of a form", [(TRACE, r"form \| `look::Zoom`", "form |")], "01 Places 6: it is a form, and has no code"),
     ("a question that no row says", [(TRACE, r"question 27:", "27:")], "question 27: no sentence"),
     (
@@ -85,6 +77,14 @@ REFUSED = [
 ]
 # These need them.
 WITH_DOCUMENTS = [
+    (
+        "no proof",
+        [
+            (TRACE, r"rule \| `replay::Player::line`, `Played\.Plays`, ", "rule | "),
+            ("crates/replay/specs/Played.antt", r'"None of these lines uses up a pending lend\."', "no lend is used up"),
+        ],
+        "03 Lines 3: it is a rule, and has no proof",
+    ),
     (
         "a quotation of nothing",
         [(SPEC, '"the greatest number"', '"the largest number"')],

@@ -5,7 +5,7 @@ import pathlib
 import re
 
 ROOT = pathlib.Path(__file__).resolve().parent.parent
-LEFT_OUT = ("target", ".git", "__pycache__")
+LEFT_OUT = ("target", "out", ".git", "__pycache__")
 # Comments are no code. A word of antt may have any sign in it, a word of a command a hyphen.
 CODE = {
     ".antt": (r"--(?=[ -]|$)[^\n]*", r"[^\s(){};,\[\]\"`']+|[\w-]+"),
@@ -60,8 +60,8 @@ class Tree:
     def __init__(self, files):
         self.files = files
         self.folders = {folder for path in files for folder in above(path)}
-        self.crates = re.findall(r"^(\w+):", files["crates.txt"], re.M)
-        self.commands = {path for path, text in files.items() if text.startswith("#!")}
+        self.crates = re.findall(r"^(\w+)(?: staticlib)?:", files["crates.txt"], re.M)
+        self.commands = {path for path, text in files.items() if text.startswith("#!/")}
         self.script = self.script_lines()
 
     @functools.cached_property

@@ -5,7 +5,7 @@ The session is windows::Session, a #[repr(C)] struct of such structs, laid out a
 import re
 
 SIZES = {"u8": 1, "bool": 1, "u16": 2, "i16": 2, "u32": 4, "u64": 8, "usize": 8}
-DECLARED = re.compile(r"#\[repr\(C\)\]\npub struct (\w+)(?: \{\n(.*?)\n\}|\(pub (\w+)\);)", re.S)
+DECLARED = re.compile(r"#\[repr\(C\)\]\n(?:#\[derive\([^\n]*\n)?pub struct (\w+)(?: \{\n(.*?)\n\}|\(pub (\w+)\);)", re.S)
 FIELD = re.compile(r"^    pub \w+: (.*),$", re.M)
 
 

@@ -9,7 +9,7 @@ use std::path::{Path, PathBuf};
 fn main() {
     let here = PathBuf::from(env::var("CARGO_MANIFEST_DIR").expect("set by cargo"));
     let out = PathBuf::from(env::var("OUT_DIR").expect("set by cargo"));
-    let found = || first_of(&here, ["libroqshyn.a", "../../target/staticlib/libroqshyn.a"]);
+    let found = || first_of(&here, ["libroqshyn.a", "../../crates/roqshyn/out/libroqshyn.a"]);
     let archive = env::var("ROQSHYN_ARCHIVE").map_or_else(|_| found(), PathBuf::from);
     // The linker finds it by this name.
     let copied = fs::copy(&archive, out.join("libroqshyn.a"));
