@@ -68,11 +68,11 @@ from i n ns = take (n - i) (drop i ns)
 abbrev pub scanline_line : ℕ → List ℕ → List Piece
 scanline_line n ns = handed_line (scanline (from 5 n ns) (num ns 0) (num ns 1) (num ns 2) (num ns 3) (num ns 4))
 
--- "`fill_scanline W H LINE OFS LEN VALUE PIXELS…`"
+-- "`fill-scanline W H LINE OFS LEN VALUE PIXELS…`"
 abbrev pub fill_line : ℕ → List ℕ → List Piece
 fill_line n ns = written_line (fill_scanline (from 6 n ns) (num ns 0) (num ns 1) (num ns 2) (num ns 3) (num ns 4) (num ns 5))
 
--- "`set_scanline W H LINE OFS LEN N DATA… PIXELS…`"; "N is how many DATA come"
+-- "`set-scanline W H LINE OFS LEN N DATA… PIXELS…`"; "N is how many DATA come"
 abbrev pub set_line : ℕ → List ℕ → List Piece
 set_line n ns =
     written_line (set_scanline (from (6 + num ns 5) n ns) (num ns 0) (num ns 1) (num ns 2) (num ns 3) (num ns 4) (take (num ns 5) (drop 6 ns)))
