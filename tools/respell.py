@@ -98,6 +98,20 @@ def outside_strings(turn, text):
 
 
 def turned(path, text, names, clashes=None):
+    """The text with its names turned; a string that goes on over lines is put aside meanwhile."""
+    aside = []
+
+    def put(m):
+        aside.append(m[0])
+        return f'"{len(aside) - 1}"'
+
+    if path.endswith(".rt"):
+        text = re.sub(r'"(?:[^"\\\n]|\\.)*\\\n(?:[^"\\\n]|\\.|\\\n)*"', put, text)
+    text = turned_lines(path, text, names, clashes)
+    return re.sub(r'"(\d+)"', lambda m: aside[int(m[1])] if int(m[1]) < len(aside) else m[0], text) if aside else text
+
+
+def turned_lines(path, text, names, clashes):
     kit = from_kit(text)
     antt = path.endswith(".antt")
     plain = PLAIN | ALONE.get(path, set()) if antt else set()
