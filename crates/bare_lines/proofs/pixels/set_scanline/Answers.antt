@@ -28,6 +28,6 @@ returns c =
     let k = c.wide-n.result in
     let f = c.set-written in
     let e = asked ns c.copied-data.result n k c.scan_of-s.ensures c.wide-n.ensures c.copied-data.ensures in
-    written (part_put (6 + k) n ns f.new.pixels (search rules) (search rules) c.ns-1.given.0)
+    written (part_put (6 + k) n ns f.new.pixels (search rules) (search rules) (search rules))
     (subst (λ (t : Write). Gives t f.result f.new.pixels) e f.ensures)
     c.write_altered.ensures
