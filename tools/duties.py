@@ -20,7 +20,7 @@ FIGURES = ("longest call", "session", "store of", "screen")
 # A file in the manual's words: `docs/SPEED.md`, `bash bench/run`, `visible/specs/inner/Seen.antt`. Another repository's
 # or a made one is not looked for.
 NAMED = re.compile(r"`(?:bash )?((?:[\w.+-]+/)+[\w.+-]*)[^`]*`|\]\(([^)#:]+)[^)]*\)")
-MADE = ("target/",)
+MADE = ("target/", "out/")
 # A definition and its part: `few` of `Table`, `visible/specs/inner/Seen.antt`.
 DEFINED = re.compile(r"`(\w+)`\s+of\s+`(\w+)`,\s+`([\w./+-]+)`")
 
