@@ -21,9 +21,6 @@ helps() {
 }
 helps "$@"
 
-# The arrays of `replay` lie on its stack, of which a shell often gives 8 MiB: see crates/replay/src/stack.rt.
-ulimit -S -s 65536 2>/dev/null || true
-
 # Where a tool comes from.
 origin() {
   case $1 in
