@@ -1,8 +1,7 @@
-//! Lays out a folder of links in which the original's files and the stand-ins for their missing neighbours lie where `mod` looks
-//! for them. The text of the original is read where it lies and is never copied.
+//! Lays out a folder in which the original's files and the stand-ins for their missing neighbours lie where `mod` looks for
+//! them. They are copied to the build's own folder alone: the prover's gate refuses a link anywhere in the checkout.
 use std::env;
 use std::fs;
-use std::os::unix::fs::symlink;
 use std::path::{Path, PathBuf};
 
 /// The original's files, and the folder in which each is laid.
@@ -27,19 +26,19 @@ fn main() {
         Err(_) => here.join("../../../shared/docs/src"),
     };
     for &(file, folder) in ORIGINAL.iter() {
-        link(&original.join(file), &out.join(folder));
+        lay(&original.join(file), &out.join(folder));
     }
     for file in STAND_INS.iter() {
-        link(&here.join("../original/src/metadevs/video").join(file), &out.join("video"));
+        lay(&here.join("../original/src/metadevs/video").join(file), &out.join("video"));
     }
 }
 
-/// Lays a link to the file in the folder.
-fn link(file: &Path, folder: &Path) {
+/// Lays a copy of the file in the folder.
+fn lay(file: &Path, folder: &Path) {
     println!("cargo:rerun-if-changed={}", file.display());
     let file = file.canonicalize().unwrap_or_else(|e| panic!("{}: {}", file.display(), e));
     let place = folder.join(file.file_name().expect("a file has a name"));
     fs::create_dir_all(folder).expect("the folder can be made");
     let _ = fs::remove_file(&place);
-    symlink(&file, &place).expect("the link can be made");
+    fs::copy(&file, &place).expect("the file can be copied");
 }
