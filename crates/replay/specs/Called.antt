@@ -113,6 +113,11 @@ routes k = within Kind.keydown Kind.resized k
 abbrev pub is_plain : ℕ → Bool
 is_plain k = is_one k (kinds (window_calls [])) || routes k
 
+-- something is asked, lent nothing, and the session stays as it is
+abbrev pub asking : List ℕ
+asking =
+    Kind.focus ∷ Kind.busiest ∷ Kind.share ∷ Kind.display_at ∷ Kind.sheet ∷ Kind.stale ∷ Kind.waiting ∷ Kind.window ∷ Kind.session ∷ []
+
 -- the store is lent, to be written
 abbrev pub OnStore : ℕ → Type 0
 OnStore k = ((Kind.resize ≤ k) × (k ≤ Kind.blit)) ⊎ ((Kind.maximise ≤ k) × (k ≤ Kind.update_dims))

@@ -5,7 +5,7 @@ ghost use Rattle.rules.specs.Calls.{Call};
 ghost use Rattle.windows.specs.View as View;
 ghost use Rattle.windows.specs.View.{group, event_in, Given, Meets};
 ghost use Rattle.script.specs.Kind as Kind;
-ghost use Rattle.replay.specs.Called.{Picked, plain_call, is_plain, is_lent};
+ghost use Rattle.replay.specs.Called.{Picked, plain_call, is_one, is_plain, asking, is_lent};
 ghost use Rattle.bare_lines.specs.Numbers.{id_of, Sound};
 ghost use Rattle.replay.specs.Ready.{Ready, Next};
 ghost use Rattle.rules.specs.Calls.{does};
@@ -47,6 +47,69 @@ fn plain(s: Session, line: Line, ns: &[u32; 384006]) -> Done
     }
 }
 
+// Does the line make a call that hands back an answer alone?
+pub fn is_plain(k: u8) -> bool
+    ensures { result ≡ is_plain k }
+{
+    match k {
+        kind::SHOW..=kind::MOVE | kind::KEYDOWN..=kind::RESIZED => true,
+        kind::BEGIN | kind::DIM | kind::LAYER | kind::DISPLAY | kind::RAISE | kind::DRAG => true,
+        _ => false,
+    }
+}
+
+// Those lines.
+pub fn answered(
+    p: Player,
+    line: Line,
+    ns: &[u32; 384006],
+    stdout: Stdout,
+    out: &mut [u8; 65536],
+) -> Player
+    requires { Ready p × Sound line ns.now × (is_plain line.kind ≡ true) }
+    ensures { (a : Pixels) → Writes line ns.now p a out.old result a out.new }
+{
+    let s = p.session;
+    let done = plain(s, line, ns);
+    p.answered(done, stdout, out)
+}
+
+// Does the line ask, lent nothing, and leave the session as it is?
+pub fn asks(k: u8) -> bool
+    ensures { result ≡ is_one k asking }
+{
+    match k {
+        kind::FOCUS | kind::BUSIEST..=kind::SHARE | kind::DISPLAY_AT | kind::SHEET => true,
+        kind::STALE..=kind::SESSION => true,
+        _ => false,
+    }
+}
+
+// Those lines.
+pub fn asked(
+    p: Player,
+    line: Line,
+    ns: &[u32; 384006],
+    stdout: Stdout,
+    out: &mut [u8; 65536],
+) -> Player
+    requires { Ready p × Sound line ns.now × (is_one line.kind asking ≡ true) }
+    ensures { (a : Pixels) → Writes line ns.now p a out.old result a out.new }
+{
+    let k = line.kind;
+    match k {
+        kind::FOCUS => focus(p, stdout, out),
+        kind::BUSIEST => times::busiest(p, line, ns, stdout, out),
+        kind::SHARE => share::share(p, ns, stdout, out),
+        kind::DISPLAY_AT => displays::display_at(p, ns, stdout, out),
+        kind::SHEET => sheets::sheet(p, ns, stdout, out),
+        kind::STALE => stale::stale(p, ns, stdout, out),
+        kind::WAITING => waiting::waiting(p, stdout, out),
+        kind::WINDOW => state::window(p, ns, stdout, out),
+        _ => state::session(p, stdout, out),
+    }
+}
+
 // A line that is lent no pixels and no list.
 pub fn call(
     p: Player,
@@ -65,26 +128,17 @@ pub fn call(
         kind::START => start(p, ns, stdout, out),
         kind::CREATE => create(p, stdout, out),
         kind::POP => pop(p, ns, stdout, out),
-        kind::FOCUS => focus(p, stdout, out),
         kind::LEND => lend::lend_store(p, ns, stdout, out),
         kind::LEND_SCREEN => lend::lend_screen(p, ns, stdout, out),
         kind::LEND_LIST => lend::lend_list(p, ns, stdout, out),
-        kind::BUSIEST => times::busiest(p, line, ns, stdout, out),
-        kind::SHARE => share::share(p, ns, stdout, out),
         kind::LEND_TARGET => lend::lend_target(p, ns, stdout, out),
-        kind::DISPLAY_AT => displays::display_at(p, ns, stdout, out),
-        kind::SHEET => sheets::sheet(p, ns, stdout, out),
         kind::LEND_SHEET => lend::lend_sheet(p, ns, stdout, out),
-        kind::STALE => stale::stale(p, ns, stdout, out),
-        kind::WAITING => waiting::waiting(p, stdout, out),
-        kind::WINDOW => state::window(p, ns, stdout, out),
-        kind::SESSION => state::session(p, stdout, out),
         kind::WHO => who::who(p, line, ns, stdout, out),
-        _ => {
-            let s = p.session;
-            let done = plain(s, line, ns);
-            p.answered(done, stdout, out)
+        kind::FOCUS | kind::BUSIEST..=kind::SHARE | kind::DISPLAY_AT | kind::SHEET => {
+            asked(p, line, ns, stdout, out)
         }
+        kind::STALE..=kind::SESSION => asked(p, line, ns, stdout, out),
+        _ => answered(p, line, ns, stdout, out),
     }
 }
 

@@ -188,6 +188,12 @@ impl Player {
         ensures { Writes line ns.old self (pixels store.old screen.old) out.old result (pixels store.new screen.new) out.new }
     {
         let k = line.kind;
+        if calls::is_plain(k) {
+            return calls::answered(self, line, ns, stdout, out);
+        }
+        if calls::asks(k) {
+            return calls::asked(self, line, ns, stdout, out);
+        }
         match k {
             kind::RESIZE | kind::FILL | kind::BLIT | kind::MAXIMISE | kind::UPDATE_DIMS => {
                 lend::stored(self, line, ns, store, stdout, out)
