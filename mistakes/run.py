@@ -82,7 +82,7 @@ def place_of(crate, line):
     if path.suffix == ".rt":
         return function_at(pathlib.Path("crates", crate, path), int(found[2]))
     if path.stem in ("Answers", "Invariants", "Proof") and path.parts[0] == "proofs":
-        return path.parent.name
+        return path.parent.name.lstrip("+")
     return found[3] or ""
 
 
