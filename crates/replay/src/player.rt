@@ -171,7 +171,8 @@ impl Player {
         self
     }
 
-    // Plays one line.
+    // Plays one line. Plain calls and questions are told apart first, since most lines are those; `call`, which takes every
+    // line that is lent nothing, has the same functions for them.
     pub fn line<R: Files>(
         self,
         files: &R,
