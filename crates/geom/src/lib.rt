@@ -11,23 +11,24 @@ ghost use Rattle.geom.specs.Bare.{met, bare_contains, bare_contains_rect, bare_w
 use crate::inner::answers::{EDGE_TOO_LARGE, OK};
 
 pub mod inner;
+pub mod refusal;
 
 #[repr(C)]
-#[derive(Clone, Copy)]
+#[derive(Clone, Copy, Debug, PartialEq, Eq)]
 pub struct Pos {
     pub x: u32,
     pub y: u32,
 }
 
 #[repr(C)]
-#[derive(Clone, Copy)]
+#[derive(Clone, Copy, Debug, PartialEq, Eq)]
 pub struct Dims {
     pub w: u32,
     pub h: u32,
 }
 
 #[repr(C)]
-#[derive(Clone, Copy)]
+#[derive(Clone, Copy, Debug, PartialEq, Eq)]
 pub struct Rect {
     pub pos: Pos,
     pub dims: Dims,
