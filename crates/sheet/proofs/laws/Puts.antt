@@ -1,15 +1,9 @@
 -- Bits put behind bits.
-use Prim.Native.Nat.{ℕ, suc, ◌+◌, ◌-◌, ◌*◌, ◌^◌, ◌/◌, ◌%◌, ◌≤◌, ◌<◌}
-use mathlib.Core.Path.{◌≡◌, refl, ap, ap₂, sym, ◌∙◌}
-use mathlib.Core.List.{List, [], ◌++◌, append_assoc, append-nil}
-use mathlib.Core.Logic.{◌⊎◌, inl, inr, ⊎_elim}
-use native.Mathlib.Omega.{arith}
+use Rattle.std.proofs.Common.{ℕ, suc, ◌+◌, ◌-◌, ◌*◌, ◌^◌, ◌/◌, ◌%◌, ◌≤◌, ◌<◌, ◌≡◌, refl, ap, ap₂, sym, ◌∙◌, List, [], ◌++◌, append_assoc, append-nil, ◌⊎◌, inl, inr, ⊎_elim, arith, mod-lt, not-suc-le-zero, pow-add, pow_pos, pow_mono, shl_lt, shr_lt, shl_exact, length, drop, get_or, set, length-append, length-set, length-drop, get_or-append-add, get_or-set_same, get_or-set_other, ext_get_or, get_or-drop}
 use native.Mathlib.Decide.{ℕ_discrete}
-use native.Mathlib.Nat.{div-add-mod, mod-lt, div-eq_of_lt, not-suc-le-zero}
+use native.Mathlib.Nat.{div-add-mod, div-eq_of_lt}
 use lib.Arith.{digits_lt}
-use lib.Pow.{pow-add, pow_pos, pow_mono, shl_lt, shr_lt, shl_exact}
-use lib.ListN.{length, drop, get_or, set, length-append, length-set, length-drop, get_or-append, get_or-eq_default}
-use lib.Seq.{get_or-append-add, get_or-set_same, get_or-set_other, ext_get_or, get_or-drop}
+use lib.ListN.{get_or-append, get_or-eq_default}
 use Rattle.geom.proofs.basics.Tests.{lt_or_le}
 use Rattle.sheet.specs.Bytes.{number, bits_of, bytes_from, pack}
 use Rattle.sheet.specs.inner.Writer.{Holding, Put}

@@ -1,13 +1,6 @@
 -- The bits of a sheet, from its numbers.
-use Prim.Native.Nat.{ℕ, zero, suc, ◌+◌, ◌-◌, ◌*◌, ◌/◌, ◌≤◌, ◌<◌}
-use mathlib.Core.Path.{◌≡◌, refl, ap, sym, ◌∙◌}
-use mathlib.Core.Bool.{true, false}
-use mathlib.Core.List.{List, [], ◌∷◌, ◌++◌, append_assoc, append-nil}
-use native.Mathlib.Omega.{arith}
-use borrow.Author.Tests.{le-leb, lt-leb}
-use lib.Dec.{leb}
-use native.Mathlib.Nat.{zero-add, suc-add}
-use lib.ListN.{length, get_or, length-append}
+use Rattle.std.proofs.Common.{ℕ, zero, suc, ◌+◌, ◌-◌, ◌*◌, ◌/◌, ◌≤◌, ◌<◌, ◌≡◌, refl, ap, sym, ◌∙◌, true, false, List, [], ◌∷◌, ◌++◌, append_assoc, append-nil, arith, le-leb, leb, zero-add, suc-add, length, get_or, length-append}
+use borrow.Author.Tests.{lt-leb}
 use Rattle.sheet.specs.Sheet.{Span, Band, Sheet}
 use Rattle.sheet.specs.Bytes.{bits_of, span_bits, band_bits, bits, pack, encode}
 use Rattle.sheet.specs.inner.Numbers.{spans_in, count_in, band_in, past, bands_in, end_in}
