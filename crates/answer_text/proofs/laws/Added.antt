@@ -7,7 +7,7 @@ use lib.ListN.{length, take, drop, length-append, length-drop}
 use lib.Seq.{length-take-le, drop-append-le, drop-drop, drop-length}
 use Rattle.answer_text.specs.Text.{Piece, spelled, said}
 use Rattle.answer_text.specs.Added.{counted, handed_over, Adds}
-use Rattle.answer_text.specs.declared.Waiting.{Waiting}
+use Rattle.answer_text.specs.Added.{Waiting}
 
 pub said_append : (ps qs : List Piece) → said (ps ++ qs) ≡ said ps ++ said qs
 said_append [] qs = refl
