@@ -1,4 +1,4 @@
-// One window by value: its place, its damage, its queue of events and its cursor. Translated from window.rs and, for `CursorPos`, mod.rs.
+// One window: its place, its damage, its queue of events and its cursor. Translated from window.rs and, for `CursorPos`, mod.rs.
 //
 // The functions here are called by our own crates. Each `requires` is part of what a session keeps of its windows (specs/Represents.antt).
 #![tactic(auto)]
@@ -78,20 +78,11 @@ impl Window {
     pub fn unused() -> Window
         ensures { (result.used ≡ false) × (win_of result ≡ new_win) × RepWindow result }
     {
-        let queue = Queue::new();
-        let damage = Damage::none();
-        let cursor = CursorPos::new();
-        let at = Rect16 {
-            x: 0,
-            y: 0,
-            w: 0,
-            h: 0,
-        };
         Window {
-            queue,
-            damage,
-            at,
-            cursor,
+            queue: Queue::new(),
+            damage: Damage::none(),
+            at: Rect16::new(0, 0, 0, 0),
+            cursor: CursorPos::new(),
             used: false,
             marked: false,
         }
