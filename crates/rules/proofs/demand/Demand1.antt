@@ -12,13 +12,13 @@ use Rattle.geom.specs.Questions.{◌is◌, asked}
 use Rattle.geom.specs.Bare.{edges_fit, both_fit}
 use Rattle.geom.proofs.basics.Tests.{clash, fst, on_cond}
 use Rattle.geom.proofs.basics.Questions.{asked₁}
-use Rattle.busiest.specs.declared.Second.{Second}
+use Rattle.busiest.specs.Busiest.{Second}
 use Rattle.busiest.specs.Busiest as Rate
 use Rattle.busiest.specs.Busiest.{busiest}
 use Rattle.scanline.specs.Pixels.{part}
 use Rattle.winbuf.specs.declared.ScanlineRange as Range
 use Rattle.winbuf.specs.Pixels as Pixels
-use Rattle.geom.specs.declared.Listing.{Listing}
+use Rattle.geom.specs.Refusals.{Listing}
 use Rattle.sheet.specs.Sheet as Bands
 use Rattle.sheet.specs.Sheet.{rects}
 use Rattle.sheet.specs.Reader.{IsSheet, Reads, broken, short, whole}
