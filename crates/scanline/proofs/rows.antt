@@ -2,9 +2,7 @@
 pub mod Rows
 pub mod Paint
 pub mod Runs
-pub mod Fill
 pub mod Columns
-pub mod Move
 pub mod Written
 pub mod Altered
 pub mod Turns

@@ -5,6 +5,7 @@ use mathlib.Core.List.{List, [], ◌∷◌}
 use mathlib.Core.Logic.{◌⊎◌, inl, inr}
 use Prim.Native.Nat.{ℕ, zero, suc, ◌+◌, ◌-◌, ◌≤◌, ◌<◌}
 use native.Mathlib.Omega.{arith}
+use mir.Val.{bool_byte}
 use lib.Dec.{eqb}
 use lib.ListN.{length, drop, get_or, set}
 use lib.Seq.{sets, drop-drop, length-sets}
@@ -23,6 +24,14 @@ cond_one false = omega arith
 -- at most one
 pub differs_one : (x y : ℕ) → differs x y ≤ 1
 differs_one x y = cond_one (eqb x y)
+
+-- 1 where a pixel keeps its value
+pub keeps : (x y : ℕ) → bool_byte (eqb x y) ≡ 1 - differs x y
+keeps x y = go (eqb x y)
+  where
+    go : (b : Bool) → bool_byte b ≡ 1 - cond {A = ℕ} b 0 1
+    go true = refl
+    go false = refl
 
 -- nothing written, nothing altered
 pub altered_same : (s : List ℕ) → altered s s ≡ 0

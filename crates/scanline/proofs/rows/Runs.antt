@@ -7,7 +7,7 @@ use native.Mathlib.Omega.{arith}
 use native.Mathlib.Nat.{add-zero}
 use lib.ListN.{length, take, drop, set, length-take, length-drop, length-append, take-append-drop}
 use borrow.Rule.Slice.PartMut.{put_mid}
-use lib.Seq.{sets, take-take, take_all, take-add, drop-drop, drop-set-lt, set_comm, drop-set-add, take-set-le, take_at, sets-eq, drop-append-add}
+use lib.Seq.{sets, paste, take-take, take_all, take-add, drop-drop, drop-set-lt, set_comm, drop-set-add, take-set-le, take_at, sets-eq, drop-append-add}
 use Rattle.geom.proofs.basics.Tests.{lt_or_le}
 use Rattle.scanline.specs.Pixels.{part}
 use Rattle.scanline.proofs.rows.Paint.{length_part}
@@ -56,6 +56,14 @@ pub put_end : (l ys row : List ℕ) (a : ℕ) → ys ≡ row → length row ≡ 
 put_end l ys row a e k h =
     let m : length l - a ≡ a + (length l - a) - a = omega arith in
     ap (λ (j : ℕ). put_mid a j l ys) m ∙ put_is l ys row a (length l - a) e k (omega arith)
+
+-- and so does a copy within the list
+pub paste_is : (s : List ℕ) (dst src n : ℕ) → dst + n ≤ length s → src + n ≤ length s → paste s dst (drop src s) (src + n - src) ≡ sets s dst (part src n s)
+paste_is s dst src n h l =
+    let m : src + n - src ≡ n = omega arith in
+    let k : length (part src n s) ≡ n = full_part s src n l in
+    let j : dst + length (part src n s) ≤ length s = omega arith in
+    rw m (ap (λ (i : ℕ). take dst s ++ part src n s ++ drop (dst + i) s) (sym k) ∙ sym (sets-eq (part src n s) s dst j))
 
 -- two runs, the second right behind the first
 pub sets_append : (s : List ℕ) (at : ℕ) (xs ys : List ℕ) → sets (sets s at xs) (at + length xs) ys ≡ sets s at (xs ++ ys)

@@ -4,7 +4,7 @@ use Prim.Native.Nat.{◌+◌}
 use native.Mathlib.Omega.{arith}
 use native.Mathlib.Nat.{sub-zero, add-zero}
 use Rattle.scanline.proofs.rows.Columns.{fill_turn}
-use Rattle.scanline.proofs.rows.Altered.{along_none, along_kept}
+use Rattle.scanline.proofs.rows.Altered.{keeps, along_none, along_kept}
 use Rattle.scanline.proofs.row.fill_part.Goals as goal
 
 pub loop-i-init : goal.loop-i-init
@@ -14,9 +14,10 @@ pub loop-i-preserved : goal.loop-i-preserved
 loop-i-preserved c =
     let l = c.loop-i in
     let a = c.args in
+    let kept = c.from-kept.ensures ∙ keeps _ _ in
     let next : a.at + l.i + 1 ≡ a.at + (l.i + 1) = omega arith in (
       fill_turn l.px a.at a.n a.v l.i (omega arith) ∙ l.invariant.0,
-      rw (← next, c.keeps-kept.ensures) (along_kept l.invariant.1 l.invariant.2 a.v (omega arith)),
-      omega (arith, c.keeps-kept.ensures),
+      rw (← next, kept) (along_kept l.invariant.1 l.invariant.2 a.v (omega arith)),
+      omega (arith, kept),
       omega arith,
     )
