@@ -3,6 +3,7 @@ pub mod Rows
 pub mod Paint
 pub mod Runs
 pub mod Columns
+pub mod Move
 pub mod Written
 pub mod Altered
 pub mod Turns

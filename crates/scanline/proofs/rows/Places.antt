@@ -1,9 +1,5 @@
 -- Rows of an area of a picture: where they begin.
-use mathlib.Core.Path.{◌≡◌, ap, ◌∙◌}
-use mathlib.Core.List.{List}
-use Prim.Native.Nat.{ℕ, ◌+◌, ◌*◌, ◌≤◌, ◌<◌}
-use native.Mathlib.Omega.{arith}
-use native.Mathlib.Nat.{add-mul}
+use Rattle.std.proofs.Common.{◌≡◌, ap, ◌∙◌, List, ℕ, ◌+◌, ◌*◌, ◌≤◌, ◌<◌, arith, add-mul}
 use Rattle.scanline.specs.Pixels.{write_rows}
 use Rattle.scanline.specs.inner.Rows.{Fit, Inside}
 use Rattle.scanline.proofs.rows.Written.{rows_same, rows_at}

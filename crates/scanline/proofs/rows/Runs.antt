@@ -1,13 +1,9 @@
 -- A run of stores in a list, and a part of the list after one.
-use mathlib.Core.Path.{◌≡◌, refl, sym, ap, ◌∙◌}
-use mathlib.Core.List.{List, [], ◌∷◌, ◌++◌, append_assoc}
-use mathlib.Core.Logic.{◌⊎◌, inl, inr}
-use Prim.Native.Nat.{ℕ, suc, ◌+◌, ◌-◌, ◌≤◌, ◌<◌, min}
-use native.Mathlib.Omega.{arith}
-use native.Mathlib.Nat.{add-zero}
-use lib.ListN.{length, take, drop, set, length-take, length-drop, length-append, take-append-drop}
+use Rattle.std.proofs.Common.{◌≡◌, refl, sym, ap, ◌∙◌, List, [], ◌∷◌, ◌++◌, append_assoc, ◌⊎◌, inl, inr, ℕ, suc, ◌+◌, ◌-◌, ◌≤◌, ◌<◌, min, arith, add-zero, length, take, drop, set, replicate, length-take, length-drop, length-append, take-append-drop, take-take, take_all, take-add, drop-drop, drop-set-lt, take_at}
+use Rattle.std.proofs.lemmas.List.{length-replicate, set_comm, drop-set-add, take-set-le}
+use Rattle.std.proofs.lemmas.List.Edits.{sets, sets-eq}
 use borrow.Rule.Slice.PartMut.{put_mid}
-use lib.Seq.{sets, paste, take-take, take_all, take-add, drop-drop, drop-set-lt, set_comm, drop-set-add, take-set-le, take_at, sets-eq, drop-append-add}
+use lib.Seq.{drop-append-add}
 use Rattle.geom.proofs.basics.Tests.{lt_or_le}
 use Rattle.scanline.specs.Pixels.{part}
 use Rattle.scanline.proofs.rows.Paint.{length_part}
@@ -51,19 +47,22 @@ put_is l ys row a n e k h =
     let j : a + length row ≤ length l = omega arith in
     rw (m, e, drop-drop n a l, ← k) (sym (sets-eq row l a j ∙ append_assoc (take a l) row (drop (a + length row) l)))
 
+-- a part from a to b that was lent and became zeros
+pub cleared : (l ys : List ℕ) (a b n : ℕ) → a + n ≡ b → b ≤ length l → ys ≡ replicate (length (part a (b - a) l)) 0
+    → put_mid a (b - a) l ys ≡ sets l a (replicate n 0)
+cleared l ys a b n h k e =
+    let m : b - a ≡ a + n - a = omega arith in
+    let d : b - a ≡ n = omega arith in
+    ap (λ (j : ℕ). put_mid a j l ys) m
+    ∙ put_is l ys (replicate n 0) a n
+    (e ∙ ap (λ (j : ℕ). replicate (length (part a j l)) 0) d ∙ ap (λ (j : ℕ). replicate j 0) (full_part l a n (omega arith)))
+    (length-replicate n 0) (omega arith)
+
 -- the same of all that lies from a on
 pub put_end : (l ys row : List ℕ) (a : ℕ) → ys ≡ row → length row ≡ length l - a → a ≤ length l → put_mid a (length l - a) l ys ≡ sets l a row
 put_end l ys row a e k h =
     let m : length l - a ≡ a + (length l - a) - a = omega arith in
     ap (λ (j : ℕ). put_mid a j l ys) m ∙ put_is l ys row a (length l - a) e k (omega arith)
-
--- and so does a copy within the list
-pub paste_is : (s : List ℕ) (dst src n : ℕ) → dst + n ≤ length s → src + n ≤ length s → paste s dst (drop src s) (src + n - src) ≡ sets s dst (part src n s)
-paste_is s dst src n h l =
-    let m : src + n - src ≡ n = omega arith in
-    let k : length (part src n s) ≡ n = full_part s src n l in
-    let j : dst + length (part src n s) ≤ length s = omega arith in
-    rw m (ap (λ (i : ℕ). take dst s ++ part src n s ++ drop (dst + i) s) (sym k) ∙ sym (sets-eq (part src n s) s dst j))
 
 -- two runs, the second right behind the first
 pub sets_append : (s : List ℕ) (at : ℕ) (xs ys : List ℕ) → sets (sets s at xs) (at + length xs) ys ≡ sets s at (xs ++ ys)

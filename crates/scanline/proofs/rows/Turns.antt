@@ -1,11 +1,6 @@
 -- Loops over rows: one row more, and all rows.
-use mathlib.Core.Path.{◌≡◌, ap, ◌∙◌}
-use mathlib.Core.List.{List}
-use Prim.Native.Nat.{ℕ, ◌+◌, ◌*◌, ◌≤◌}
-use native.Mathlib.Omega.{arith}
-use native.Mathlib.Numerals.{add-one}
-use native.Mathlib.Nat.{suc-mul}
-use lib.Seq.{sets}
+use Rattle.std.proofs.Common.{◌≡◌, ap, ◌∙◌, List, ℕ, ◌+◌, ◌*◌, ◌≤◌, arith, add-one, suc-mul}
+use Rattle.std.proofs.lemmas.List.Edits.{sets}
 use Rattle.scanline.specs.Pixels.{write_rows}
 
 pub rows_more : (at : ℕ → ℕ) (row : ℕ → List ℕ) (s p q : List ℕ) (r : ℕ) → p ≡ write_rows r at row s → q ≡ sets p (at r) (row r)

@@ -1,19 +1,12 @@
 -- Rows at a new width, in place: one turn of `narrow` and of `widen`, and the end of a resize.
-use mathlib.Core.Path.{◌≡◌, refl, sym, ap, ◌∙◌}
-use mathlib.Core.List.{List, ◌++◌, append-nil}
-use Prim.Native.Nat.{ℕ, zero, suc, ◌+◌, ◌-◌, ◌*◌, ◌≤◌, ◌<◌, min, max}
-use native.Mathlib.Omega.{arith}
-use native.Mathlib.Numerals.{add-one}
-use lib.ListN.{length, take, drop, replicate, length-take, length-append, length-replicate}
-use lib.Seq.{sets}
+use Rattle.std.proofs.Common.{◌≡◌, refl, sym, ap, ◌∙◌, List, ◌++◌, append-nil, ℕ, zero, suc, ◌+◌, ◌-◌, ◌*◌, ◌≤◌, ◌<◌, min, max, arith, add-one, length, take, drop, replicate, length-take, length-append}
+use Rattle.std.proofs.lemmas.List.{length-replicate}
+use Rattle.std.proofs.lemmas.List.Edits.{sets}
 use Rattle.scanline.specs.Pixels.{write_rows, part}
 use Rattle.scanline.proofs.rows.Runs.{full_part, sets_append, sets_self, part_sets_after}
 use Rattle.scanline.proofs.rows.Written.{rows_none, rows_same, rows_self, rows_comm, drop_rows}
 use Rattle.scanline.proofs.rows.Rows.{row_end, row_le, rows_room}
 use Rattle.winbuf.proofs.rows.Flat.{finish}
-use Prim.Native.Nat.{ℕ, zero, suc, ◌+◌, ◌-◌, ◌*◌, ◌≤◌, ◌<◌, min}
-use lib.ListN.{length, take, drop, replicate, length-take, length-append, length-replicate}
-use lib.Seq.{sets}
 use Rattle.winbuf.specs.inner.Rows.{resized}
 
 -- Narrow -------------------------------------------------------------------------------------------------------------

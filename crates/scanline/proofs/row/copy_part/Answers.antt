@@ -1,6 +1,5 @@
 -- The part that was lent comes back as a run of stores.
-use native.Mathlib.Omega.{arith}
-use Rattle.std.proofs.Common.{◌∙◌}
+use Rattle.std.proofs.Common.{arith, ◌∙◌}
 use Rattle.scanline.proofs.rows.Runs.{full_part, part_is, put_is}
 use Rattle.scanline.proofs.row.copy_part.Goals as goal
 
