@@ -21,11 +21,11 @@ use Rattle.order.specs.inner.Order.{Marks, Places}
 use Rattle.order.proofs.laws.Order.{ids_snoc}
 
 -- one place more
-module _ (order : List WinId) (p : ℕ) (v : WinId) (n : length order ≡ 16) (l : p < 16) (read : v ≡ get_or order p no_id) (low : v.0 < 16) where
+module _ (order : List WinId) (p : ℕ) (v : WinId) (l : p < length order) (read : v ≡ get_or order p no_id) (low : v.0 < 16) where
   longer : (i : ℕ) → is_in i (ids (p + 1) order) ≡ is_in i (ids p order) || eqb v.0 i
   longer i =
       let e : ids (p + 1) order ≡ ids p order ++ (v.0 ∷ []) =
-      rw add-one (ids_snoc order p (omega (arith, n)) ∙ ap (λ (w : WinId). ids p order ++ (w.0 ∷ [])) (sym read)) in
+      rw add-one (ids_snoc order p l ∙ ap (λ (w : WinId). ids p order ++ (w.0 ∷ [])) (sym read)) in
       ap (is_in i) e ∙ is_in_append i (ids p order) (v.0 ∷ []) ∙ rw or-false refl
 
   other : (i : ℕ) → (i ≡ v.0 → ⊥) → is_in i (ids (p + 1) order) ≡ is_in i (ids p order)
