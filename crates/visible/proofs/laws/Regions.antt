@@ -1,8 +1,7 @@
 -- The visible list and the drawn regions, part by part.
-use Prim.Native.Nat.{ℕ}
-use mathlib.Core.Path.{◌≡◌, refl, ap, ◌∙◌}
-use mathlib.Core.List.{List, [], ◌∷◌, ◌++◌, map, map-append, append_assoc, append-nil}
-use lib.ListN.{length, length-map}
+use Rattle.std.proofs.Common.{ℕ, ◌≡◌, refl, ap, ◌∙◌, List, [], ◌∷◌, ◌++◌, map, append_assoc, append-nil, length}
+use mathlib.Core.List.{map-append}
+use lib.ListN.{length-map}
 use Rattle.geom.specs.declared.Rect.{Rect}
 use Rattle.geom.specs.Lists.{outside_all, relative, meets_of, list_intersect}
 use Rattle.rules.specs.Redraw.{draw_region}
