@@ -1,13 +1,19 @@
 -- Words with one letter more: what is no number, or no name, does not become one.
-use Prim.Native.Nat.{ℕ, suc, ◌+◌, ◌*◌, ◌-◌}
+use Prim.Native.Nat.{ℕ, suc, ◌+◌, ◌*◌, ◌-◌, ◌<◌}
 use mathlib.Core.Path.{◌≡◌, refl, sym, ap, ◌∙◌}
-use mathlib.Core.Bool.{Bool, true, false, cond, not, ◌&&◌}
+use mathlib.Core.Bool.{Bool, true, false, cond, not, ◌&&◌, ◌||◌}
 use mathlib.Core.List.{List, [], ◌∷◌, ◌++◌, foldl-append, append_assoc, append-nil}
 use mathlib.Core.Option.{Option, none, some}
+use mathlib.Core.Logic.{⊎_elim}
+use Rattle.std.specs.Prelude as Std
+use Rattle.std.specs.Option.{SomeIff}
+use Rattle.geom.specs.Refusals.{option_of}
+use Rattle.geom.proofs.basics.Tests.{fst, lt_or_le}
 use native.Mathlib.Omega.{arith}
 use lib.Dec.{leb, ltb, eqb, eqb-suc-zero}
 use lib.ListN.{length, length-append}
 use borrow.Author.Tests.{ltb-true, leb-false, le-leb, lt-leb}
+use Rattle.std.specs.Char.{is_ascii_alphanumeric, is_ascii_digit}
 use Rattle.script.specs.Script.{is_digit, all, value, number, name_byte, is_name}
 use Rattle.script.specs.Machine.{digit, may_follow}
 
@@ -18,6 +24,17 @@ and_assoc false b c = refl
 and_true : (t : Bool) → t && true ≡ t
 and_true true = refl
 and_true false = refl
+
+or_assoc : (a b c d : Bool) → ((a || b) || c) || d ≡ a || (b || (c || d))
+or_assoc true b c d = refl
+or_assoc false true c d = refl
+or_assoc false false true d = refl
+or_assoc false false false d = refl
+
+-- a letter or a digit, or one of three more
+pub name_byte_is : (b : ℕ) → name_byte b ≡ is_ascii_alphanumeric b || (eqb b 45 || (eqb b 95 || eqb b 46))
+unfolding name_byte
+name_byte_is b = or_assoc (is_ascii_alphanumeric b) (eqb b 45) (eqb b 95) (eqb b 46)
 
 pub and_false : (t : Bool) → t && false ≡ false
 and_false true = refl
@@ -71,3 +88,23 @@ no_name w [] e = ap is_name (append-nil w) ∙ e
 no_name w (b ∷ bs) e =
     ap is_name (sym (append_assoc w (b ∷ []) bs))
     ∙ no_name (w ++ (b ∷ [])) bs (name_snoc w b ∙ ap (λ (t : Bool). t && may_follow (length w) b) e)
+
+-- A digit as the code adds it ------------------------------------------------------------------------------------------
+
+pub no_digit : (n b : ℕ) → is_ascii_digit b ≡ false → digit (some n) b ≡ none
+unfolding digit
+no_digit n b e = rw e
+
+pub too_large : (n b : ℕ) → is_ascii_digit b ≡ true → 4294967295 < n * 10 + (b - 48) → digit (some n) b ≡ none
+unfolding digit
+too_large n b e h = rw (e, lt-leb (n * 10 + (b - 48)) 4294967295 h)
+
+pub added : (n b m : ℕ) (r : Std.Option ℕ) → is_ascii_digit b ≡ true → m ≡ n * 10 → SomeIff r (m + (b - 48) < 4294967296) (m + (b - 48))
+    → option_of r ≡ digit (some n) b
+unfolding digit
+added n b m Std.None d e q = sym (too_large n b d (⊎_elim (λ h. absurd (q (omega arith))) (λ h. omega arith) (lt_or_le (m + (b - 48)) 4294967296)))
+added n b m (Std.Some x) d e q = rw (d, le-leb (n * 10 + (b - 48)) 4294967295 (omega (arith, q.0))) (ap some (q.1 ∙ ap (λ (i : ℕ). i + (b - 48)) e))
+
+pub may_follow_low : (at b : ℕ) → may_follow at b ≡ true → at < 64
+unfolding may_follow
+may_follow_low at b e = ltb-true at 64 (fst (ltb at 64) _ e)
