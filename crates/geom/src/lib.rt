@@ -83,8 +83,8 @@ impl Rect {
     pub const FULL: Rect = Rect {
         pos: Pos { x: 0, y: 0 },
         dims: Dims {
-            w: 4294967295,
-            h: 4294967295,
+            w: u32::MAX,
+            h: u32::MAX,
         },
     };
 

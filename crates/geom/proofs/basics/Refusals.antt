@@ -1,6 +1,5 @@
 -- A refusal's number is never 0, so that the answer 0 tells that a call gave a value.
-use Rattle.std.proofs.Common.{◌<◌, ◌≡◌, refl, arith}
-use Rattle.std.specs.Prelude.{Result, Ok, Err}
+use Rattle.std.proofs.Common.{◌<◌, ◌≡◌, refl, arith, Result, Ok, Err}
 use Rattle.geom.specs.declared.refusal.Refusal.{Refusal}
 use Rattle.geom.specs.declared.refusal.Refusal.TheVariants.{StoreLength, Capacity, UnknownId, NoFreeId, TooLarge, WindowSize, Stride, ScreenSize, ListLength, NoEvent, NoWindow, QueueFull, OutsidePixels, EdgeTooLarge, DisplaySize, TooManyDisplays, Layer, NoSheet, SheetLength, NoWalk, KeyFire, Look, TargetSize, NotInView, Points, RunLength, TimesDescend, WhichCall}
 use Rattle.geom.specs.Refusals.{number, answer_of, value_or}

@@ -1,21 +1,17 @@
 -- Question 14: what a call gives where the rectangles pass it, and where they do not.
-use Rattle.std.proofs.Common.{ℕ, ◌≡◌, refl, sym, ap, ◌∙◌, arith}
-use Rattle.std.specs.Prelude.{Bool, true, false, cond, Result, Ok, Err, Some, None}
+use Rattle.std.proofs.Common.{ℕ, ◌≡◌, refl, sym, ap, ◌∙◌, arith, Bool, true, false, cond, Result, Ok, Err, Some, None}
 use Rattle.std.specs.Prelude as Std
 use Rattle.std.proofs.Math.Option.{Option, some, none, some-injective, none-ne-some, some-ne-none}
 use Rattle.geom.specs.declared.Pos.{Pos}
 use Rattle.geom.specs.declared.Rect.{Rect}
 use Rattle.geom.specs.declared.refusal.Refusal.{Refusal}
 use Rattle.geom.specs.Refusals.{number, answer_of}
-use Rattle.geom.specs.Geom.{contains, contains_rect, meets, common, intersect, union, pieces}
+use Rattle.geom.specs.Geom.{contains, contains_rect, meets, common, intersect, union}
 use Rattle.geom.specs.inner.Fits.{Fits}
-use Rattle.geom.specs.Bare.{Tested, United, NotIntersect, Holds, both_fit, no_pieces, bare_contains, bare_contains_rect, bare_union, Met, met, bare_intersect, BareNotIntersect}
+use Rattle.geom.specs.Bare.{Tested, United, both_fit, bare_contains, bare_contains_rect, bare_union, Met, met, bare_intersect}
 use Rattle.geom.proofs.basics.Tests.{says_and}
 use Rattle.geom.proofs.basics.Refusals.{number_positive}
 use Rattle.geom.proofs.geometry.Facts.{says_fits}
-
-pub both_fits : (a b : Rect) → both_fit a b ≡ true → Fits a × Fits b
-both_fits a b = (says_and (says_fits a) (says_fits b)).fact
 
 -- Two rectangles -----------------------------------------------------------------------------------------------------
 
@@ -30,12 +26,6 @@ module _ (a b : Rect) where
   pub met_apart : both_fit a b ≡ true → meets a b ≡ false → here 0 none ≡ bare_intersect a b
   unfolding intersect
   met_apart f m = rw (f, m)
-
-  pub pieces_yes : (r : NotIntersect) → both_fit a b ≡ true → r.answer ≡ 0 → Holds r.pieces (pieces a b) → BareNotIntersect a b r
-  pieces_yes r f n h = record { answer = rw f n; pieces = rw f h }
-
-  pub pieces_no : both_fit a b ≡ false → BareNotIntersect a b (record { answer = 14; pieces = no_pieces })
-  pieces_no f = record { answer = rw f refl; pieces = rw f (record { few = omega arith; count = refl; list = refl }) }
 
 -- What a caller learns whose rectangles fit ---------------------------------------------------------------------------
 
