@@ -1,15 +1,6 @@
 -- The end of a line: a call that the tables have is shaped as promised, and what the code tests is what `accepts` says.
-use Prim.Native.Nat.{ℕ, suc, ◌+◌, ◌≤◌, ◌<◌, min}
-use mathlib.Core.Path.{◌≡◌, refl, sym, ap, subst, ◌∙◌}
-use mathlib.Core.Bool.{Bool, true, false, cond, ◌&&◌}
-use mathlib.Core.List.{List, []}
-use mathlib.Core.Option.{Option, none, some}
-use native.Mathlib.Omega.{arith}
-use native.Mathlib.Numerals.{add-one}
-use lib.Dec.{leb, eqb}
-use lib.ListN.{length, take, get_or}
-use lib.Seq.{get_or-take, length-take-le, take_all, take-suc, take-take}
-use borrow.Author.Tests.{eqb-true, ne_eqb, leb-true, lt-ltb, le-ltb}
+use Rattle.std.proofs.Common.{ℕ, suc, ◌+◌, ◌≤◌, ◌<◌, min, ◌≡◌, refl, sym, ap, subst, ◌∙◌, Bool, true, false, cond, ◌&&◌, List, [], arith, add-one, leb, eqb, length, take, get_or, get_or-take, length-take-le, take_all, take-suc, take-take, eqb-true, ne_eqb, leb-true, lt-ltb, le-ltb}
+use Rattle.std.proofs.Math.Option.{Option, none, some}
 use Rattle.geom.proofs.basics.Tests.{fst, snd, clash}
 use Rattle.script.proofs.laws.Kinds.{Found, passing, take_min}
 use Rattle.script.proofs.laws.Bytes.{bytes_at}

@@ -1,14 +1,12 @@
 -- The rows of the tables: what the search has passed gives no kind, and a word of 17 letters has none.
-use Rattle.std.proofs.Common.{ℕ, suc, ◌+◌, ◌≤◌, ◌<◌, ◌≡◌, refl, sym, ap, ◌-◌, ◌∙◌, arith, min}
-use Rattle.std.specs.Prelude.{Bool, true, false, cond, ◌&&◌, List, [], ◌∷◌, length, take, drop, get_or, leb, eqb}
+use Rattle.std.proofs.Common.{ℕ, suc, ◌+◌, ◌≤◌, ◌<◌, ◌≡◌, refl, sym, ap, ◌-◌, ◌∙◌, arith, min, Bool, true, false, cond, ◌&&◌, List, [], ◌∷◌, length, take, drop, get_or, leb, eqb, add-one, eqb-true, eq-eqb, leb-true, leb-false, le-leb}
 use Rattle.std.proofs.Math.Option.{some}
 use Rattle.std.proofs.Math.Seq.{drop-cons}
 use Rattle.std.proofs.lemmas.List.{take_all}
-use native.Mathlib.Numerals.{add-one}
 use lib.Pointwise.{pointwise}
 use denote.Enum.Bare.{sameb, same_true}
 use denote.Enum.Declared.{tag_of}
-use borrow.Author.Tests.{eqb-true, leb-true, leb-false, le-leb, lt-leb}
+use Rattle.std.proofs.lemmas.Bool.{lt-leb}
 use Rattle.geom.proofs.basics.Tests.{fst, snd, clash, is_false, says_le}
 use Rattle.geom.proofs.basics.Tests as tests
 use Rattle.geom.proofs.basics.Tables.{every}
@@ -110,6 +108,10 @@ same_kinds k j = rw (tag_is k, tag_is j)
 -- a kind that is another has another number
 pub other_kind : (k j : AKind) → (k ≡ j → ⊥) → eqb (code_of k) (code_of j) ≡ false
 other_kind k j n = is_false (λ e. n (same_true the_type tt k j (same_kinds k j ∙ e)))
+
+-- a kind is told by its number
+pub code_one : (k j : AKind) → code_of k ≡ code_of j → k ≡ j
+code_one k j e = same_true the_type tt k j (same_kinds k j ∙ eq-eqb (code_of k) (code_of j) e)
 
 -- The search -----------------------------------------------------------------------------------------------------------
 

@@ -1,18 +1,13 @@
 -- Words with one letter more: what is no number, or no name, does not become one.
-use Prim.Native.Nat.{ℕ, suc, ◌+◌, ◌*◌, ◌-◌, ◌<◌}
-use mathlib.Core.Path.{◌≡◌, refl, sym, ap, ◌∙◌}
-use mathlib.Core.Bool.{Bool, true, false, cond, not, ◌&&◌, ◌||◌}
-use mathlib.Core.List.{List, [], ◌∷◌, ◌++◌, foldl-append, append_assoc, append-nil}
-use mathlib.Core.Option.{Option, none, some}
-use mathlib.Core.Logic.{⊎_elim}
+use Rattle.std.proofs.Common.{ℕ, suc, ◌+◌, ◌*◌, ◌-◌, ◌<◌, ◌≡◌, refl, sym, ap, ◌∙◌, Bool, true, false, cond, not, ◌&&◌, ◌||◌, List, [], ◌∷◌, ◌++◌, append_assoc, append-nil, ⊎_elim, arith, leb, ltb, eqb, length, length-append, ltb-true, leb-false, le-leb}
+use mathlib.Core.List.{foldl-append}
+use Rattle.std.proofs.Math.Option.{Option, none, some}
 use Rattle.std.specs.Prelude as Std
 use Rattle.std.specs.Option.{SomeIff}
 use Rattle.geom.specs.Refusals.{option_of}
 use Rattle.geom.proofs.basics.Tests.{fst, lt_or_le}
-use native.Mathlib.Omega.{arith}
-use lib.Dec.{leb, ltb, eqb, eqb-suc-zero}
-use lib.ListN.{length, length-append}
-use borrow.Author.Tests.{ltb-true, leb-false, le-leb, lt-leb}
+use Rattle.std.proofs.Math.Dec.{eqb-suc-zero}
+use Rattle.std.proofs.lemmas.Bool.{lt-leb}
 use Rattle.std.specs.Char.{is_ascii_alphanumeric, is_ascii_digit}
 use Rattle.script.specs.Script.{is_digit, all, value, number, name_byte, is_name}
 use Rattle.script.specs.Machine.{digit, may_follow}

@@ -1,16 +1,7 @@
 -- One byte: what the code does with the lists is what the machine does with what they hold.
-use Prim.Native.Nat.{ℕ, ◌+◌, ◌≤◌, ◌<◌}
-use mathlib.Core.Path.{◌≡◌, refl, sym, ◌∙◌}
-use mathlib.Core.Bool.{Bool, true, false, cond, ◌&&◌}
-use mathlib.Core.List.{List, []}
-use mathlib.Core.Option.{none, some}
-use native.Mathlib.Omega.{arith}
-use native.Mathlib.Numerals.{add-one}
-use lib.Dec.{leb, ltb, eqb}
-use lib.ListN.{length, take, get_or, set}
-use lib.Seq.{length-take-le, take_all, take-suc, take-suc-set, take-set-le, get_or-set_same}
-use borrow.Author.Tests.{ne_eqb, leb-true, leb-false, lt-ltb, le-ltb}
-use mathlib.Core.Logic.{⊎_elim}
+use Rattle.std.proofs.Common.{ℕ, ◌+◌, ◌≤◌, ◌<◌, ◌≡◌, refl, sym, ◌∙◌, Bool, true, false, cond, ◌&&◌, List, [], arith, add-one, leb, ltb, eqb, length, take, get_or, set, length-take-le, take_all, take-suc, take-suc-set, get_or-set_same, ne_eqb, leb-true, leb-false, lt-ltb, le-ltb, ⊎_elim}
+use Rattle.std.proofs.Math.Option.{none, some}
+use Rattle.std.proofs.Math.Seq.{take-set-le}
 use Rattle.geom.proofs.basics.Tests.{lt_or_le}
 use Rattle.script.specs.Kind as Kind
 use Rattle.script.specs.Script.{name_next}

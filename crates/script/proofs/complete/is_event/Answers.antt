@@ -1,5 +1,6 @@
 -- One number after the other.
-use borrow.Author.Tests.{le-leb, lt-leb}
+use Rattle.std.proofs.Common.{le-leb}
+use Rattle.std.proofs.lemmas.Bool.{lt-leb}
 use Rattle.script.specs.Script.{is_event}
 use Rattle.script.proofs.complete.is_event.Goals as goal
 

@@ -1,6 +1,6 @@
 -- One kind after the other.
-use Rattle.std.proofs.Common.{inl, inr}
-use borrow.Author.Tests.{le-leb, lt-leb}
+use Rattle.std.proofs.Common.{inl, inr, le-leb}
+use Rattle.std.proofs.lemmas.Bool.{lt-leb}
 use Rattle.script.specs.declared.kind.Kind.TheVariants.{MouseDown, MouseUp, MouseClick, Redraw, Begin, Dim, SetScanline, ReadSheet, Who}
 use Rattle.script.specs.Script.{ranged}
 use Rattle.script.proofs.laws.Kinds.{other_kind}

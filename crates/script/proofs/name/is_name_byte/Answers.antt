@@ -1,5 +1,5 @@
 -- One test after the other.
-use borrow.Author.Tests.{eq-eqb, ne_eqb}
+use Rattle.std.proofs.Common.{eq-eqb, ne_eqb}
 use Rattle.script.proofs.laws.Letters.{name_byte_is}
 use Rattle.script.proofs.name.is_name_byte.Goals as goal
 

@@ -1,6 +1,5 @@
 -- No name begins with `.`
-use borrow.Author.Tests.{ne_eqb, lt-ltb, le-ltb}
-use Rattle.std.proofs.Common.{inl, inr}
+use Rattle.std.proofs.Common.{ne_eqb, lt-ltb, le-ltb, inl, inr}
 use Rattle.script.specs.Machine.{may_follow}
 use Rattle.script.proofs.name.may_follow.Goals as goal
 

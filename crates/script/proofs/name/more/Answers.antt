@@ -1,7 +1,6 @@
 -- The byte is taken, or the line is malformed.
-use Rattle.std.proofs.Common.{sym, ◌∙◌, arith}
+use Rattle.std.proofs.Common.{sym, ◌∙◌, arith, take}
 use Rattle.script.specs.Kind.{code_of}
-use Rattle.std.specs.Prelude.{take}
 use Rattle.script.proofs.laws.Letters.{may_follow_low}
 use Rattle.script.proofs.laws.Steps.{name_no, name_longer}
 use Rattle.script.proofs.name.more.Goals as goal

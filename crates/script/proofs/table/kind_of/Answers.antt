@@ -1,6 +1,5 @@
 -- The rows that are held are those of the tables.
-use Rattle.std.proofs.Common.{ap, ◌∙◌}
-use Rattle.std.specs.Prelude.{take}
+use Rattle.std.proofs.Common.{ap, ◌∙◌, take}
 use Rattle.script.specs.Script.{kind_of, kind_in, table}
 use Rattle.script.proofs.laws.Kinds.{take_min}
 use Rattle.script.proofs.table.kind_of.Goals as goal
