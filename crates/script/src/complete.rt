@@ -13,12 +13,7 @@ use crate::{Line, Reading, table};
 fn are_bytes(numbers: &[u32]) -> bool
     ensures { result ≡ all is_byte numbers.now }
 {
-    for n in numbers {
-        if *n > 255 {
-            return false;
-        }
-    }
-    true
+    numbers.iter().all(|n| *n <= 255)
 }
 
 // Of `who KIND A B C D`: is there such a kind, and are button and count a byte's?
