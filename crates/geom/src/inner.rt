@@ -1,4 +1,5 @@
-// The same without question 14, for our own crates: their coordinates are known to fit (`Fits`).
+// The same without question 14, for our own crates: their coordinates are known to fit (`Fits`). That is no invariant of `Rect`, which is a struct
+// of the C interface and may hold any numbers.
 ghost use Rattle.std.specs.Prelude.{◌≡◌, true, false, ◌≤◌, min, max};
 ghost use Rattle.geom.specs.Geom as rule;
 ghost use Rattle.geom.specs.Nearest.{nearest_x, nearest_y, apart, distance²};

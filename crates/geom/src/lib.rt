@@ -42,7 +42,7 @@ pub struct Listing {
     pub count: usize,
 }
 
-// Up to four rectangles; the places from `count` on hold (0,0,0,0).
+// Up to four rectangles; the places from `count` on hold (0,0,0,0). No list grows here: the C interface has this struct.
 #[repr(C)]
 #[derive(Clone, Copy)]
 pub struct Pieces {
