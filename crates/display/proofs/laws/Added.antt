@@ -18,8 +18,7 @@ use Rattle.geom.proofs.basics.Lists.{set_in}
 use Rattle.geom.proofs.geometry.Facts.{solid}
 use Rattle.rules.specs.Displays.{on_screen, room_for}
 use Rattle.display.specs.declared.Displays.{Displays}
-use Rattle.display.specs.declared.Added.{Added}
-use Rattle.display.specs.Represents.{regions, OnScreen, RepDisplays, Adds}
+use Rattle.display.specs.Represents.{Added, regions, OnScreen, RepDisplays, Adds}
 use Rattle.display.proofs.laws.Regions.{count, screen_solid}
 
 -- question 15
