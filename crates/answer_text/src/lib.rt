@@ -1,7 +1,7 @@
 // Answers: text that waits in a block of 64 KB, and is handed to standard output when the block is full or a caller says so.
 #![tactic(auto)]
 
-ghost use Rattle.std.specs.Prelude.{◌≡◌, ℕ, [], ◌∷◌, ◌++◌, ◌+◌, ◌≤◌, length, map};
+ghost use Rattle.std.specs.Prelude.{◌≡◌, ℕ, [], ◌∷◌, ◌++◌, ◌+◌, ◌≤◌, length, cond, map};
 ghost use Rattle.arrayvec.specs.ArrayVec.{array_vec_len};
 ghost use Rattle.geom.specs.Refusals.{answer_of};
 ghost use Rattle.answer_text.specs.Text as Text;
@@ -21,6 +21,15 @@ pub trait Number: Copy {
 
     fn wide(self) -> u64
         ensures { result ≡ value self };
+}
+
+// 0 or 1.
+impl Number for bool {
+    ghost value = { λ b. cond b 1 0 };
+
+    fn wide(self) -> u64 {
+        u64::from(self)
+    }
 }
 
 impl Number for u8 {
@@ -95,8 +104,8 @@ impl Output {
         self.block.clear();
     }
 
-    // Room for one more number, its sign and a space.
-    fn make_room(&mut self)
+    // Room for one more number, its sign and a space. Nothing is added.
+    pub fn make_room(&mut self)
         ensures { Says [] self.old self.new × (length self.new.bytes + 32 ≤ 65536) }
     {
         if self.block.remaining_capacity() < 32 {

@@ -1,3 +1,4 @@
 -- Lines by their answers, and parts of the numbers of a line.
 pub mod Lines
 pub mod Parts
+pub mod Kinds

@@ -79,3 +79,7 @@ flushes w b h =
       count = refl;
       room = omega arith;
     }
+
+-- the same text of what is equal
+pub told : {A : Type 0} (text : A → List Piece) {x y : A} {w r : Waiting} {b c : List ℕ} → x ≡ y → Adds (text x) w b r c → Adds (text y) w b r c
+told text {w = w} {r} {b} {c} e p = subst (λ (z : _). Adds (text z) w b r c) e p
