@@ -1,4 +1,3 @@
 -- Lines by their answers, and parts of the numbers of a line.
 pub mod Lines
 pub mod Parts
-pub mod Kinds

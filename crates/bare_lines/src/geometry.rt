@@ -10,8 +10,8 @@ ghost use Rattle.bare_lines.specs.Told.{rectangle_or, met_line, united_line, pie
 use crate::numbers;
 use crate::numbers::Numbers;
 use answer_text::Output;
-use geom::{Pieces, Rect};
 use geom::refusal::Refusal;
+use geom::{Pieces, Rect};
 use script::kind::Kind;
 
 pub fn rect_line(k: Kind, ns: &Numbers, out: &mut Output)

@@ -1,6 +1,6 @@
 -- The answer 0, the count, the rectangles and the end, one behind the other.
-use Rattle.std.proofs.Common.{◌≡◌, sym, ap, ◌∙◌, ◌∷◌, length}
-use Rattle.geom.specs.Bare.{bare_pieces, answer14, both_fit}
+use Rattle.std.proofs.Common.{ap, ◌∙◌, ◌∷◌}
+use Rattle.geom.specs.Bare.{bare_pieces}
 use Rattle.answer_text.specs.Text.{line, number, rectangles}
 use Rattle.bare_lines.specs.Told.{pieces_line}
 use Rattle.answer_text.proofs.laws.Added.{then, told}

@@ -10,7 +10,7 @@ use Rattle.script.specs.Kind.{code_of}
 use Rattle.bare_lines.specs.Numbers.{num, rect_at}
 use Rattle.bare_lines.specs.Told.{met_line, united_line, pieces_line, tested_line, rect_line}
 use Rattle.answer_text.proofs.laws.Added.{told}
-use Rattle.bare_lines.proofs.laws.Kinds.{code_other}
+use Rattle.script.proofs.laws.Kinds.{other_kind}
 use Rattle.bare_lines.proofs.geometry.rect_line.Goals as goal
 
 module _ (ns : List ℕ) {k : ℕ} {a b : Rect} (e : a ≡ rect_at ns 0) (f : b ≡ rect_at ns 4) where
@@ -43,7 +43,7 @@ module _ (ns : List ℕ) (k : AKind) {a : Rect} (e : a ≡ rect_at ns 0) where
   unfolding rect_line
   within_arm m p u o i q =
       ap tested_line q
-      ∙ rw (code_other k kind.Intersect m, code_other k kind.Pieces p, code_other k kind.Union u, code_other k kind.Contains o, code_other k kind.ContainsRect i, e)
+      ∙ rw (other_kind k kind.Intersect m, other_kind k kind.Pieces p, other_kind k kind.Union u, other_kind k kind.Contains o, other_kind k kind.ContainsRect i, e)
 
 -- The needs -----------------------------------------------------------------------------------------------------------
 

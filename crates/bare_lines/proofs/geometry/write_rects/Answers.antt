@@ -1,5 +1,4 @@
 -- The rectangles up to this one were added.
-use Rattle.std.proofs.Common.{◌∙◌, ap}
 use Rattle.std.proofs.lemmas.List.{take_all}
 use Rattle.answer_text.specs.Text.{rectangles}
 use Rattle.answer_text.proofs.laws.Added.{then, told}

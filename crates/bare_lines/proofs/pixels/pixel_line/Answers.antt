@@ -1,12 +1,11 @@
 -- The kind chooses the arm.
-use Rattle.std.proofs.Common.{ℕ, ◌≡◌, ap, ◌∙◌, sym, rules, arith, List}
+use Rattle.std.proofs.Common.{ℕ, ◌≡◌, ◌∙◌, rules, List}
 use Rattle.script.specs.declared.kind.Kind.{Kind as AKind}
 use Rattle.script.specs.declared.kind.Kind.TheVariants as kind
-use Rattle.script.specs.Kind as Kind
 use Rattle.script.specs.Kind.{code_of}
 use Rattle.bare_lines.specs.Told.{pixel_line, scanline_line, fill_line, set_line, region_line}
 use Rattle.answer_text.proofs.laws.Added.{told}
-use Rattle.bare_lines.proofs.laws.Kinds.{code_other}
+use Rattle.script.proofs.laws.Kinds.{other_kind}
 use Rattle.bare_lines.proofs.laws.Parts.{scanline_front, fill_front, set_front, region_front}
 use Rattle.bare_lines.proofs.pixels.pixel_line.Goals as goal
 
@@ -26,7 +25,7 @@ module _ (n : ℕ) (ns : List ℕ) {k : AKind} where
 
   is_region : (k ≡ kind.Scanline → ⊥) → (k ≡ kind.FillScanline → ⊥) → (k ≡ kind.SetScanline → ⊥) → region_line n ns ≡ pixel_line (code_of k) n ns
   unfolding pixel_line
-  is_region f g h = rw (code_other k kind.Scanline f, code_other k kind.FillScanline g, code_other k kind.SetScanline h)
+  is_region f g h = rw (other_kind k kind.Scanline f, other_kind k kind.FillScanline g, other_kind k kind.SetScanline h)
 
 pub returns-in-Scanline : goal.returns-in-Scanline
 returns-in-Scanline c =
