@@ -11,11 +11,7 @@ fn fits_both(f: u64, s: Sizes) -> bool
     requires { (f ≤ 16) × Countable s }
     ensures { result ≡ fits_both f s }
 {
-    if f * s.w <= s.tw * 4 {
-        f * s.h <= s.th * 4
-    } else {
-        false
-    }
+    f * s.w <= s.tw * 4 && f * s.h <= s.th * 4
 }
 
 // The factor of fit, in quarters.
