@@ -24,7 +24,7 @@ fn has_row(r: Rect, y: u32) -> bool
     requires { Fits r }
     ensures { result ≡ contains r (geom.left r) y }
 {
-    r.contains(Pos::new(r.pos.x, y)) == Ok(true)
+    r.contains(Pos::new(r.pos.x, y)).unwrap_or(false)
 }
 
 // Writes the intervals of row y that are seen, from place e of the numbers on; returns how many. The columns before x are done. Those
