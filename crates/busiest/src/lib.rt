@@ -13,8 +13,9 @@ pub struct Second {
     pub place: usize,
 }
 
-// The events from `first` up to `next` are within a second of the first of them. Each turn takes the next event in, or lets the first go because
-// the next comes too late for it. It is a `while`, since a turn moves one of two places: a `for` would have a second loop inside.
+// The events from `first` up to `next` are within a second of the first of them. Each turn takes the next event in, or
+// lets the first go because the next comes too late for it. It is a `while`, since a turn moves one of two places: a
+// `for` would have a second loop inside.
 pub fn busiest(times: &[u32]) -> Result<Second, Refusal>
     ensures { second_of result ≡ busiest times.now }
 {

@@ -20,7 +20,8 @@ use geom::{Pos, Rect, inner};
 
 pub mod update;
 
-// The first `len` areas, an array and its length in C's memory.
+// The first `len` areas. It is an array with its length beside it, and `RepDisplays` a clause and no invariant, since C
+// owns the session that holds it.
 #[repr(C)]
 #[derive(Clone, Copy)]
 pub struct Displays {

@@ -1,4 +1,5 @@
-// Where windows go: the display that a maximised window takes, and where `update_dims` puts each of sixteen windows. Translated from windows/mod.rs.
+// Where windows go: the display that a maximised window takes, and where `update_dims` puts each of sixteen windows.
+// Translated from windows/mod.rs.
 ghost use Rattle.std.specs.Prelude.{◌≡◌, ℕ, ◌<◌, length};
 ghost use Rattle.geom.specs.Displays.{answered};
 ghost use Rattle.geom.specs.Rect16.{Small, rect_of};
@@ -98,7 +99,8 @@ impl Displays {
         kept_at(found, at)
     }
 
-    // Where it puts sixteen windows by their numbers, each by itself: those that are in use and maximised take a display.
+    // Where it puts sixteen windows by their numbers, each by itself: those that are in use and maximised take a
+    // display.
     pub fn moves(
         &self,
         areas: &[Rect16; 16],

@@ -6,9 +6,9 @@ ghost use Rattle.due.specs.inner.Due.{no_walk, settled, owing, begun, further};
 
 use window::ids::Place;
 
-// A redraw that goes through the places of the render order, lowest first: whether one was begun and is neither over nor dropped, the place of
-// its next window, and whether it is full. What the other two hold where none is on is not looked at. It is no Option, since a session holds it
-// in C's memory.
+// A redraw that goes through the places of the render order, lowest first: whether one was begun and is neither over
+// nor dropped, the place of its next window, and whether it is full. What the other two hold where none is on is not
+// looked at. It is no Option, since a session holds it in C's memory.
 #[repr(C)]
 #[derive(Clone, Copy)]
 pub struct Walk {

@@ -3,6 +3,7 @@ ghost use Rattle.order.specs.inner.Frames.{FirstFreeIn};
 
 use geom::inner::rect16::Rect16;
 
+// Two arrays and no array of pairs: the areas alone are lent to the searches for a window.
 #[derive(Clone, Copy)]
 pub struct Frames {
     pub areas: [Rect16; 16],

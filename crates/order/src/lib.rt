@@ -1,5 +1,6 @@
-// The render order: windows by their numbers, lowest first, in the first places of an array of sixteen. A function that only reads it is lent
-// the windows that are shown; one that changes it gets the array, and how many are shown.
+// The render order: windows by their numbers, lowest first, in the first places of an array of sixteen. A function that
+// only reads it is lent the windows that are shown; one that changes it gets the array and how many are shown, which
+// are two fields of a session in C's memory.
 //
 // The functions here are called by our own crates. Each `requires` is part of what a session keeps of its order.
 #![tactic(auto)]
@@ -43,7 +44,8 @@ pub fn close_gap(order: &mut [WinId; 16], shown: usize, p: Place)
     order.copy_within(p.0 + 1..shown, p.0);
 }
 
-// Who has the focus once window `id` left its place p, of those `left`: if it was focussed, the next lower, or the lowest, or 0.
+// Who has the focus once window `id` left its place p, of those `left`: if it was focussed, the next lower, or the
+// lowest, or 0.
 pub fn focus_after(focus: WinId, id: WinId, left: &[WinId], p: Place) -> WinId
     requires { p.0 ≤ length left.now }
     ensures { result.0 ≡ cond (eqb focus.0 id.0) (get_or (nums left.now) (p.0 - 1) 0) focus.0 }

@@ -11,7 +11,8 @@ use crate::has;
 use geom::inner::rect16::Rect16;
 use window::ids::WinId;
 
-// The three numbers of point i.
+// The three numbers of point i. A point is written by its number: of the parts that `chunks_mut` lends nothing is known
+// to a proof once they were written.
 fn write_hit(answers: &mut [u32], i: usize, id: u32, x: u32, y: u32)
     requires { 3 * i + 3 ≤ length answers.old }
     ensures { answers.new ≡ sets answers.old (3 * i) (id ∷ x ∷ y ∷ []) }

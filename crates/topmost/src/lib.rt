@@ -24,6 +24,7 @@ fn has(area: Rect16, x: u32, y: u32) -> bool
 }
 
 // The order is searched from its top down, as far as the first area that contains the point.
+// The areas and the windows shown stay two arguments: a struct of both would be made for one call and taken apart in it.
 pub fn topmost(areas: &[Rect16; 16], shown: &[WinId], x: u32, y: u32) -> Option<WinId>
     requires { Shown areas.now shown.now (length shown.now) }
     ensures { hit_of result ≡ topmost_at (frame_at areas.now) x y (nums shown.now) none }

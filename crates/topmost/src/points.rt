@@ -11,7 +11,8 @@ pub fn all_small(numbers: &[u32]) -> bool
     numbers.iter().all(|n| *n <= MOST)
 }
 
-// Question 25: of so many numbers, at most 32 points and no x without its y, and three numbers a point in an answer list of so many.
+// Question 25: of so many numbers, at most 32 points and no x without its y, and three numbers a point in an answer
+// list of so many.
 pub fn fit(given: usize, lent: usize) -> bool
     ensures { result ≡ fit given lent }
 {

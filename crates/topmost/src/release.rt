@@ -12,7 +12,8 @@ use geom::inner::is_empty;
 use geom::inner::rect16::Rect16;
 use window::ids::WinId;
 
-// Who is remembered where no window is: an id that no window has. It is no Option, since a session holds it in C's memory.
+// Who is remembered where no window is: an id that no window has. It is no Option, since a session holds it in C's
+// memory.
 pub const NOBODY: WinId = WinId(16);
 
 // Who is remembered once a window is hidden: any other window stays.

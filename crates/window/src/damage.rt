@@ -9,7 +9,9 @@ ghost use Rattle.window.specs.inner.Changes.{MergesAt, JoinedTo, Dirtied};
 use geom::inner::rect16::Rect16;
 use geom::{Rect, inner};
 
-// The dirty entries: the first `len` areas, an array and its length in C's memory. The right and bottom sides of a merged one are at most 65,534.
+// The dirty entries: the first `len` areas. The right and bottom sides of a merged one are at most 65,534.
+// It is an array with its length beside it, and `RepDamage` a clause and no invariant, since C owns the session that
+// holds it. `Small` stays a clause too: a type for small areas would be turned into a Rect for each function of geom.
 #[repr(C)]
 #[derive(Clone, Copy)]
 pub struct Damage {

@@ -6,7 +6,8 @@ ghost use Rattle.window.specs.inner.Changes.{Queued, PushedTo, PoppedFrom};
 use crate::Event;
 use crate::slots::{Slot, slot_of};
 
-// The events that wait, oldest first: the `len` slots from `head` on, round the end. Both are bytes in C's memory.
+// The events that wait, oldest first: the `len` slots from `head` on, round the end. C owns the session that holds it,
+// so it is an array with two numbers.
 #[repr(C)]
 #[derive(Clone, Copy)]
 pub struct Queue {

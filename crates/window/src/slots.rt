@@ -5,7 +5,8 @@ ghost use Rattle.window.specs.inner.Changes.{Queued, slot, slot_of};
 
 use crate::Event;
 
-// The kinds of events that are queued, as the byte of a slot says them; every other number is a Resize.
+// The kinds of events that are queued, as the byte of a slot says them; every other number is a Resize. They are no
+// enum: it would need these numbers once more, in a match that reads a byte back.
 const RESIZE: u8 = 0;
 
 const KEY_DOWN: u8 = 1;
@@ -20,8 +21,8 @@ const MOUSE_CLICK: u8 = 5;
 
 const MOUSE_UP: u8 = 6;
 
-// An event as plain numbers. C owns the session that holds the queue, and no byte that C may write is a wrong value of these: so a slot holds no
-// enum, and its kind is a number.
+// An event as plain numbers. C owns the session that holds the queue, and no byte that C may write is a wrong value of
+// these: so a slot holds no enum, and its kind is a number.
 #[repr(C)]
 #[derive(Clone, Copy)]
 pub struct Slot {
@@ -61,8 +62,8 @@ fn press(kind: u8, x: u32, y: u32, button: u8, count: u8) -> Slot
     }
 }
 
-// This is no `From`, which takes every event: a slot has no room for a point beyond 32,767. A move and a KeyFire are never queued, so their slots
-// are never read.
+// This is no `From`, which takes every event: a slot has no room for a point beyond 32,767. A move and a KeyFire are
+// never queued, so their slots are never read.
 #[tactic(auto, unfolding(crate::specs::inner::Changes::slot_of))]
 pub fn slot_of(e: Event) -> Slot
     requires { Queued e }

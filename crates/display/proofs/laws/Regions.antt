@@ -1,6 +1,6 @@
 -- The displays in their array: how many there are, and each at its place.
 use Rattle.std.proofs.Common.{ℕ, suc, ◌<◌, ◌≡◌, ap, ◌∙◌, false, List, [], ◌∷◌, length, take, get_or, arith, length-take-le, get_or-take}
-use lib.ListN.{length-map, get_or-map}
+use Rattle.std.proofs.Math.ListN.{length-map, get_or-map}
 use Rattle.geom.specs.declared.Rect.{Rect}
 use Rattle.geom.specs.Geom.{is_empty}
 use Rattle.geom.specs.inner.Fits.{Fits}

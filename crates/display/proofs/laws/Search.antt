@@ -1,8 +1,8 @@
 -- The two searches: of the displays that are left the first says what the rule says of them all, the second of those passed.
 use Rattle.std.proofs.Common.{ℕ, ◌+◌, ◌≤◌, ◌<◌, ◌≡◌, refl, sym, ap, ◌∙◌, true, false, cond, ltb, List, [], ◌∷◌, ◌++◌, map, length, get_or, take, drop, arith, add-one, lt-ltb, le-ltb, mul-le-mul, take-suc, take_all}
+use Rattle.std.proofs.lemmas.List.{map-append}
 use Rattle.std.proofs.Math.Option.{none, some}
 use Rattle.std.proofs.lemmas.List.{at_drop_more, at_drop_all}
-use mathlib.Core.List.{map-append}
 use Rattle.geom.specs.declared.Rect.{Rect}
 use Rattle.geom.specs.declared.inner.rect16.Rect16.{Rect16}
 use Rattle.geom.specs.Geom.{contains}

@@ -1,7 +1,7 @@
 -- Sixteen windows, one after the other: of those passed it is known where they go; of those that are left the rule says what it says of all.
-use Rattle.std.proofs.Common.{ℕ, suc, ◌+◌, ◌*◌, ◌≤◌, ◌<◌, ◌≡◌, refl, sym, ap, subst, ◌∙◌, Bool, true, false, not, ◌&&◌, ◌||◌, List, [], ◌∷◌, map, length, drop, get_or, set, arith, add-one, add-zero, zero-add, mul-le-mul_right, length-set, drop-cons}
-use lib.ListN.{get_or-map}
-use lib.Seq.{drop-length}
+use Rattle.std.proofs.Common.{ℕ, suc, ◌+◌, ◌*◌, ◌≤◌, ◌<◌, ◌≡◌, refl, sym, ap, ◌∙◌, Bool, true, false, not, ◌&&◌, ◌||◌, List, [], ◌∷◌, map, length, drop, get_or, set, arith, add-one, add-zero, zero-add, mul-le-mul_right, length-set, drop-cons}
+use Rattle.std.proofs.Math.ListN.{get_or-map}
+use Rattle.std.proofs.Math.Seq.{drop-length}
 use Rattle.geom.specs.declared.Rect.{Rect}
 use Rattle.geom.specs.declared.inner.rect16.Rect16.{Rect16}
 use Rattle.geom.specs.Rect16.{Small, rect_of, no_rect16}
@@ -19,10 +19,6 @@ abbrev moves : List Rect16 → List Bool → Moves
 moves to flags = record { areas = to; resizes = flags }
 
 module _ {ds : List Rect} {areas : List Rect16} {used maximised : List Bool} where
-  pub moves_none : (to : List Rect16) (flags : List Bool) → length to ≡ 16 → length flags ≡ 16 → MovesTo ds areas used maximised 0 (moves to flags)
-  moves_none to flags n k =
-      record { all = n; flags = k; resized = λ i l. absurd (omega (arith, l)); at = λ i l. absurd (omega (arith, l)); small = λ i l. absurd (omega (arith, l)) }
-
   -- one window more
   pub moves_more : {to : List Rect16} {flags : List Bool} {n : ℕ} → MovesTo ds areas used maximised n (moves to flags) → n < 16 → (a : Rect16) (b : Bool)
       → b ≡ get_or used n false && get_or maximised n false → (rect_of a ≡ updated_at ds b (place areas n)) × Small (rect_of a)
@@ -40,12 +36,6 @@ module _ {ds : List Rect} {areas : List Rect16} {used maximised : List Bool} whe
     where
       flag_at : (i : ℕ) (P : Bool → Type 0) → (i ≡ n → P b) → ((i ≡ n → ⊥) → P (get_or flags i false)) → P (get_or (set flags n b) i false)
       flag_at i P = set_in P flags n i b false (λ _. omega (arith, q.flags))
-
-  -- all sixteen
-  pub moves_all : {m : Moves} {n : ℕ} → n ≤ 16 → 16 ≤ n → MovesTo ds areas used maximised n m → MovesTo ds areas used maximised 16 m
-  moves_all {m} {n} l h q =
-      let e : n ≡ 16 = omega arith in
-      subst (λ (k : ℕ). MovesTo ds areas used maximised k m) e q
 
 none_left : (l : List Rect16) (i : ℕ) → i ≡ length l → drop i l ≡ []
 none_left l i e = rw e (drop-length l)
@@ -88,9 +78,6 @@ pub record Resizing (c : ℕ) (old : List Rect16) (m : Moves) (s t : List ℕ) (
   pub within : i ≤ 16
   pub same : length t ≡ length s
   pub so_far : all_resized c old m.resizes 0 m.areas s ≡ all_resized c old m.resizes i (drop i m.areas) t
-
-pub resizing : (c : ℕ) (old : List Rect16) (m : Moves) (s : List ℕ) → length m.areas ≡ 16 → Resizing c old m s s 0
-resizing c old m s n = record { size = n; within = omega arith; same = refl; so_far = refl }
 
 module _ {c : ℕ} {old : List Rect16} {m : Moves} {s t : List ℕ} {i : ℕ} (q : Resizing c old m s t i) where
   module _ (l : i < 16) where

@@ -1,7 +1,7 @@
 -- The two lists that are lent: the dirty entries of a window, and the rectangles of the windows from a place on.
 use Rattle.std.proofs.Common.{ℕ, ◌≡◌, refl, sym, ap, ◌∙◌, Bool, ◌||◌, eqb, List, [], ◌∷◌, map, length, take, drop, arith, length-take-le}
-use lib.Dec.{eqb-suc-zero}
-use lib.ListN.{length-map}
+use Rattle.std.proofs.Math.Dec.{eqb-suc-zero}
+use Rattle.std.proofs.Math.ListN.{length-map}
 use Rattle.geom.specs.declared.Rect.{Rect}
 use Rattle.geom.specs.declared.inner.rect16.Rect16.{Rect16}
 use Rattle.geom.specs.Rect16.{rect_of}

@@ -1,14 +1,14 @@
 -- The render order in its array: the search for a window's place, and the gap that a hidden window leaves.
 use Rattle.std.specs.Prelude as Std
 use Rattle.std.proofs.Common.{ℕ, zero, suc, ◌+◌, ◌-◌, ◌≤◌, ◌<◌, ◌≡◌, refl, sym, ap, ◌∙◌, Bool, true, false, cond, Some, None, List, [], ◌∷◌, ◌++◌, map, eqb, ltb, ltb-true, ltb-false, length, get_or, take, drop, option_map, arith, add-one, length-drop, drop_of_length-le, drop-cons, get_or-take, length-take-le, take-take, take-suc, take_all, ⊎_elim, not-suc-le-zero}
+use Rattle.std.proofs.lemmas.List.{map-append}
+use Rattle.std.proofs.Math.ListN.{length-map, get_or-map}
 use Rattle.std.proofs.Math.Option.{none, some}
 use Rattle.std.proofs.Math.Seq.{paste}
 use Rattle.std.specs.List.{position_or_len}
 use Rattle.std.proofs.lemmas.List.Edits.{length-paste, take-paste}
 use Rattle.std.proofs.lemmas.List.{drop-take}
 use Rattle.std.proofs.lemmas.List.Recursion.{is_position_or_len}
-use mathlib.Core.List.{map-append}
-use lib.ListN.{length-map, get_or-map}
 use Rattle.geom.specs.declared.inner.rect16.Rect16.{Rect16}
 use Rattle.geom.proofs.basics.Tests.{clash, lt_or_le, or_right}
 use Rattle.window.specs.declared.ids.WinId.{WinId}
@@ -33,10 +33,6 @@ ids_snoc order m h = ap (map num) (take-suc order m no_id h) ∙ map-append num 
 
 pub ids_at : (n i : ℕ) (l : List WinId) → i < n → get_or (ids n l) i 0 ≡ (get_or l i no_id).0
 ids_at n i l h = get_or-map num (take n l) i no_id ∙ ap num (get_or-take n l i no_id h)
-
-pub ids_from : (order : List WinId) (n i : ℕ) → n ≤ length order → i < n → drop i (ids n order) ≡ (get_or order i no_id).0 ∷ drop (suc i) (ids n order)
-ids_from order n i k h =
-    drop-cons (ids n order) i 0 (omega (arith, ids_length n order k)) ∙ ap (λ (e : ℕ). e ∷ drop (suc i) (ids n order)) (ids_at n i order h)
 
 pub is_in_at : (o : List ℕ) (i : ℕ) → i < length o → is_in (get_or o i 0) o ≡ true
 is_in_at [] i h = absurd (not-suc-le-zero h)

@@ -1,7 +1,7 @@
 -- Rectangles held in their array: one more joins the end of the list.
 use Rattle.std.proofs.Common.{ℕ, ◌+◌, ◌≤◌, ◌<◌, ◌≡◌, refl, sym, ap, subst, ◌∙◌, List, [], ◌∷◌, ◌++◌, map, length, get_or, set, take, replicate, arith, add-one, length-append, length-set, take-suc, take-suc-set, take_all, length-take-le}
-use mathlib.Core.List.{map-append}
-use lib.ListN.{length-map}
+use Rattle.std.proofs.lemmas.List.{map-append}
+use Rattle.std.proofs.Math.ListN.{length-map}
 use Rattle.geom.specs.declared.Rect.{Rect}
 use Rattle.geom.specs.inner.Fits.{Fits}
 use Rattle.rules.specs.inner.Lent.{AllFit}

@@ -1,9 +1,9 @@
 -- One window more from the top of the order down: a point that a higher window has keeps its answer.
-use Rattle.std.proofs.Common.{ℕ, suc, ◌+◌, ◌-◌, ◌*◌, ◌/◌, ◌%◌, ◌≤◌, ◌<◌, ◌≡◌, refl, sym, ap, subst, ◌∙◌, Bool, true, false, cond, ◌&&◌, eqb, leb, List, [], ◌∷◌, ◌++◌, length, get_or, drop, arith, length-drop, drop-cons, drop_of_length-le, get_or-drop, ne_eqb, eqb-true, leb-true}
+use Rattle.std.proofs.Common.{ℕ, suc, ◌+◌, ◌-◌, ◌*◌, ◌/◌, ◌%◌, ◌≤◌, ◌<◌, ◌≡◌, refl, sym, ap, subst, ◌∙◌, Bool, true, false, cond, ◌&&◌, eqb, leb, List, [], ◌∷◌, ◌++◌, length, get_or, drop, arith, length-drop, drop-cons, get_or-drop, ne_eqb, eqb-true, leb-true}
+use Rattle.std.proofs.Math.Option.{some-injective}
+use Rattle.std.proofs.Math.ListN.{length-map, get_or-map}
 use Rattle.std.proofs.Math.Option.{Option, none, some}
 use Rattle.std.proofs.Math.Seq.{sets}
-use mathlib.Core.Option.{some-injective}
-use lib.ListN.{length-map, get_or-map}
 use Rattle.geom.specs.declared.Rect.{Rect}
 use Rattle.geom.specs.Geom.{left, top, contains}
 use Rattle.geom.proofs.basics.Tests.{on_cond, fst, snd}
@@ -110,19 +110,6 @@ pub record Passed (frame : ℕ → Rect) (l : List WinId) (points base : List �
   pub so_far : Written base (λ i. at_point points i (hit_in frame (drop m (nums l)))) n answers
 
 module _ (frame : ℕ → Rect) (l : List WinId) (points : List ℕ) (n : ℕ) where
-  pub pass_none : (lent base : List ℕ) → Written lent (λ _. to_nobody) n base → (m : ℕ) → m ≡ length l → Passed frame l points base n m base
-  pass_none lent base w m e =
-      let none_left : drop m (nums l) ≡ [] = drop_of_length-le (nums l) {i = m} (omega (arith, length-map l num)) in
-      record {
-        within = omega arith;
-        so_far =
-            record {
-              same = refl;
-              each = λ i h. w.each i h ∙ ap (λ (os : List ℕ). at_point points i (hit_in frame os)) (sym none_left);
-              rest = λ j h. refl;
-            };
-      }
-
   module _ {base answers : List ℕ} {m : ℕ} (q : Passed frame l points base n m answers) where
     -- the highest of those that are left
     pub pass_next : ((p : ℕ) → p < length l → (get_or l p no_id).0 < 16) → 0 < m → (v : WinId) → v ≡ get_or l (m - 1) no_id → (w : List ℕ)

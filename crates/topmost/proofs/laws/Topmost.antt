@@ -8,7 +8,7 @@ use Rattle.window.specs.declared.ids.WinId.{WinId}
 use Rattle.window.specs.inner.Ids.{no_id}
 use Rattle.order.specs.Ids.{nums, ids}
 use Rattle.topmost.specs.inner.Topmost.{topmost_at}
-use Rattle.order.proofs.laws.Order.{ids_snoc, nums_all}
+use Rattle.order.proofs.laws.Order.{ids_snoc}
 
 -- the window that a turn has, of a list that is gone through from its end
 pub turn : (l : List WinId) (k : ℕ) (v : WinId) → (k < length (reverse l)) × (v ≡ get_or (reverse l) k v)
@@ -28,11 +28,6 @@ last_snoc frame x y (j ∷ os) i best = last_snoc frame x y os i (cond (contains
 pub record Seeking (frame : ℕ → Rect) (l : List WinId) (x y m : ℕ) : Type 0 where
   pub within : m ≤ length l
   pub left : topmost_at frame x y (nums l) none ≡ topmost_at frame x y (ids m l) none
-
-pub seek : (frame : ℕ → Rect) (l : List WinId) (x y m : ℕ) → m ≡ length l → Seeking frame l x y m
-seek frame l x y m e =
-    let all : nums l ≡ ids m l = sym (ap (λ (k : ℕ). ids k l) e ∙ nums_all l) in
-    record { within = omega arith; left = ap (λ (os : List ℕ). topmost_at frame x y os none) all }
 
 module _ {frame : ℕ → Rect} {l : List WinId} {x y m : ℕ} (q : Seeking frame l x y m) where
   pub gone : m ≤ 0 → none ≡ topmost_at frame x y (nums l) none

@@ -1,16 +1,15 @@
 -- Damage as the code holds it: the search for an entry that contains the area, the search for one that merges with it, and the area added.
 -- Both searches say of the entries that are left what the rule says of them all.
 use Rattle.std.proofs.Common.{ℕ, suc, ◌+◌, ◌-◌, ◌≤◌, ◌<◌, ◌≡◌, refl, sym, ap, subst, ◌∙◌, Bool, true, false, cond, ◌||◌, Some, None, List, [], ◌∷◌, ◌++◌, map, length, get_or, set, take, drop, replicate, arith, add-one, ltb, ltb-true, ltb-false, Option, length-set, length-append, take-append-drop, get_or-take, length-take-le, take-suc-set, drop-set-lt, le-leb}
+use Rattle.std.proofs.lemmas.List.{map-append}
+use Rattle.std.proofs.Math.ListN.{length-map, get_or-replicate}
+use Rattle.std.proofs.Math.Seq.{take-set-lt}
+use borrow.Author.Tests.{lt-leb}
 use Rattle.std.specs.List.{list_any, position_or_len}
 use Rattle.std.proofs.lemmas.List.Recursion.{is_position_or_len}
-use mathlib.Core.List.{map-append}
-use lib.ListN.{length-map, get_or-replicate}
-use lib.Seq.{take-set-lt}
-use borrow.Author.Tests.{lt-leb}
 use Rattle.geom.specs.declared.Rect.{Rect}
 use Rattle.geom.specs.declared.inner.rect16.Rect16.{Rect16}
 use Rattle.geom.specs.Geom.{rect, is_empty, contains_rect, union}
-use Rattle.geom.specs.inner.Fits.{Fits}
 use Rattle.geom.specs.Rect16.{Small, rect_of, no_rect16, rect16_of}
 use Rattle.geom.proofs.basics.Lists.{set_in, set_case, map_set}
 use Rattle.window.specs.declared.damage.Damage.{Damage}
@@ -22,9 +21,6 @@ use Rattle.window.specs.inner.Changes.{PastAs, MergesAt, JoinedTo, Dirtied}
 
 pub small_low : (r : Rect) → Small r → Low r
 small_low r h = omega arith
-
-pub low_fits : (r : Rect) → Low r → Fits r
-low_fits r h = omega arith
 
 pub low_union : (e a : Rect) → Low e → Small a → Low (union e a)
 unfolding union
