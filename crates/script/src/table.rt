@@ -85,12 +85,10 @@ const ROWS: [(&[u8], Kind, usize, usize); 63] = [
 fn find(rows: &[(&[u8], Kind, usize, usize)], word: &[u8]) -> Kind
     ensures { code_of result ≡ kind_in word.now (rows_of rows.now) }
 {
-    for row in rows {
-        if word == row.0 {
-            return row.1;
-        }
+    match rows.iter().find(|row| word == row.0) {
+        Some(row) => row.1,
+        None => Kind::Malformed,
     }
-    Kind::Malformed
 }
 
 // The kind of a line that begins with the first letters of a word; malformed where there is no such word.
@@ -103,12 +101,10 @@ pub fn kind_of(word: &[u8], letters: usize) -> Kind
 fn fits(rows: &[(&[u8], Kind, usize, usize)], kind: Kind, count: usize) -> bool
     ensures { result ≡ counted_by (row_in (code_of kind) (rows_of rows.now)) count }
 {
-    for row in rows {
-        if kind == row.1 {
-            return row.2 <= count && count - row.2 <= row.3;
-        }
+    match rows.iter().find(|row| kind == row.1) {
+        Some(row) => row.2 <= count && count - row.2 <= row.3,
+        None => false,
     }
-    false
 }
 
 // Does a line of this kind have so many numbers?

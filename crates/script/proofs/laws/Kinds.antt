@@ -1,14 +1,14 @@
 -- The rows of the tables: what the search has passed gives no kind, and a word of 17 letters has none.
-use Rattle.std.proofs.Common.{ℕ, suc, ◌+◌, ◌≤◌, ◌<◌, ◌≡◌, refl, sym, ap, ◌-◌, ◌∙◌, arith, min, Bool, true, false, cond, ◌&&◌, List, [], ◌∷◌, length, take, drop, get_or, leb, eqb, add-one, eqb-true, eq-eqb, leb-true, leb-false, le-leb}
-use Rattle.std.proofs.Math.Option.{some}
-use Rattle.std.proofs.Math.Seq.{drop-cons}
+use Rattle.std.proofs.Common.{ℕ, suc, ◌+◌, ◌≤◌, ◌<◌, ◌≡◌, refl, sym, ap, ◌-◌, ◌∙◌, arith, min, Bool, true, false, cond, ◌&&◌, List, [], ◌∷◌, length, take, leb, eqb, eqb-true, eq-eqb, leb-true, leb-false, le-leb}
 use Rattle.std.proofs.lemmas.List.{take_all}
+use Rattle.std.specs.Prelude as Std
+use Rattle.std.specs.Prelude.{Some, None, find}
+use Rattle.std.proofs.Math.Option.{Option, none, some}
 use lib.Pointwise.{pointwise}
 use denote.Enum.Bare.{sameb, same_true}
 use denote.Enum.Declared.{tag_of}
 use Rattle.std.proofs.lemmas.Bool.{lt-leb}
-use Rattle.geom.proofs.basics.Tests.{fst, snd, clash, is_false, says_le}
-use Rattle.geom.proofs.basics.Tests as tests
+use Rattle.geom.proofs.basics.Tests.{fst, snd, clash, is_false, says_le, same}
 use Rattle.geom.proofs.basics.Tables.{every}
 use Rattle.script.specs.contracts.kind.Kind.{the_type}
 use Rattle.script.specs.declared.kind.Kind.{Kind as AKind}
@@ -115,56 +115,47 @@ code_one k j e = same_true the_type tt k j (same_kinds k j ∙ eq-eqb (code_of k
 
 -- The search -----------------------------------------------------------------------------------------------------------
 
-abbrev no_row : Held
-no_row = (record { ref_ptr = (0, 0); now = [] }, kind.Passed, 0, 0)
+abbrev kind_or : Std.Option Held → ℕ
+kind_or None = Kind.malformed
+kind_or (Some r) = code_of r.1
 
--- what is found in all the rows is found in those from k on
-abbrev pub Sought : {A : Type 0} → (List Row → A) → List Held → ℕ → Type 0
-Sought f rows k = (k ≤ length rows) × (f (rows_of rows) ≡ f (rows_of (drop k rows)))
+kind_search : (w : List ℕ) (rows : List Held) → kind_in w (rows_of rows) ≡ kind_or (find (λ r. pointwise eqb w r.0.now) rows)
+kind_search w [] = refl
+kind_search w (r ∷ rows) = rw (same_words w r.0.now) (go (same_word w r.0.now) (kind_search w rows))
+  where
+    go : (t : Bool) → kind_in w (rows_of rows) ≡ kind_or (find (λ q. pointwise eqb w q.0.now) rows)
+        → cond t (code_of r.1) (kind_in w (rows_of rows)) ≡ kind_or (cond t (Some r) (find (λ q. pointwise eqb w q.0.now) rows))
+    go true e = refl
+    go false e = e
 
-abbrev row_at : List Held → ℕ → Row
-row_at rows k = row_of (get_or rows k no_row)
+-- what a search for a word has found
+pub word_found : (w : List ℕ) (rows : List Held) (o : Std.Option Held) → o ≡ find (λ r. pointwise eqb w r.0.now) rows → kind_or o ≡ kind_in w (rows_of rows)
+word_found w rows o e = ap kind_or e ∙ sym (kind_search w rows)
 
-module _ (rows : List Held) (k : ℕ) where
-  here : k < length rows → drop k rows ≡ get_or rows k no_row ∷ drop (k + 1) rows
-  here l = rw add-one (drop-cons rows k no_row l)
+abbrev row_or : Std.Option Held → Option Row
+row_or None = none
+row_or (Some r) = some (row_of r)
 
-  -- a word
-  module _ (w : List ℕ) (l : k < length rows) (q : Sought (kind_in w) rows k) {t : Bool} (e : t ≡ pointwise eqb w (row_at rows k).word) where
-    same : same_word w (row_at rows k).word ≡ t
-    same = sym (e ∙ same_words w (row_at rows k).word)
+row_search : (k : AKind) (rows : List Held) → row_in (code_of k) (rows_of rows) ≡ row_or (find (λ r. sameb the_type k r.1) rows)
+row_search k [] = refl
+row_search k (r ∷ rows) = rw (same_kinds k r.1) (go (eqb (code_of k) (code_of r.1)) (row_search k rows))
+  where
+    go : (t : Bool) → row_in (code_of k) (rows_of rows) ≡ row_or (find (λ q. sameb the_type k q.1) rows)
+        → cond t (some (row_of r)) (row_in (code_of k) (rows_of rows)) ≡ row_or (cond t (Some r) (find (λ q. sameb the_type k q.1) rows))
+    go true e = refl
+    go false e = e
 
-    pub word_hit : t ≡ true → (row_at rows k).kind ≡ kind_in w (rows_of rows)
-    word_hit y = sym (q.1 ∙ rw (here l, same, y))
+-- what a search for a kind has found
+module _ (k : AKind) (rows : List Held) (n : ℕ) where
+  pub row_found : (o : Std.Option Held) → o ≡ find (λ r. sameb the_type k r.1) rows → counted_by (row_or o) n ≡ counted_by (row_in (code_of k) (rows_of rows)) n
+  row_found o e = ap (λ (r : Option Row). counted_by r n) (ap row_or e ∙ sym (row_search k rows))
 
-    pub word_miss : t ≡ false → Sought (kind_in w) rows (k + 1)
-    word_miss n = (omega arith, q.1 ∙ rw (here l, same, n))
+  pub too_few : (r : Held) → Some r ≡ find (λ q. sameb the_type k q.1) rows → n < r.2 → leb r.2 n ≡ counted_by (row_in (code_of k) (rows_of rows)) n
+  too_few r e h = rw (lt-leb r.2 n h) (rw (lt-leb r.2 n h) at (row_found (Some r) e))
 
-  -- a kind
-  module _ (j : AKind) (n : ℕ) (l : k < length rows) (q : Sought (λ rs. counted_by (row_in (code_of j) rs) n) rows k)
-      {t : Bool} (e : t ≡ sameb the_type j (get_or rows k no_row).1) where
-    alike : eqb (code_of j) (row_at rows k).kind ≡ t
-    alike = sym (e ∙ same_kinds j (get_or rows k no_row).1)
-
-    found : t ≡ true → counted_by (some (row_at rows k)) n ≡ counted_by (row_in (code_of j) (rows_of rows)) n
-    found y = sym (q.1 ∙ rw (here l, alike, y))
-
-    pub too_few : t ≡ true → n < (row_at rows k).numbers → leb (row_at rows k).numbers n ≡ counted_by (row_in (code_of j) (rows_of rows)) n
-    too_few y h = first ∙ found y
-      where
-        first : leb (row_at rows k).numbers n ≡ counted_by (some (row_at rows k)) n
-        first = rw (lt-leb (row_at rows k).numbers n h)
-
-    pub enough : t ≡ true → (row_at rows k).numbers ≤ n → leb (n - (row_at rows k).numbers) (row_at rows k).more ≡ counted_by (row_in (code_of j) (rows_of rows)) n
-    enough y h = last ∙ found y
-      where
-        last : leb (n - (row_at rows k).numbers) (row_at rows k).more ≡ counted_by (some (row_at rows k)) n
-        last =
-            rw (le-leb (row_at rows k).numbers n h)
-            (tests.same (says_le (n - (row_at rows k).numbers) (row_at rows k).more) (says_le n ((row_at rows k).numbers + (row_at rows k).more)) (λ m. omega arith) (λ m. omega arith))
-
-    pub kind_miss : t ≡ false → Sought (λ rs. counted_by (row_in (code_of j) rs) n) rows (k + 1)
-    kind_miss m = (omega arith, q.1 ∙ rw (here l, alike, m))
+  pub enough : (r : Held) → Some r ≡ find (λ q. sameb the_type k q.1) rows → r.2 ≤ n → leb (n - r.2) r.3 ≡ counted_by (row_in (code_of k) (rows_of rows)) n
+  enough r e h =
+      same (says_le (n - r.2) r.3) (says_le n (r.2 + r.3)) (λ m. omega arith) (λ m. omega arith) ∙ (rw (le-leb r.2 n h) at (row_found (Some r) e))
 
 -- the letters of a word are no more than it has
 pub take_min : {A : Type 0} (n : ℕ) (l : List A) → take (min n (length l)) l ≡ take n l
