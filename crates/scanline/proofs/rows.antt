@@ -7,4 +7,3 @@ pub mod Move
 pub mod Written
 pub mod Altered
 pub mod Turns
-pub mod Places

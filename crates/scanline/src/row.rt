@@ -4,8 +4,7 @@ ghost use Rattle.std.proofs.lemmas.List.Edits.{sets};
 ghost use Rattle.scanline.specs.Pixels.{part};
 ghost use Rattle.scanline.specs.inner.Rows.{Counted};
 
-// n pixels of `src` from `from` on go to `at` on. A row of 800 takes 445 instructions where a loop takes 750, and one of 16 takes 53 where that takes 64;
-// a loop that is made part of its caller is shorter for rows below 48.
+// n pixels of `src` from `from` on go to `at` on. A row of 800 takes 445 instructions, and in a loop over pixels it took 750.
 pub fn copy_part(px: &mut [u32], at: usize, src: &[u32], from: usize, n: u16)
     requires { (at + n ≤ length px.old) × (from + n ≤ length src.now) }
     ensures { px.new ≡ sets px.old at (part from n src.now) }

@@ -1,5 +1,5 @@
 -- Loops over rows: one row more, and all rows.
-use Rattle.std.proofs.Common.{◌≡◌, ap, ◌∙◌, List, ℕ, ◌+◌, ◌*◌, ◌≤◌, arith, add-one, suc-mul}
+use Rattle.std.proofs.Common.{◌≡◌, ap, ◌∙◌, List, ℕ, ◌+◌, ◌*◌, add-one, suc-mul}
 use Rattle.std.proofs.lemmas.List.Edits.{sets}
 use Rattle.scanline.specs.Pixels.{write_rows}
 
@@ -7,11 +7,6 @@ pub rows_more : (at : ℕ → ℕ) (row : ℕ → List ℕ) (s p q : List ℕ) (
     → q ≡ write_rows (r + 1) at row s
 unfolding write_rows
 rows_more at row s p q r e f = rw (add-one r) (f ∙ ap (λ (l : List ℕ). sets l (at r) (row r)) e)
-
-pub rows_all : (at : ℕ → ℕ) (row : ℕ → List ℕ) (s p : List ℕ) (r n : ℕ) → p ≡ write_rows r at row s → r ≤ n → n ≤ r → p ≡ write_rows n at row s
-rows_all at row s p r n e h l =
-    let k : r ≡ n = omega arith in
-    e ∙ ap (λ (j : ℕ). write_rows j at row s) k
 
 -- where the next row begins
 pub next_row : (r pitch : ℕ) → (r + 1) * pitch ≡ r * pitch + pitch

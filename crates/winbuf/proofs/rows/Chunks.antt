@@ -39,9 +39,6 @@ module _ (src : List ℕ) (stride n full : ℕ) (is : full ≡ min n (length src
   pub chunks_in : full * stride ≤ length src
   chunks_in = rows_room (length src) stride (length src / stride) full (omega arith) (mul-div-le (length src) stride)
 
-  pub chunk_in : (r m : ℕ) → r < full → m ≤ stride → r * stride + m ≤ length src
-  chunk_in r m l h = omega (arith, chunks_in, row_end stride full r l)
-
   -- one more row takes what is left, and the rows after it nothing
   none_left : (w r : ℕ) → full < r → r < n → take w (part (r * stride) stride src) ≡ []
   none_left w r h l = go (lt_or_le 0 stride)

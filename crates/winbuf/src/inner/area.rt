@@ -73,7 +73,8 @@ pub fn blit_rows(
     altered + set_part(px, at + full * pitch, src, from, rest)
 }
 
-// An area of a window becomes `v`.
+// An area of a window becomes `v`. Here and below, the area's numbers are worked out by the caller for this one call: a struct of them would be made
+// there and taken apart here.
 pub fn fill_area(
     px: &mut [u32],
     base: usize,
