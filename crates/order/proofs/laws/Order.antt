@@ -34,6 +34,10 @@ ids_snoc order m h = ap (map num) (take-suc order m no_id h) ∙ map-append num 
 pub ids_at : (n i : ℕ) (l : List WinId) → i < n → get_or (ids n l) i 0 ≡ (get_or l i no_id).0
 ids_at n i l h = get_or-map num (take n l) i no_id ∙ ap num (get_or-take n l i no_id h)
 
+pub ids_from : (order : List WinId) (n i : ℕ) → n ≤ length order → i < n → drop i (ids n order) ≡ (get_or order i no_id).0 ∷ drop (suc i) (ids n order)
+ids_from order n i k h =
+    drop-cons (ids n order) i 0 (omega (arith, ids_length n order k)) ∙ ap (λ (e : ℕ). e ∷ drop (suc i) (ids n order)) (ids_at n i order h)
+
 pub is_in_at : (o : List ℕ) (i : ℕ) → i < length o → is_in (get_or o i 0) o ≡ true
 is_in_at [] i h = absurd (not-suc-le-zero h)
 is_in_at (x ∷ o) zero h = is_in_here x o
