@@ -71,7 +71,8 @@ impl Reading {
     }
 }
 
-// Reads the bytes from `from` on, up to the next newline or the block's end; `at` is that place.
+// Reads the bytes from `from` on, up to the next newline or the block's end; `at` is that place. The word, the numbers and the name lie in arrays of
+// the caller, as the library has no heap; a struct of the three would be no plainer, since each step takes the one that it changes.
 pub fn read(
     reading: Reading,
     block: &[u8],
