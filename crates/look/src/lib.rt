@@ -38,10 +38,10 @@ pub struct Look {
 // The window's width and height, and the target's.
 #[derive(Clone, Copy)]
 pub struct Sizes {
-    pub w: u64,
-    pub h: u64,
-    pub tw: u64,
-    pub th: u64,
+    pub w: u16,
+    pub h: u16,
+    pub tw: u32,
+    pub th: u32,
 }
 
 // A look in whole quarters: its corner, and how far apart in the window two neighbours of the target are, which is 1 / factor.
@@ -66,12 +66,7 @@ pub fn look_window(
     requires { (w ≤ 32767) × (h ≤ 32767) × (base + w * h ≤ length store.now) }
     ensures { Looks look (record { w = w; h = h; tw = tw; th = th }) base store.now target.old (answer_of result) target.new }
 {
-    let sizes = Sizes {
-        w: w as u64,
-        h: h as u64,
-        tw: tw as u64,
-        th: th as u64,
-    };
+    let sizes = Sizes { w, h, tw, th };
     let Some(t) = whole_of(look, sizes) else {
         return Err(Refusal::Look);
     };

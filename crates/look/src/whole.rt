@@ -1,6 +1,6 @@
 // A look in whole quarters.
 ghost use Rattle.std.specs.Prelude.{◌≡◌};
-ghost use Rattle.look.specs.inner.Steps.{Countable, joined_of, whole_of};
+ghost use Rattle.look.specs.inner.Steps.{joined_of, whole_of};
 
 use crate::fit::fitted;
 use crate::quarters::{quarters_of, step_of};
@@ -22,7 +22,6 @@ fn joined(factor: Option<u64>, x: Option<u64>, y: Option<u64>) -> Option<Steps>
 
 // What a look comes to in whole quarters; none where it is refused by question 22. Fit does not look at the corner.
 pub fn whole_of(look: Look, s: Sizes) -> Option<Steps>
-    requires { Countable s }
     ensures { result ≡ whole_of look s }
 {
     let zoom = look.zoom;

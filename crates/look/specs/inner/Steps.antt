@@ -1,5 +1,5 @@
 -- What our own functions say.
-use Rattle.std.specs.Prelude.{◌≡◌, ℕ, ◌+◌, ◌-◌, ◌^◌, ◌<◌, ◌≤◌, cond, Option, Some, None, List, [], ◌∷◌, ◌++◌, length, replicate, ◌==◌, slice_index}
+use Rattle.std.specs.Prelude.{◌≡◌, ℕ, ◌+◌, ◌-◌, ◌<◌, ◌≤◌, cond, Option, Some, None, List, [], ◌∷◌, ◌++◌, length, replicate, ◌==◌, slice_index}
 use Rattle.geom.specs.Questions.{◌is◌, asked}
 use Rattle.look.specs.declared.Look.{Look}
 use Rattle.look.specs.declared.Sizes.{Sizes}
@@ -7,13 +7,6 @@ use Rattle.look.specs.declared.Steps.{Steps}
 use Rattle.look.specs.Floats.{allowed}
 use Rattle.look.specs.View.{line, view, target_fits}
 use Rattle.look.specs.Quarters.{step_of, steps_of, place_quarters}
-
--- sizes whose products are below 2 ^ 64
-pub record Countable (s : Sizes) : Type 0 where
-  pub w : s.w ≤ 65535
-  pub h : s.h ≤ 65535
-  pub tw : s.tw < 2 ^ 32
-  pub th : s.th < 2 ^ 32
 
 -- of the factor, x and y
 abbrev pub joined_of : Option ℕ → Option ℕ → Option ℕ → Option Steps
