@@ -102,7 +102,7 @@ tag_is kind.Window = refl
 tag_is kind.Session = refl
 tag_is kind.Who = refl
 
-same_kinds : (k j : AKind) → sameb the_type k j ≡ eqb (code_of k) (code_of j)
+pub same_kinds : (k j : AKind) → sameb the_type k j ≡ eqb (code_of k) (code_of j)
 same_kinds k j = rw (tag_is k, tag_is j)
 
 -- a kind that is another has another number
