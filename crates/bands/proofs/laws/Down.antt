@@ -35,9 +35,6 @@ alike_seen at bs z y h c a b =
 
 -- A row's intervals --------------------------------------------------------------------------------------------------
 
-pub kept_none : (e : ℕ) (nums : List ℕ) → Kept e nums nums
-kept_none e nums = record { size = refl; kept = λ i h. refl }
-
 pub kept_both : (e : ℕ) (a b c : List ℕ) → Kept e a b → Kept e b c → Kept e a c
 kept_both e a b c p q = record { size = q.size ∙ p.size; kept = λ i h. q.kept i h ∙ p.kept i h }
 
@@ -85,9 +82,6 @@ pub record Rowing (at : Rect) (bs : List Rect) (y r : ℕ) : Type 0 where
   pub same : (z : ℕ) → y ≤ z → z < r → Alike bs (left at) (right at) z y
 
 module _ (at : Rect) (bs : List Rect) (y limit : ℕ) (el : limit ≡ bottom at) (r : ℕ) where
-  pub rowing_first : NextRow bs y limit r → Rowing at bs y r
-  rowing_first n = record { beyond = n.beyond; near = omega (arith, n.near); same = λ z a b c h k. n.steady c z a b }
-
   module _ (w : Rowing at bs y r) where
     module _ {t : Bool} (d : Decides t (Alike bs (left at) (right at) r y)) where
       pub rows_turn : t ≡ false → RunRows at bs y r

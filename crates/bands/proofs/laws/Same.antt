@@ -10,7 +10,7 @@ use Rattle.sheet.proofs.laws.Numbers.{length_spans_in, spans_in_ext}
 use Rattle.sheet.proofs.laws.Pixels.{says_cols}
 use Rattle.sheet.proofs.laws.Reading.{says_no}
 use Rattle.sheet.proofs.laws.Unique.{spans_unique}
-use Rattle.bands.specs.inner.Scan.{RowMade, IsRow, Kept}
+use Rattle.bands.specs.inner.Scan.{RowMade, IsRow}
 
 -- Number by number ---------------------------------------------------------------------------------------------------
 
@@ -92,6 +92,3 @@ module _ (at : Rect) (bs : List Rect) (z : ℕ) (nums : List ℕ) (e k : ℕ) (a
     yes = λ t c. ap (λ (is : List Span). in_spans is c) (sym stands ∙ d.yes t ∙ sym (ap (spans_in after (e + 2 * k)) q)) ∙ r.cover c;
     no = λ t f. d.no t (is_row_equal f ∙ ap (spans_in after (e + 2 * k)) q);
   }
-
-  pub kept_row : Kept (e + 2 * k) nums after
-  kept_row = record { size = r.size; kept = r.kept }

@@ -236,9 +236,6 @@ scan_all at bs nums₀ nums y bands end q n h l r e =
 
 -- they take what the writer of the bits asks for, and are those of the one sheet
 module _ (at : Rect) (bs : List Rect) (m : Made) (nums : List ℕ) (s : Scanned at bs m nums) where
-  pub scanned_small : (m.bands ≤ 63) × (m.end ≡ end_in nums 0 m.bands) × (m.end ≤ length nums) × (m.end ≤ 5000)
-  scanned_small = (omega (arith, s.few), s.end, omega (arith, s.few, s.room, s.size), omega (arith, s.few, s.room))
-
   pub scanned_sheet : bands_in nums 0 m.bands ≡ seen_under at bs
   unfolding seen_under
   scanned_sheet = depicts_is (uncovered at bs) (width at) (height at) (bands_in nums 0 m.bands) s.depicts

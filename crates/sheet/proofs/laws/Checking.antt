@@ -30,9 +30,6 @@ module _ {bytes : List ℕ} {k : ℕ} (end p m : ℕ) {top bottom n : ℕ} (ft :
   keeps_none h = says_no (λ q. omega (arith, q.1.some, fn.is, length_spans_at (bit_at bytes) (k + 35) (count_at (bit_at bytes) k)))
 
   module _ {t : Bool} (d : Decides t (Apart 0 (spans_at (bit_at bytes) (k + 35) n))) where
-    pub keeps_mixed : t ≡ false → Decides false (Keeps bytes k end p m)
-    keeps_mixed e = says_no (λ q. d.no e (rw fn.is q.1.apart))
-
     -- the band by itself
     alone : top < bottom → (n ≡ 0 → ⊥) → t ≡ true → Proper (band_at (bit_at bytes) k)
     alone h o e = record {

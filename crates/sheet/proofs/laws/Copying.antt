@@ -5,10 +5,10 @@ use lib.Seq.{sets, sets-eq, length-sets}
 use Rattle.geom.specs.declared.Rect.{Rect}
 use Rattle.geom.specs.Lists.{numbers}
 use Rattle.geom.proofs.geometry.Numbers.{length_numbers, written_append}
-use Rattle.std.specs.Prelude.{Some, None}
+use Rattle.std.specs.Prelude.{Some}
 use Rattle.sheet.specs.Sheet.{Sheet, band_rects, rects}
 use Rattle.sheet.specs.inner.Cursor.{bit_at, Field, spans_at, bands_at, sheet_at}
-use Rattle.sheet.specs.Reader.{Reads, broken, short, whole, answered}
+use Rattle.sheet.specs.Reader.{Reads, short, whole, answered}
 use Rattle.sheet.specs.inner.Checks.{Checked}
 use Rattle.sheet.proofs.laws.Fields.{length_spans_at}
 use Rattle.sheet.proofs.laws.Checking.{bands_end, bands_next, length_band_rects}
@@ -20,17 +20,6 @@ pub record Copying (bytes : List ℕ) (n k place : ℕ) (list₀ list : List ℕ
   pub room : length list ≡ length list₀
   pub counts : place + length (rects (bands_at (bit_at bytes) k (n - i))) ≡ length (rects (bands_at (bit_at bytes) 6 n))
   pub all : sets list (4 * place) (numbers (rects (bands_at (bit_at bytes) k (n - i)))) ≡ sets list₀ 0 (numbers (rects (bands_at (bit_at bytes) 6 n)))
-
-pub copying_none : {bytes : List ℕ} {n : ℕ} {list : List ℕ} → Copying bytes n 6 0 list list 0
-copying_none {n} =
-    let e : n - 0 ≡ n = omega arith in
-    record {
-      few = omega arith;
-      near = omega arith;
-      room = refl;
-      counts = rw e (omega arith);
-      all = rw e refl;
-    }
 
 module _ {bytes : List ℕ} {n k place : ℕ} {list₀ list : List ℕ} {i : ℕ} (c : Copying bytes n k place list₀ list i) (h : i < n)
     {top bottom m : ℕ} (ft : Field bytes k 15 top) (fb : Field bytes (k + 15) 15 bottom) (fm : Field bytes (k + 30) 5 m) where
@@ -91,9 +80,6 @@ room_fields fn h = rw fn.is h
 
 quarter : (n : ℕ) → (n ≡ 4 * (n / 4) + n % 4) × (n % 4 < 4)
 quarter n = (sym (div-add-mod n 4), mod-lt n {m = 4} (omega arith))
-
-pub reads_broken : {bytes : List ℕ} (list : List ℕ) → Checked bytes None → Reads bytes list (answered 18 0) list
-reads_broken list n = broken n refl refl
 
 module _ {bytes : List ℕ} (list : List ℕ) {count : ℕ} (c : Checked bytes (Some count)) where
   pub reads_short : length list / 4 < count → Reads bytes list (answered 19 0) list

@@ -33,11 +33,6 @@ spans_put k e i nums out mid mid' after p q r =
     (put_more k (30 * i) (span_bits (spans_in nums e i)) _ out mid after (length_span_bits (spans_in nums e i) ∙ ap (λ (j : ℕ). 30 * j) (length_spans_in nums e i)) p
     (put_more (k + 30 * i) 15 (bits_of 15 (get_or nums (e + 2 * i) 0)) _ mid mid' after (length_bits_of 15 (get_or nums (e + 2 * i) 0)) q r))
 
-pub spans_all : (k e n i : ℕ) (nums out after : List ℕ) → i ≤ n → n ≤ i → Put k (span_bits (spans_in nums e i)) out after → Put k (span_bits (spans_in nums e n)) out after
-spans_all k e n i nums out after a b p =
-    let m : i ≡ n = omega arith in
-    rw m at p
-
 -- Bands --------------------------------------------------------------------------------------------------------------
 
 -- the bits of one band

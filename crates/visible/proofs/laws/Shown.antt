@@ -30,11 +30,6 @@ pub record Cut (v : View) (k : Rect) : Type 0 where
   pub window : Within v.at k
   pub screen : Within (screen_rect v) k
 
-pub placed_fits : (v : View) (r on all : Rect) (store screen : List ℕ) → Drawable v store screen → Within (own v) r
-    → on ≡ placed v r → all ≡ screen_rect v → Fits on × Fits all
-placed_fits v r on all store screen d w e f =
-    (subst Fits (sym e) (let s = d.at in omega arith), subst Fits (sym f) (omega (arith, d.sw≤, d.sh≤)))
-
 pub cut : (v : View) (r on all k : Rect) → Within (own v) r → on ≡ placed v r → all ≡ screen_rect v → meets on all ≡ true → k ≡ common on all → Cut v k
 cut v r on all k w e f m ek =
     let c = common_within on all ((says_meet on all).fact m) in
@@ -111,16 +106,8 @@ own_fits v r store screen d w =
     let s = d.at in
     omega arith
 
-pub part_fits : (v : View) (p : Rect) (store screen : List ℕ) → Drawable v store screen → Within v.at p → Fits p
-part_fits v p store screen d w =
-    let s = d.at in
-    omega arith
-
 pub own_common : (v : View) (r e k : Rect) → Within (own v) r → meets r e ≡ true → k ≡ common r e → Within (own v) k
 own_common v r e k w m ek = within_trans (own v) r k w (subst (Within r) (sym ek) (common_within r e ((says_meet r e).fact m)).0)
-
-pub own_relative : (v : View) (p r : Rect) → Within v.at p → r ≡ relative v.at p → Within (own v) r
-own_relative v p r w e = subst (Within (own v)) (sym e) (omega arith)
 
 pub drawable_kept : (v : View) (store screen screen' : List ℕ) → Drawable v store screen → length screen' ≡ length screen → Drawable v store screen'
 drawable_kept v store screen screen' d e = record { at = d.at; pixels = d.pixels; sw≤ = d.sw≤; sh≤ = d.sh≤; size = e ∙ d.size }

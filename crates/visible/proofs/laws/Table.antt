@@ -1,6 +1,5 @@
 -- The table of the rectangles above a window: one that a part of the window does not meet can be left out.
-use Rattle.std.proofs.Common.{ℕ, zero, suc, ◌+◌, ◌<◌, ◌≡◌, refl, ap, sym, ◌∙◌, Bool, true, false, cond, List, [], ◌∷◌, ◌++◌, length, get_or, take, filter, arith, add-one, take-suc, append-nil}
-use Rattle.std.proofs.lemmas.List.Elements.{filter-append}
+use Rattle.std.proofs.Common.{ℕ, zero, suc, ◌<◌, ◌≡◌, refl, ap, sym, ◌∙◌, Bool, true, false, cond, List, [], ◌∷◌, length, get_or, filter, arith}
 use Rattle.geom.specs.declared.Rect.{Rect}
 use Rattle.geom.specs.Geom.{rect, is_empty, meets, pieces}
 use Rattle.geom.specs.inner.Fits.{Fits, Within}
@@ -75,20 +74,3 @@ unfolding AllFit
 fit_at [] i h = omega arith
 fit_at (r ∷ rs) zero h = h.0
 fit_at (r ∷ rs) (suc i) h = fit_at rs i h.1
-
--- The table filled in turn -------------------------------------------------------------------------------------------
-
--- of one more rectangle
-module _ (a : Rect) (bs : List Rect) (i : ℕ) (d : Rect) (h : i < length bs) where
-  pub met_taken : meets a (get_or bs i d) ≡ true → met a (take (i + 1) bs) ≡ met a (take i bs) ++ (get_or bs i d ∷ [])
-  met_taken m =
-      ap (met a) (ap (λ (j : ℕ). take j bs) (add-one i) ∙ take-suc bs i d h)
-      ∙ filter-append (λ b. meets a b) (take i bs) (get_or bs i d ∷ [])
-      ∙ ap (λ (t : Bool). met a (take i bs) ++ cond t (get_or bs i d ∷ []) []) m
-
-  pub met_passed : meets a (get_or bs i d) ≡ false → met a (take (i + 1) bs) ≡ met a (take i bs)
-  met_passed m =
-      ap (met a) (ap (λ (j : ℕ). take j bs) (add-one i) ∙ take-suc bs i d h)
-      ∙ filter-append (λ b. meets a b) (take i bs) (get_or bs i d ∷ [])
-      ∙ ap (λ (t : Bool). met a (take i bs) ++ cond t (get_or bs i d ∷ []) []) m
-      ∙ append-nil (met a (take i bs))
