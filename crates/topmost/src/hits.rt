@@ -1,8 +1,8 @@
 // The topmost windows at many points, in one pass from the top of the order down. Document 02, N12.
-ghost use Rattle.std.specs.Prelude.{◌≡◌, true, [], ◌∷◌, ◌++◌, ◌+◌, ◌*◌, ◌/◌, ◌≤◌, length, drop};
+ghost use Rattle.std.specs.Prelude.{◌≡◌, [], ◌∷◌, ◌++◌, ◌+◌, ◌*◌, ◌/◌, ◌%◌, ◌≤◌, length, drop};
 ghost use Rattle.std.proofs.lemmas.List.Edits.{sets};
 ghost use Rattle.geom.specs.Rect16.{rect_of};
-ghost use Rattle.rules.specs.Hits.{each_point, fit};
+ghost use Rattle.rules.specs.Hits.{each_point};
 ghost use Rattle.order.specs.Ids.{nums};
 ghost use Rattle.order.specs.inner.Frames.{frame_at, Shown};
 ghost use Rattle.topmost.specs.inner.Hits.{three, at_point, Written, to_nobody, answered, hit_in};
@@ -64,7 +64,7 @@ fn look_all(id: WinId, area: Rect16, points: &[u32], answers: &mut [u32], n: usi
 // Each window is looked at once, the highest first; a point that a higher one has is passed over.
 pub fn hits(areas: &[Rect16; 16], shown: &[WinId], points: &[u32], answers: &mut [u32])
     requires shown { Shown areas.now shown.now (length shown.now) }
-    requires fit { fit (length points.now) (length answers.old) ≡ true }
+    requires fit { (length points.now % 2 ≡ 0) × (3 * (length points.now / 2) ≤ length answers.old) }
     ensures { answers.new ≡ each_point (hit_in (frame_at areas.now) (nums shown.now)) points.now ++ drop (3 * (length points.now / 2)) answers.old }
 {
     let n = points.len() / 2;

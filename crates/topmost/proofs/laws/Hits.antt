@@ -151,9 +151,9 @@ module _ (frame : ℕ → Rect) (l : List WinId) (points : List ℕ) (n : ℕ) w
         written_all (hit_in frame (nums l)) points lent answers n even room
         (subst (λ (k : ℕ). Written lent (λ i. at_point points i (hit_in frame (drop k (nums l)))) n answers) z (written_over w q.so_far))
 
--- question 25
-pub even_points : (given lent : ℕ) → fit given lent ≡ true → (given ≡ 2 * (given / 2)) × (3 * (given / 2) ≤ lent)
+-- what question 25 says to a call that was not refused by it
+pub even_points : (given lent : ℕ) → fit given lent ≡ true → (given % 2 ≡ 0) × (3 * (given / 2) ≤ lent)
 even_points given lent e =
     let a = snd (leb given 64 && eqb (given % 2) 0) _ e in
     let b = snd (leb given 64) _ (fst (leb given 64 && eqb (given % 2) 0) _ e) in
-    (omega (arith, eqb-true (given % 2) 0 b), leb-true _ _ a)
+    (eqb-true (given % 2) 0 b, leb-true _ _ a)
