@@ -16,7 +16,7 @@ use geom::inner::rect16::Rect16;
 use geom::inner::small::{MOST, is_small};
 use geom::inner::{bottom, clamp_pos, dist_sq, is_empty, right};
 use geom::refusal::Refusal;
-use geom::{Pos, Rect, inner};
+use geom::{Pos, Rect};
 
 pub mod update;
 
@@ -47,7 +47,7 @@ fn on_screen(r: Rect) -> bool
 fn has(area: Rect16, pos: Pos) -> bool
     ensures { result ≡ contains (rect_of area) pos.x pos.y }
 {
-    inner::contains(area.rect(), pos.x, pos.y)
+    area.rect().contains(pos) == Ok(true)
 }
 
 impl Displays {

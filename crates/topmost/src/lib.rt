@@ -13,14 +13,14 @@ pub mod hits;
 pub mod points;
 pub mod release;
 
-use geom::inner;
+use geom::Pos;
 use geom::inner::rect16::Rect16;
 use window::ids::WinId;
 
 fn has(area: Rect16, x: u32, y: u32) -> bool
     ensures { result ≡ contains (rect_of area) x y }
 {
-    inner::contains(area.rect(), x, y)
+    area.rect().contains(Pos::new(x, y)) == Ok(true)
 }
 
 // The order is searched from its top down, as far as the first area that contains the point.

@@ -62,12 +62,20 @@ impl Damage {
         self.entries().iter().any(|e| contains(*e, area))
     }
 
-    // The first entry that merges with the area.
+    // The first entry that merges with the area. Document 01 names the form of this search, a loop with a label that is left from inside.
     fn merging(&self, area: Rect) -> Option<usize>
         requires { RepDamage self.now × Small area }
         ensures { MergesAt self.now area result }
     {
-        self.entries().iter().position(|e| merges(*e, area))
+        let entries = self.entries();
+        let mut found = None;
+        'entries: for i in 0..entries.len() {
+            if merges(entries[i], area) {
+                found = Some(i);
+                break 'entries;
+            }
+        }
+        found
     }
 
     // The area joins the end; a 17th entry makes the list (0,0,w,h). Past the last entry the array stays as it was.
@@ -116,7 +124,7 @@ fn contains(entry: Rect16, area: Rect) -> bool
     requires { Small area }
     ensures { result ≡ contains_rect (rect_of entry) area }
 {
-    inner::contains_rect(entry.rect(), area)
+    entry.rect().contains_rect(area) == Ok(true)
 }
 
 // Same top and bottom, and touching from left to right; or same left and right, and touching from top to bottom.
@@ -137,6 +145,7 @@ fn joined(entry: Rect16, area: Rect) -> Rect16
     requires { Low (rect_of entry) × Small area }
     ensures { rect_of result ≡ union (rect_of entry) area }
 {
-    let u = inner::union(entry.rect(), area);
+    // question 14 holds of both
+    let u = entry.rect().union(area).unwrap();
     Rect16::new(u.pos.x, u.pos.y, u.dims.w, u.dims.h)
 }

@@ -1,12 +1,13 @@
 -- Damage as the code holds it: the search for an entry that contains the area, the search for one that merges with it, and the area added.
 -- Both searches say of the entries that are left what the rule says of them all.
-use Rattle.std.proofs.Common.{ℕ, suc, ◌+◌, ◌-◌, ◌≤◌, ◌<◌, ◌≡◌, refl, sym, ap, subst, ◌∙◌, Bool, true, false, cond, ◌||◌, Some, None, List, [], ◌∷◌, ◌++◌, map, length, get_or, set, take, drop, replicate, arith, add-one, ltb, ltb-true, ltb-false, Option, length-set, length-append, take-append-drop, get_or-take, length-take-le, take-suc-set, drop-set-lt, le-leb}
+use Rattle.std.proofs.Common.{ℕ, suc, ◌+◌, ◌-◌, ◌≤◌, ◌<◌, ◌≡◌, refl, sym, ap, subst, ◌∙◌, Bool, true, false, cond, ◌||◌, Some, None, List, [], ◌∷◌, ◌++◌, map, length, get_or, set, take, drop, replicate, arith, add-one, length-set, length-append, take-append-drop, get_or-take, length-take-le, take-suc-set, drop-set-lt, le-leb}
 use Rattle.std.proofs.lemmas.List.{map-append}
 use Rattle.std.proofs.Math.ListN.{length-map, get_or-replicate}
 use Rattle.std.proofs.Math.Seq.{take-set-lt}
 use borrow.Author.Tests.{lt-leb}
-use Rattle.std.specs.List.{list_any, position_or_len}
+use Rattle.std.specs.List.{list_any}
 use Rattle.std.proofs.lemmas.List.Recursion.{is_position_or_len}
+use Rattle.std.proofs.lemmas.List.Sums.{position_or_len_is}
 use Rattle.geom.specs.declared.Rect.{Rect}
 use Rattle.geom.specs.declared.inner.rect16.Rect16.{Rect16}
 use Rattle.geom.specs.Geom.{rect, is_empty, contains_rect, union}
@@ -86,28 +87,29 @@ none_merges a (e ∷ l) h = go (merges (rect_of e) a) h (none_merges a l)
     go true j ih = absurd (omega arith)
     go false j ih = ap (λ (r : List Rect). rect_of e ∷ r) (ih (omega arith))
 
-pub merges_at : (d : Damage) → RepDamage d → (a : Rect) (r : Option ℕ)
-    → r ≡ cond (ltb (position_or_len (λ e. merges (rect_of e) a) (take d.len d.areas)) (length (take d.len d.areas))) (Some (position_or_len (λ e. merges (rect_of e) a) (take d.len d.areas))) None
-    → MergesAt d a r
-merges_at d ok a r is = go (ltb p (length es)) refl is
-  where
-    es : List Rect16
-    es = take d.len d.areas
+-- the entries as the code reads them, with the first i seen: none of these merges with the area
+module _ (d : Damage) (ok : RepDamage d) (a : Rect) (es : List Rect16) (is : es ≡ take d.len d.areas) (i : ℕ) (within : i ≤ length es)
+    (none : (k : ℕ) → k < i → merges (rect_of (get_or es k no_rect16)) a ≡ false) where
+  seen : (i < length es → merges (rect_of (get_or es i no_rect16)) a ≡ true) → before a es ≡ i
+  seen here =
+      is_position_or_len (before a) (λ e. merges (rect_of e) a) refl (λ x xs. refl) es
+      ∙ position_or_len_is (λ e. merges (rect_of e) a) es i no_rect16 within none here
 
-    p : ℕ
-    p = position_or_len (λ e. merges (rect_of e) a) es
+  pub none_found : length es ≤ i → MergesAt d a None
+  none_found past =
+      subst (λ (l : List Rect16). merge_or_append (map rect_of l) a ≡ map rect_of l ++ (a ∷ [])) is
+      (none_merges a es (omega (arith, seen (λ l. absurd (omega (arith, l))))))
 
-    first : before a es ≡ p
-    first = is_position_or_len (before a) (λ e. merges (rect_of e) a) refl (λ x xs. refl) es
-
-    many : length es ≡ d.len
-    many = length-take-le d.len d.areas (omega (arith, ok.areas, ok.len))
-
-    go : (b : Bool) → ltb p (length es) ≡ b → r ≡ cond b (Some p) None → MergesAt d a r
-    go true t e =
-        let l : p < d.len = omega (arith, ltb-true p (length es) t, many) in
-        rw e (l, merged_at a es p (sym first) (ltb-true p (length es) t) ∙ ap (λ (x : Rect16). set (map rect_of es) p (union (rect_of x) a)) (get_or-take d.len d.areas p no_rect16 l))
-    go false t e = rw e (none_merges a es (omega (arith, ltb-false p (length es) t, first)))
+  pub first_found : i < length es → merges (rect_of (get_or es i no_rect16)) a ≡ true → MergesAt d a (Some i)
+  first_found inside here =
+      let many : length es ≡ d.len = ap (λ (l : List Rect16). length l) is ∙ length-take-le d.len d.areas (omega (arith, ok.areas, ok.len)) in
+      let l : i < d.len = omega arith in (
+        l,
+        subst (λ (l : List Rect16). merge_or_append (map rect_of l) a ≡ set (map rect_of l) i (union (rect_of (get_or es i no_rect16)) a)) is
+            (merged_at a es i (sym (seen (λ _. here))) inside)
+            ∙ ap (λ (x : Rect16). set (map rect_of (take d.len d.areas)) i (union (rect_of x) a))
+            (ap (λ (l : List Rect16). get_or l i no_rect16) is ∙ get_or-take d.len d.areas i no_rect16 l),
+      )
 
 -- The area added -----------------------------------------------------------------------------------------------------
 
