@@ -11,6 +11,7 @@ use Rattle.std.proofs.lemmas.List.Sums.{position_or_len_is}
 use Rattle.geom.specs.declared.Rect.{Rect}
 use Rattle.geom.specs.declared.inner.rect16.Rect16.{Rect16}
 use Rattle.geom.specs.Geom.{rect, is_empty, contains_rect, union}
+use Rattle.geom.specs.inner.Fits.{Fits}
 use Rattle.geom.specs.Rect16.{Small, rect_of, no_rect16, rect16_of}
 use Rattle.geom.proofs.basics.Lists.{set_in, set_case, map_set}
 use Rattle.window.specs.declared.damage.Damage.{Damage}
@@ -22,6 +23,9 @@ use Rattle.window.specs.inner.Changes.{PastAs, MergesAt, JoinedTo, Dirtied}
 
 pub small_low : (r : Rect) → Small r → Low r
 small_low r h = omega arith
+
+pub low_fits : (r : Rect) → Low r → Fits r
+low_fits r h = omega arith
 
 pub low_union : (e a : Rect) → Low e → Small a → Low (union e a)
 unfolding union
