@@ -26,8 +26,9 @@ fn draw_rows<const DIM: bool>(
     }
 }
 
-// The window's pixels begin at `base` of the store. The numbers of both areas are the caller's own, worked out for this one call: a struct of them
-// would be made there and taken apart here. Whether dimming is on is asked once, and not for each row.
+// The window's pixels begin at `base` of the store. The numbers of both areas are the caller's own, worked out for this
+// one call: a struct of them would be made there and taken apart here. Whether dimming is on is asked once, and not for
+// each row.
 pub fn draw_area(
     px: &mut [u32],
     pitch: usize,

@@ -57,8 +57,8 @@ fn shade_each(px: &mut [u32], at: usize, src: &[u32], from: usize, n: u16, table
 
 // Are eight pixels all alike? The last four are compared with the first, and then the three between: in runs of a
 // colour these are alike where the last four are, so that the processor foresees the second branch. The answers are
-// added up: of seven joined by `&` the compiler makes a branch on the first five pixels, and one on each of the others, and
-// of the slice's `all` seven branches.
+// added up: of seven joined by `&` the compiler makes a branch on the first five pixels, and one on each of the others,
+// and of the slice's `all` seven branches.
 fn are_alike(src: &[u32], at: usize) -> bool
     requires { at + 8 ≤ length src.now }
     ensures { result ≡ true → part at 8 src.now ≡ replicate 8 (get_or src.now at 0) }

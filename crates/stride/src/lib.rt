@@ -1,5 +1,5 @@
-// Pixels with the stride of their rows: `StrideBuf` of video/mod.rs, with its names. The work is done over a slice and a number,
-// here by `rows` and in `winbuf` by `region`; the methods take the struct apart, and nothing else.
+// Pixels with the stride of their rows: `StrideBuf` of video/mod.rs, with its names. The work is done over a slice and
+// a number, here by `rows` and in `winbuf` by `region`; the methods take the struct apart, and nothing else.
 #![tactic(auto)]
 
 ghost use Rattle.std.specs.Prelude.{◌≡◌, length};

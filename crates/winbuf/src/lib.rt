@@ -1,7 +1,8 @@
 // Pixels in a lent slice: document 01, "Pixels". Translated from winbuf.rs, with its names.
 //
-// The calls here take any arguments and ask questions 5 and 13. Our own crates, which know what they lend, call `inner`.
-// A scanline is given by the picture's width and height, a line, an offset and a length: the five numbers of document 01, which no call keeps.
+// The calls here take any arguments and ask questions 5 and 13. Our own crates, which know what they lend, call
+// `inner`. A scanline is given by the picture's width and height, a line, an offset and a length: the five numbers of
+// document 01, which no call keeps.
 #![tactic(auto)]
 
 ghost use Rattle.std.specs.Prelude.{◌≡◌, ◌≤◌, IfOk};
@@ -17,8 +18,8 @@ use std::ops::Range;
 
 pub mod inner;
 
-// Where a scanline, cut to the width, lies in pixels of which there are `total`. Who writes through `&mut pixels[range]` knows what `pixels` hold
-// afterwards.
+// Where a scanline, cut to the width, lies in pixels of which there are `total`. Who writes through `&mut
+// pixels[range]` knows what `pixels` hold afterwards.
 #[tactic(auto, unfolding(crate::specs::Pixels::scanline_range))]
 pub fn scanline_range(
     total: usize,
@@ -53,7 +54,8 @@ pub fn scanline_rgn<'a>(
     Ok(&pixels[range])
 }
 
-// Returns how many pixels differ afterwards. A line or an offset beside the picture does nothing, here and in `set_scanline`.
+// Returns how many pixels differ afterwards. A line or an offset beside the picture does nothing, here and in
+// `set_scanline`.
 #[tactic(auto, using(scanline::proofs::rows::Altered::altered_same), unfolding(crate::specs::Pixels::line_written))]
 pub fn fill_scanline(
     pixels: &mut [u32],
@@ -94,7 +96,8 @@ pub fn set_scanline(
     }
 }
 
-// The rows of a rectangle of a picture whose rows begin `stride` apart: one part of `pixels`, with what lies between the rows.
+// The rows of a rectangle of a picture whose rows begin `stride` apart: one part of `pixels`, with what lies between
+// the rows.
 #[tactic(auto, unfolding(crate::specs::Pixels::region))]
 pub fn region<'a>(
     pixels: &'a [u32],

@@ -1,4 +1,5 @@
-// The rows of a rectangle of pixels: filled, or set from lent data. Each function returns how many pixels differ afterwards.
+// The rows of a rectangle of pixels: filled, or set from lent data. Each function returns how many pixels differ
+// afterwards.
 ghost use Rattle.std.specs.Prelude.{◌≡◌, ◌+◌, ◌*◌, ◌/◌, ◌≤◌, min, length, take, replicate};
 ghost use Rattle.scanline.specs.Pixels.{write_rows, part};
 ghost use Rattle.scanline.specs.inner.Rows.{Fit, Inside, Counted};
@@ -73,8 +74,8 @@ pub fn blit_rows(
     altered + set_part(px, at + full * pitch, src, from, rest)
 }
 
-// An area of a window becomes `v`. Here and below, the area's numbers are worked out by the caller for this one call: a struct of them would be made
-// there and taken apart here.
+// An area of a window becomes `v`. Here and below, the area's numbers are worked out by the caller for this one call: a
+// struct of them would be made there and taken apart here.
 pub fn fill_area(
     px: &mut [u32],
     base: usize,

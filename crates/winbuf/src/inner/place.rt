@@ -25,7 +25,8 @@ fn on_line(width: u32, height: u32, line: u32, ofs: u32) -> bool
     line < height && ofs < width
 }
 
-// A scanline, cut to the width, of pixels of which there are `total`; none where the line or the offset lies beside the picture.
+// A scanline, cut to the width, of pixels of which there are `total`; none where the line or the offset lies beside the
+// picture.
 pub fn line_place(
     total: usize,
     width: u32,
