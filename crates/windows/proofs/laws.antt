@@ -1,5 +1,6 @@
 -- The view, the two ends of a call, and what each call does to the session.
 pub mod Asked
+pub mod Refused
 pub mod Session
 pub mod Shared
 pub mod Dimmed
@@ -9,6 +10,7 @@ pub mod Frames
 pub mod Framed
 pub mod Above
 pub mod Find
+pub mod Under
 pub mod Created
 pub mod Shown
 pub mod Raised
@@ -20,8 +22,6 @@ pub mod Pixels
 pub mod Maximised
 pub mod Planned
 pub mod Updated
-pub mod Turns
-pub mod DragPlan
 pub mod Dragged
 pub mod Listed
 pub mod InView

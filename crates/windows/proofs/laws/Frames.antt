@@ -8,7 +8,7 @@ use mathlib.Core.Option.{Option, none, some, none-ne-some, some-ne-none}
 use mathlib.Core.Logic.{◌⊎◌, inl, inr}
 use native.Mathlib.Omega.{arith}
 use lib.Dec.{eqb}
-use lib.ListN.{get_or, set, length-set}
+use lib.ListN.{length, take, get_or, set, length-set}
 use Rattle.geom.specs.declared.Rect.{Rect}
 use Rattle.geom.specs.declared.inner.rect16.Rect16.{Rect16}
 use Rattle.geom.specs.Geom.{is_empty, contains}
@@ -27,6 +27,8 @@ use Rattle.rules.proofs.group.Topmost.{topmost_tops}
 use Rattle.rules.proofs.group.Steps.{grabber_grab}
 use Rattle.order.specs.declared.frames.Frames.{Frames}
 use Rattle.order.specs.Ids.{ids}
+use Rattle.order.proofs.laws.Order.{shown_front}
+use Rattle.window.specs.declared.ids.WinId.{WinId}
 use Rattle.order.specs.inner.Frames.{frame_at, Shown}
 use Rattle.topmost.specs.inner.Topmost.{topmost_at, taker_at}
 use Rattle.windows.specs.declared.Session.{Session}
@@ -113,6 +115,12 @@ module _ (s : Session) (h : Given s) (f : Frames) (is : Framed s 16 f) where
         low = λ p l. id_low s h p l (get_or s.shared.order p no_id) refl;
         small = λ i l. subst Small (sym (ap rect_of (is.at i l))) (h.rep.each i l).at;
       }
+
+  -- so do those that are lent
+  pub order_lent : {l : List WinId} → l ≡ take s.shared.shown s.shared.order → Shown f.areas l (length l)
+  order_lent e =
+      subst (λ (l : List WinId). Shown f.areas l (length l)) (sym e)
+      (shown_front f.areas s.shared.order s.shared.shown order_lies h.rep.order)
 
   topmost_is : (x y : ℕ) → topmost_at (frame_at f.areas) x y (ids s.shared.shown s.shared.order) none ≡ topmost (group s) x y
   unfolding group
