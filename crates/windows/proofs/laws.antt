@@ -7,7 +7,6 @@ pub mod Dimmed
 pub mod One
 pub mod Places
 pub mod Frames
-pub mod Framed
 pub mod Above
 pub mod Find
 pub mod Under
@@ -32,7 +31,6 @@ pub mod Full
 pub mod Cleaned
 pub mod Drawn
 pub mod Portions
-pub mod Course
 pub mod Stale
 pub mod Parts
 pub mod Popping

@@ -1,6 +1,6 @@
 -- An event aimed at a point.
-use Prim.Native.Nat.{ℕ, suc, ◌-◌, ◌≤◌, ◌<◌}
-use mathlib.Core.Path.{◌≡◌, refl, sym, ap, subst, ◌∙◌}
+use Prim.Native.Nat.{ℕ, ◌-◌, ◌≤◌}
+use mathlib.Core.Path.{◌≡◌, sym, ap, subst, ◌∙◌}
 use mathlib.Core.Bool.{Bool, true, false, cond, ◌&&◌}
 use lib.Dec.{eqb, eqb-suc-zero}
 use Rattle.geom.specs.Refusals.{number}
@@ -14,7 +14,7 @@ use Rattle.geom.specs.declared.Rect.{Rect}
 use Rattle.geom.specs.declared.inner.rect16.Rect16.{Rect16}
 use Rattle.geom.specs.Questions.{small}
 use Rattle.geom.specs.Geom.{left, top}
-use Rattle.geom.proofs.basics.Tests.{clash, fst, snd}
+use Rattle.geom.proofs.basics.Tests.{fst, snd}
 use Rattle.geom.proofs.geometry.Facts.{In}
 use Rattle.window.specs.declared.Event.{Event}
 use Rattle.window.specs.declared.Window.{Window}

@@ -1,5 +1,5 @@
 -- Marks and damage cleared of the windows that were drawn: of one, and of all that stand in the order.
-use Rattle.std.specs.Prelude.{ℕ, suc, ◌+◌, ◌≤◌, ◌<◌, ◌≡◌, Bool, true, false, cond, ◌||◌, List, [], ◌∷◌, length, get_or, drop}
+use Rattle.std.specs.Prelude.{ℕ, suc, ◌+◌, ◌≤◌, ◌<◌, ◌≡◌, Bool, true, false, cond, ◌||◌, [], ◌∷◌, get_or, drop}
 use Rattle.std.proofs.Math.Option.{some}
 use mathlib.Core.Path.{refl, sym, ap, subst, ◌∙◌}
 use native.Mathlib.Numerals.{add-one}
@@ -12,7 +12,7 @@ use Rattle.window.specs.declared.ids.WinId.{WinId}
 use Rattle.window.specs.Window.{Win}
 use Rattle.window.specs.Represents.{RepWindow}
 use Rattle.window.specs.inner.Ids.{no_id}
-use Rattle.rules.specs.Group.{Group, win, set_win}
+use Rattle.rules.specs.Group.{win, set_win}
 use Rattle.rules.specs.Redraw.{clean, clean_all}
 use Rattle.windows.specs.declared.Session.{Session}
 use Rattle.windows.specs.View.{group, blank, window_at, Rep, Given}

@@ -8,7 +8,6 @@ use native.Mathlib.Numerals.{add-one}
 use native.Mathlib.Omega.{arith}
 use Rattle.geom.specs.Refusals.{option_of}
 use Rattle.window.specs.declared.Window.{Window}
-use Rattle.window.specs.Window.{Win, new_win}
 use Rattle.window.specs.Represents.{win_of, RepWindow}
 use Rattle.rules.specs.Group as Group
 use Rattle.rules.specs.Group.{first_free, set_win}

@@ -1,5 +1,5 @@
 -- A drag: the window at its new place, and those below it that it uncovered, one after the other.
-use Rattle.std.specs.Prelude.{ℕ, suc, ◌+◌, ◌≤◌, ◌<◌, ◌≡◌, Bool, true, false, cond, ◌&&◌, List, [], ◌∷◌, length, get_or, map, take, drop}
+use Rattle.std.specs.Prelude.{ℕ, suc, ◌+◌, ◌≤◌, ◌<◌, ◌≡◌, Bool, true, false, ◌&&◌, ◌∷◌, length, get_or, map, take, drop}
 use Rattle.std.proofs.Math.Option.{none, some}
 use mathlib.Core.Path.{refl, sym, ap, subst, ◌∙◌}
 use native.Mathlib.Numerals.{add-one}
@@ -10,15 +10,15 @@ use borrow.Author.Tests.{leb-true}
 use Rattle.geom.specs.declared.Rect.{Rect}
 use Rattle.geom.specs.Questions.{small}
 use Rattle.geom.specs.Geom.{meets}
-use Rattle.geom.proofs.basics.Tests.{fst, snd, on_cond}
+use Rattle.geom.proofs.basics.Tests.{fst, snd}
 use Rattle.geom.proofs.basics.Lists.{set_in}
 use Rattle.window.specs.declared.Window.{Window}
 use Rattle.window.specs.declared.ids.WinId.{WinId}
 use Rattle.window.specs.Window.{Win}
 use Rattle.window.specs.Represents.{win_of, RepWindow}
 use Rattle.window.specs.inner.Ids.{no_id}
-use Rattle.rules.specs.Group.{Group, win, win_at, used, with_windows, set_win, set_maximised, moved_to, moved, owing}
-use Rattle.rules.specs.Order.{place_of, shown}
+use Rattle.rules.specs.Group.{win, used, with_windows, set_win, set_maximised, moved_to, moved, owing}
+use Rattle.rules.specs.Order.{shown}
 use Rattle.rules.specs.Repair.{pending, wholly_repaired}
 use Rattle.rules.specs.Drag as Rule
 use Rattle.rules.specs.Drag.{below, uncovered, uncovered_all, dragged}
@@ -28,7 +28,7 @@ use Rattle.order.specs.Ids.{num, ids}
 use Rattle.order.specs.inner.Order.{render_idx}
 use Rattle.order.proofs.laws.Order.{ids_length, ids_from, ids_take}
 use Rattle.windows.specs.declared.Session.{Session}
-use Rattle.windows.specs.View.{cell, group, blank, window_at, done, Rep, Given, Meets}
+use Rattle.windows.specs.View.{group, blank, window_at, done, Rep, Given, Meets}
 use Rattle.windows.specs.inner.One.{with_window}
 use Rattle.windows.specs.inner.Pixels.{Becomes}
 use Rattle.windows.specs.inner.Sharing.{with_maximised, sharing, indebted}

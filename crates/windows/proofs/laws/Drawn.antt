@@ -4,16 +4,14 @@ use mathlib.Core.Path.{◌≡◌, refl, sym, ap, subst, ◌∙◌}
 use mathlib.Core.Bool.{Bool, true, false, cond, ◌||◌}
 use mathlib.Core.List.{List, [], ◌∷◌, map}
 use native.Mathlib.Omega.{arith}
-use native.Mathlib.Nat.{mul-le-mul_right, suc-ne-zero}
+use native.Mathlib.Nat.{mul-le-mul_right}
 use native.Mathlib.Numerals.{add-one}
 use lib.ListN.{length, get_or, take, drop, drop_of_length-le, length-map, length-drop}
 use lib.Seq.{drop-cons}
 use Rattle.std.proofs.lemmas.List.{drop-take}
-use borrow.Author.Tests.{leb-true, eqb-true}
 use Rattle.geom.specs.declared.Rect.{Rect}
 use Rattle.geom.specs.Lists.{outside_all, relative, list_intersect}
 use Rattle.geom.specs.Rect16.{rect_of}
-use Rattle.geom.proofs.basics.Tests.{fst, snd}
 use Rattle.window.specs.declared.ids.WinId.{WinId}
 use Rattle.window.specs.Window.{Win}
 use Rattle.window.specs.Represents.{win_of, rects}
@@ -22,13 +20,12 @@ use Rattle.rules.specs.Group.{Group, win}
 use Rattle.rules.specs.Visible.{visible}
 use Rattle.rules.specs.Redraw.{none?, regions, is_drawn, draw_window, draw_all, clean_all, paid, screen_fits}
 use Rattle.rules.specs.Redraw as Draw
-use Rattle.rules.specs.Store.{whole}
 use Rattle.rules.specs.Calls.{Call, Redraw, does}
 use Rattle.rules.specs.inner.Lent.{AllFit}
 use Rattle.rules.proofs.group.Invariant.{WinOk}
 use Rattle.windows.specs.declared.Session.{Session}
 use Rattle.order.specs.declared.rects.Rects.{Rects}
-use Rattle.windows.specs.View.{walk_of, group, window_at, Rep, Given, Meets, MeetsScreen, done}
+use Rattle.windows.specs.View.{walk_of, group, window_at, Rep, Given, MeetsScreen, done}
 use Rattle.windows.specs.inner.Sharing.{noted, sharing}
 use Rattle.due.specs.inner.Due.{walk_at}
 use Rattle.windows.specs.inner.Drawing.{Painting, painted}
@@ -138,10 +135,6 @@ module _ {s : Session} {full : Bool} {store : List ℕ} {sw sh : ℕ} {first scr
   draw_end l = ap (λ (o : List ℕ). draw_all (group s) full store sw sh o screen) (sym (drop_of_length-le (group s).order {i = i} (omega (arith, order_length s h)))) ∙ q.left
 
 -- The call -------------------------------------------------------------------------------------------------------------
-
--- question 8 as facts
-pub screen_facts : (sw sh : ℕ) (screen : List ℕ) → screen_fits sw sh screen ≡ true → (sw ≤ 32767) × (sh ≤ 32767) × (length screen ≡ sw * sh)
-screen_facts sw sh screen e = search (fst, snd, leb-true, eqb-true)
 
 -- a session that pays its debt and drops its walk
 abbrev pub without_debt : Session → Session

@@ -1,16 +1,15 @@
 -- What is found of an id: the ways out of the look-up, and what the queries know of what it gives.
-use Rattle.std.specs.Prelude.{ℕ, suc, ◌+◌, ◌≤◌, ◌<◌, ◌≡◌, true, false, List, map, length, take, drop, Ok, Err, Some, None}
+use Rattle.std.specs.Prelude.{ℕ, suc, ◌+◌, ◌≤◌, ◌≡◌, true, List, map, length, take, drop, Ok, Some, None}
 use Rattle.std.proofs.Math.Option.{none, some}
 use mathlib.Core.Path.{sym, ap, subst, ◌∙◌}
 use native.Mathlib.Omega.{arith}
 use lib.ListN.{length-map, length-drop}
 use Rattle.geom.specs.declared.Rect.{Rect}
-use Rattle.geom.specs.declared.refusal.Refusal.TheVariants.{UnknownId}
 use Rattle.geom.specs.inner.Fits.{Fits}
 use Rattle.geom.specs.Rect16.{rect_of, Small}
 use Rattle.window.specs.Window.{Win}
 use Rattle.rules.specs.Group.{used, win}
-use Rattle.rules.specs.Order.{place_of, above, shown}
+use Rattle.rules.specs.Order.{place_of, above}
 use Rattle.rules.specs.inner.Lent.{AllFit}
 use Rattle.order.specs.declared.rects.Rects.{Rects}
 use Rattle.order.specs.Ids.{ids}

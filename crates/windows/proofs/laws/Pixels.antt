@@ -1,7 +1,7 @@
 -- One window's pixels in the store: the part of an area that lies in the window, and what fill and blit make of it.
 use Prim.Native.Nat.{ℕ, ◌+◌, ◌*◌, ◌-◌, ◌≤◌, ◌<◌, min, max}
 use mathlib.Core.Path.{◌≡◌, refl, sym, ap, subst, ◌∙◌}
-use mathlib.Core.Bool.{Bool, true, false}
+use mathlib.Core.Bool.{true, false}
 use mathlib.Core.List.{List}
 use mathlib.Core.Logic.{⊎_elim}
 use native.Mathlib.Nat.{mul-le-mul_right, mul_comm}
@@ -12,7 +12,7 @@ use borrow.Author.Tests.{ltb-true, lt-ltb}
 use Rattle.geom.specs.declared.Rect.{Rect}
 use Rattle.geom.specs.declared.inner.rect16.Rect16.{Rect16}
 use Rattle.geom.specs.Geom.{rect, left, top, width, height, is_empty, meets, common}
-use Rattle.geom.specs.inner.Fits.{Fits, Within}
+use Rattle.geom.specs.inner.Fits.{Within}
 use Rattle.geom.specs.Rect16.{Small}
 use Rattle.geom.proofs.basics.Tests.{clash, on_cond, lt_or_le}
 use Rattle.geom.proofs.geometry.Facts.{Meet, says_meet, solid, common_within}

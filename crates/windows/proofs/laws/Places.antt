@@ -10,7 +10,7 @@ use Rattle.std.specs.Option.{is_some}
 use native.Mathlib.Omega.{arith}
 use native.Mathlib.Nat.{not-suc-le-zero}
 use lib.Dec.{eqb}
-use lib.ListN.{length, get_or, take, drop}
+use lib.ListN.{length, get_or, drop}
 use borrow.Author.Tests.{eqb-true, eq-eqb}
 use Rattle.geom.proofs.basics.Tests.{clash, is_false}
 use Rattle.window.specs.declared.ids.WinId.{WinId}

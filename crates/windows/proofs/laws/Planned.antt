@@ -1,21 +1,17 @@
 -- The questions of update_dims, and the pixels: the lists by number that the code goes through say of each window what the rule says of it.
 use Prim.Native.Nat.{ℕ, suc, ◌+◌, ◌*◌, ◌≤◌, ◌<◌}
-use mathlib.Core.Path.{◌≡◌, refl, sym, ap, subst, subst₂, ◌∙◌}
+use mathlib.Core.Path.{◌≡◌, refl, sym, ap, subst, ◌∙◌}
 use mathlib.Core.Bool.{Bool, true, false, cond, not, ◌&&◌, ◌||◌}
 use mathlib.Core.List.{List, [], ◌∷◌}
 use mathlib.Core.Option.{Option, none, some}
-use native.Mathlib.Decide.{ℕ_discrete}
-use native.Mathlib.Nat.{not-suc-le-zero}
 use native.Mathlib.Omega.{arith}
 use lib.Dec.{eqb, eqb-suc-zero}
-use lib.ListN.{length, get_or, set, length-set, length-map}
-use lib.Seq.{get_or-set_same, get_or-set_other}
+use lib.ListN.{length, get_or, length-map}
 use borrow.Author.Tests.{leb-true}
 use Rattle.geom.specs.declared.inner.rect16.Rect16.{Rect16}
 use Rattle.geom.specs.Geom.{width, height}
 use Rattle.geom.specs.Rect16.{rect_of, no_rect16}
 use Rattle.geom.proofs.basics.Tests.{fst}
-use Rattle.geom.proofs.basics.Lists.{set_in}
 use Rattle.window.specs.Window.{Win}
 use Rattle.window.specs.Represents.{win_of}
 use Rattle.rules.specs.Group.{Group, win_at, is_maximised}

@@ -1,5 +1,5 @@
 -- A walk: begun, and one portion of it, in which the next window is drawn and cleaned and the walk goes on.
-use Prim.Native.Nat.{ℕ, suc, ◌+◌, ◌*◌, ◌≤◌, ◌<◌}
+use Prim.Native.Nat.{ℕ, suc, ◌+◌, ◌*◌, ◌<◌}
 use mathlib.Core.Path.{◌≡◌, refl, sym, ap, subst, ◌∙◌}
 use mathlib.Core.Bool.{Bool, true, false, cond, ◌||◌}
 use mathlib.Core.List.{List, [], ◌∷◌}
@@ -11,11 +11,9 @@ use lib.Seq.{drop-cons}
 use Rattle.geom.specs.declared.Rect.{Rect}
 use Rattle.window.specs.declared.Window.{Window}
 use Rattle.window.specs.declared.ids.WinId.{WinId}
-use Rattle.window.specs.Window.{Win}
-use Rattle.window.specs.Represents.{RepWindow}
 use Rattle.window.specs.inner.Ids.{no_id}
-use Rattle.rules.specs.Group.{win, set_win, settle}
-use Rattle.rules.specs.Redraw.{is_drawn, clean, clean_all, draw_window, screen_fits}
+use Rattle.rules.specs.Group.{settle}
+use Rattle.rules.specs.Redraw.{clean_all, draw_window, screen_fits}
 use Rattle.rules.specs.Walk as Rule
 use Rattle.rules.specs.Store.{whole}
 use Rattle.rules.specs.Calls.{Call, Begin, Portion, does}
@@ -29,11 +27,10 @@ use Rattle.windows.specs.declared.Session.{Session}
 use Rattle.windows.specs.View.{walk_of, group, window_at, Rep, Given, Meets, MeetsScreen, done}
 use Rattle.windows.specs.inner.One.{with_window}
 use Rattle.windows.specs.inner.Drawing.{Painting, painted}
-use Rattle.windows.specs.inner.Sharing.{noted, sharing, onward, wiped, cleaned_if}
-use Rattle.windows.proofs.laws.Session.{put_window, put_group, put_rep, is_whole, isnt_whole, given_ok, refuses, gives}
+use Rattle.windows.specs.inner.Sharing.{noted, sharing, onward, cleaned_if}
+use Rattle.windows.proofs.laws.Session.{is_whole, isnt_whole, given_ok, refuses, gives}
 use Rattle.windows.proofs.laws.Shared.{settled_group, settled_rep}
-use Rattle.windows.proofs.laws.One.{put_back}
-use Rattle.windows.proofs.laws.Places.{order_length, id_at, id_low, is_used, win_there}
+use Rattle.windows.proofs.laws.Places.{order_length, id_at, id_low, is_used}
 use Rattle.windows.proofs.laws.Above.{higher}
 use Rattle.windows.proofs.laws.Cleaned.{with_clean, cleans}
 use Rattle.windows.proofs.laws.Drawn.{in_store, drawn_under}

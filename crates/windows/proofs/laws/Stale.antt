@@ -1,7 +1,7 @@
 -- What is stale: each window has the regions that the code lends, those of the course have all that would be written,
 -- and the sides that were found are those of the smallest rectangle.
 use Prim.Native.Nat.{ℕ, suc, ◌+◌, ◌-◌, ◌≤◌, ◌<◌}
-use mathlib.Core.Path.{◌≡◌, refl, sym, ap, subst, subst₂, ◌∙◌}
+use mathlib.Core.Path.{◌≡◌, refl, sym, ap, subst, ◌∙◌}
 use mathlib.Core.Bool.{Bool, true, false, cond, not, ◌&&◌, ◌||◌, and-false, or-false, or_assoc}
 use mathlib.Core.Logic.{⊎_elim}
 use mathlib.Core.List.{List, [], ◌∷◌, ◌++◌, map, map-append}
@@ -16,13 +16,13 @@ use Rattle.geom.specs.declared.refusal.Refusal.{Refusal}
 use Rattle.geom.specs.declared.refusal.Refusal.TheVariants.{TooLarge}
 use Rattle.geom.specs.Refusals.{number}
 use Rattle.geom.specs.Questions.{◌is◌, asked}
-use borrow.Author.Tests.{lt-ltb, ltb-true, ltb-false, leb-true, le-leb, eq-eqb}
+use borrow.Author.Tests.{ltb-true, ltb-false, leb-true, le-leb, eq-eqb}
 use Rattle.geom.specs.declared.Rect.{Rect}
 use Rattle.geom.specs.Geom.{rect, small_rect, contains, meets}
 use Rattle.geom.specs.inner.Fits.{Fits}
 use Rattle.geom.specs.Lists.{outside_all, meets_of, list_intersect, any_has}
 use Rattle.geom.specs.Rect16.{Small, rect_of}
-use Rattle.geom.proofs.basics.Tests.{is_false, clash, fst, snd, both, on_cond}
+use Rattle.geom.proofs.basics.Tests.{is_false, clash, fst, snd, on_cond}
 use Rattle.geom.proofs.geometry.Cover.{any_has_append}
 use Rattle.geom.proofs.geometry.Facts.{says_in, says_meet}
 use Rattle.geom.proofs.geometry.Pieces.{left_within}
@@ -49,7 +49,6 @@ use Rattle.windows.specs.declared.Session.{Session}
 use Rattle.windows.specs.declared.stale_rect.Course.{Course}
 use Rattle.windows.specs.View.{walk_of, group, window_at, Given, stale_in, stale_of}
 use Rattle.windows.specs.inner.Stale.{between, course_of, seen, written, written_in, found_by}
-use Rattle.windows.proofs.laws.Session.{given_ok}
 use Rattle.windows.proofs.laws.Refused.{before}
 use Rattle.windows.proofs.laws.Places.{order_length, id_at, shown_at, win_there, above_there}
 use Rattle.windows.proofs.laws.Above.{higher}

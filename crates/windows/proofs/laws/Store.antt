@@ -10,7 +10,7 @@ use lib.Dec.{ltb, eqb, eqb-suc-zero}
 use lib.ListN.{length, set}
 use lib.Seq.{set-get_or}
 use borrow.Author.Tests.{leb-true, ltb-true, lt-ltb, eq-eqb}
-use Rattle.std.specs.Prelude.{Result, Ok, Err}
+use Rattle.std.specs.Prelude.{Ok, Err}
 use Rattle.geom.specs.declared.Rect.{Rect}
 use Rattle.geom.specs.declared.refusal.Refusal.{Refusal}
 use Rattle.geom.specs.Refusals.{number}

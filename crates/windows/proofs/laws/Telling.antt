@@ -1,5 +1,5 @@
 -- A window told of an event: a move, an event that finds a free place, and one that does not; and the window in its session.
-use Prim.Native.Nat.{ℕ, zero, suc, ◌+◌, ◌≤◌, ◌<◌}
+use Prim.Native.Nat.{ℕ, zero, suc, ◌≤◌, ◌<◌}
 use mathlib.Core.Path.{◌≡◌, refl, sym, ap, subst, ◌∙◌}
 use mathlib.Core.Bool.{Bool, true, false, cond}
 use mathlib.Core.List.{List, [], ◌∷◌, ◌++◌}
@@ -7,11 +7,9 @@ use mathlib.Core.Option.{Option, some}
 use native.Mathlib.Omega.{arith}
 use lib.IntN.{ℤ}
 use lib.Dec.{ltb, eqb, eqb-suc-zero}
-use lib.ListN.{length, set}
-use lib.Seq.{set-get_or}
+use lib.ListN.{length}
 use borrow.Author.Tests.{lt-ltb, le-ltb}
 use Rattle.geom.specs.Questions.{Question, ◌is◌, asked}
-use Rattle.geom.proofs.basics.Tests.{clash}
 use Rattle.window.specs.declared.Event.{Event}
 use Rattle.window.specs.declared.Event.TheVariants.{Resize, KeyDown, KeyUp, KeyFire, Text, MouseMove, MouseDown, MouseClick, MouseUp}
 use Rattle.window.specs.declared.CursorPos.{CursorPos}
@@ -19,15 +17,13 @@ use Rattle.window.specs.declared.Window.{Window}
 use Rattle.window.specs.declared.queue.Queue.{Queue}
 use Rattle.window.specs.declared.ids.WinId.{WinId}
 use Rattle.window.specs.Window.{Win, pushed, cursor_to}
-use Rattle.window.specs.Represents.{place, no_slot, win_of, events, RepCursor, RepWindow}
-use Rattle.window.specs.inner.Changes.{Queued, slot_of, PushedTo}
+use Rattle.window.specs.Represents.{win_of, events, RepCursor, RepWindow}
+use Rattle.window.specs.inner.Changes.{Queued, PushedTo}
 use Rattle.window.proofs.laws.Events.{events_count}
-use Rattle.window.proofs.laws.Events as Queue
 use Rattle.rules.specs.Group.{Group, Outcome, win, set_win, with_grab, leaves}
 use Rattle.rules.specs.Events.{with_queue, with_cursor}
 use Rattle.rules.specs.Calls.{Call, does}
 use Rattle.order.specs.Ids.{grab_of}
-use Rattle.windows.specs.declared.Shared.{Shared}
 use Rattle.windows.specs.declared.Session.{Session}
 use Rattle.windows.specs.View.{group, window_at, Rep, Given, Meets, done}
 use Rattle.windows.specs.inner.One.{with_window}

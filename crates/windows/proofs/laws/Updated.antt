@@ -1,22 +1,19 @@
 -- update_dims: one window after the other goes where the rule says.
-use Prim.Native.Nat.{ℕ, zero, suc, ◌+◌, ◌≤◌, ◌<◌}
+use Prim.Native.Nat.{ℕ, ◌+◌, ◌≤◌, ◌<◌}
 use mathlib.Core.Path.{◌≡◌, refl, sym, ap, subst, ◌∙◌}
-use mathlib.Core.Bool.{Bool, true, false, cond}
+use mathlib.Core.Bool.{Bool, true, false}
 use mathlib.Core.List.{List}
 use mathlib.Core.Option.{Option, none, some}
-use native.Mathlib.Decide.{ℕ_discrete}
 use native.Mathlib.Nat.{not-suc-le-zero}
 use native.Mathlib.Omega.{arith}
-use lib.Dec.{eqb, eqb-suc-zero}
 use lib.ListN.{length, get_or, length-map, get_or-map}
 use lib.Seq.{ext_get_or}
-use borrow.Author.Tests.{eq-eqb}
 use Rattle.geom.specs.declared.Rect.{Rect}
 use Rattle.geom.specs.Rect16.{rect_of, no_rect16, Small}
 use Rattle.geom.proofs.basics.Lists.{set_in}
 use Rattle.window.specs.declared.Window.{Window}
 use Rattle.window.specs.Window.{Win}
-use Rattle.window.specs.Represents.{win_of, RepWindow}
+use Rattle.window.specs.Represents.{win_of}
 use Rattle.rules.specs.Group.{win_at, is_maximised, with_windows, owing}
 use Rattle.rules.specs.Displays as Rule
 use Rattle.rules.specs.Displays.{with_at, updated_at, updated_win, all_updated}
@@ -26,7 +23,7 @@ use Rattle.display.specs.Represents.{regions}
 use Rattle.display.specs.declared.update.Move.{Move}
 use Rattle.display.specs.inner.Update.{Moves, moves_of, place, resizes}
 use Rattle.windows.specs.declared.Session.{Session}
-use Rattle.windows.specs.View.{cell, group, blank, window_at, done, Rep, Given, Meets, MeetsStore}
+use Rattle.windows.specs.View.{cell, group, blank, window_at, done, Rep, Given, MeetsStore}
 use Rattle.windows.specs.inner.One.{with_window}
 use Rattle.windows.specs.inner.Sharing.{indebted, sharing}
 use Rattle.windows.specs.inner.Maximise.{goes, MovesOf}

@@ -1,11 +1,11 @@
 -- A call as a function of one window and of what the windows share: what it promises of every session that holds them.
-use Rattle.std.specs.Prelude.{ℕ, ◌<◌, ◌≡◌, Bool, true, false, List, set}
+use Rattle.std.specs.Prelude.{ℕ, ◌<◌, ◌≡◌, true, false, set}
 use Rattle.window.specs.declared.Window.{Window}
 use Rattle.rules.specs.Calls.{Call}
 use Rattle.windows.specs.declared.Shared.{Shared}
 use Rattle.windows.specs.declared.Session.{Session}
 use Rattle.window.specs.Window.{cursor_at_origin}
-use Rattle.windows.specs.View.{group, window_at, done, Given, Meets, MeetsStore, MeetsMark}
+use Rattle.windows.specs.View.{window_at, done, Given, Meets, MeetsMark}
 
 -- where the window of an id lies: at its number. Any place will do for a number that no window has
 pub record At (id at : ℕ) : Type 0 where
@@ -48,11 +48,6 @@ with_window at w k s = record { windows = set s.windows at w; shared = k; displa
 abbrev pub MeetsAt : Call → ℕ → Window → Shared → Changed → Type 0
 MeetsAt call id w k r =
     (s : Session) (at : ℕ) → Holds id w k s at → Meets call s (done (with_window at r.window r.shared s) r.answer)
-
--- the same of a call that is lent the store, which it leaves as `store`
-abbrev pub MeetsStoreAt : Call → ℕ → Window → Shared → Changed → List ℕ → Type 0
-MeetsStoreAt call id w k r store =
-    (s : Session) (at : ℕ) → Holds id w k s at → MeetsStore call s (done (with_window at r.window r.shared s) r.answer) store
 
 -- the same of a mark
 abbrev pub MeetsMarkAt : ℕ → Window → Shared → Changed → Type 0

@@ -1,18 +1,14 @@
 -- What the windows share, changed part by part; and a window that was drawn.
-use Rattle.std.specs.Prelude.{ℕ, suc, ◌*◌, ◌<◌, ◌≡◌, Bool, true, false, cond, ◌||◌, List, map, eqb, get_or, set, drop}
+use Rattle.std.specs.Prelude.{ℕ, ◌≡◌, Bool, false, cond, ◌||◌, List, eqb, set}
 use Rattle.window.specs.declared.Window.{Window}
 use Rattle.window.specs.declared.ids.WinId.{WinId}
-use Rattle.window.specs.inner.Ids.{no_id}
-use Rattle.rules.specs.Group.{win, layer, give_layer}
+use Rattle.rules.specs.Group.{layer, give_layer}
 use Rattle.rules.specs.Order.{hidden, to_top}
-use Rattle.rules.specs.Calls.{Call}
 use Rattle.due.specs.declared.Due.{Due}
-use Rattle.order.specs.inner.Rects.{Holds}
 use Rattle.due.specs.inner.Due.{owing, further}
 use Rattle.windows.specs.declared.Shared.{Shared}
 use Rattle.windows.specs.declared.Session.{Session}
-use Rattle.windows.specs.View.{group, window_at, done, Rep, Given, MeetsScreen}
-use Rattle.windows.specs.inner.One.{with_window}
+use Rattle.windows.specs.View.{group, Rep, Given}
 
 -- Parts of what is shared set -----------------------------------------------------------------------------------------
 

@@ -1,6 +1,6 @@
 -- Questions 3 and 5; then the window at its new place, and those below it.
 use Rattle.std.specs.Prelude.{ℕ, not, ◌≡◌, false}
-use mathlib.Core.Path.{refl, sym, ap, subst, ◌∙◌}
+use mathlib.Core.Path.{sym, ap, subst, ◌∙◌}
 use Rattle.geom.specs.Rect16.{rect_of, Small}
 use Rattle.window.specs.Window.{Win}
 use Rattle.window.specs.Represents.{win_of, RepWindow}

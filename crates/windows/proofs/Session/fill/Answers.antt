@@ -1,7 +1,7 @@
 -- Questions 1, 3 and 5; then the window becomes what the fill leaves of it.
 use mathlib.Core.Bool.{not}
 use Prim.Native.Nat.{ℕ, ◌*◌}
-use mathlib.Core.Path.{◌≡◌, refl, ap, ◌∙◌}
+use mathlib.Core.Path.{◌≡◌, refl, ap}
 use mathlib.Core.Bool.{true, false, cond}
 use mathlib.Core.List.{List, [], ◌∷◌}
 use Rattle.geom.specs.declared.Rect.{Rect}

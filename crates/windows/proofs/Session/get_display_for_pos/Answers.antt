@@ -3,10 +3,9 @@ use mathlib.Core.Bool.{not}
 use Prim.Native.Nat.{ℕ}
 use mathlib.Core.Path.{◌≡◌, refl, ap, ◌∙◌}
 use mathlib.Core.Bool.{true, false, ◌&&◌}
-use Rattle.geom.specs.declared.Rect.{Rect}
 use Rattle.geom.specs.Questions.{small}
 use Rattle.geom.specs.Geom.{rect}
-use Rattle.geom.specs.Displays.{closest, display_for}
+use Rattle.geom.specs.Displays.{display_for}
 use Rattle.rules.specs.DisplayAt.{display_at}
 use Rattle.display.specs.declared.Located.{Located}
 use Rattle.display.specs.declared.Located.TheVariants.{Closest}

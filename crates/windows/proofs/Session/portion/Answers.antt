@@ -1,10 +1,9 @@
 -- Questions 1, 8 and 20, then the window is drawn and cleaned, and the walk goes on.
-use Rattle.std.specs.Prelude.{◌*◌, ◌+◌, ◌<◌, ◌≡◌, true, not, suc, length}
-use mathlib.Core.Path.{sym, ap, ◌∙◌}
+use Rattle.std.specs.Prelude.{not}
+use mathlib.Core.Path.{ap, ◌∙◌}
 use native.Mathlib.Numerals.{add-one}
 use native.Mathlib.Omega.{arith}
 use borrow.Author.Tests.{not-true, not-false}
-use Rattle.rules.specs.Redraw.{screen_fits}
 use Rattle.windows.proofs.laws.Above.{higher}
 use Rattle.windows.proofs.laws.Asked.{passed, failed}
 use Rattle.windows.proofs.laws.Lent as Lent

@@ -1,7 +1,7 @@
 -- The window that is aimed at is told; who took the event goes by the same answer.
-use mathlib.Core.Path.{◌≡◌, sym, ap, subst, ◌∙◌}
+use mathlib.Core.Path.{ap, subst, ◌∙◌}
 use mathlib.Core.Option.{some}
-use Rattle.std.proofs.Common.{Ok, Some}
+use Rattle.std.proofs.Common.{Ok}
 use Rattle.std.proofs.lemmas.Result.{err_from_is_err_and}
 use Rattle.windows.specs.View.{MeetsTaker}
 use Rattle.windows.specs.inner.Aimed.{Aims, AimsAt}

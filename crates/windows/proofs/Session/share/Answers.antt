@@ -1,6 +1,5 @@
 -- Question 3, then question 24; the pixels that are left, by the hundred, divided by all that the window has.
-use mathlib.Core.Bool.{not}
-use mathlib.Core.Path.{◌≡◌, ap, sym, ◌∙◌}
+use mathlib.Core.Path.{sym, ◌∙◌}
 use Prim.Native.Nat.{◌≤◌}
 use native.Mathlib.Omega.{arith}
 use Rattle.windows.proofs.laws.Session.{given_ok}

@@ -1,6 +1,6 @@
 -- Questions 5, 28 and 20; then the extents that were found are the rule's rectangle.
 use mathlib.Core.Bool.{not}
-use mathlib.Core.Path.{◌≡◌, refl, sym, ap, subst, ◌∙◌}
+use mathlib.Core.Path.{sym, ap, subst, ◌∙◌}
 use native.Mathlib.Omega.{arith}
 use borrow.Author.Tests.{leb-true}
 use Rattle.windows.proofs.laws.Portions.{place_low}

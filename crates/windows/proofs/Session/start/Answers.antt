@@ -1,6 +1,6 @@
 -- Question 2, and a fresh session of the C that it leaves.
 use Rattle.std.specs.Prelude.{ℕ, ◌≡◌, not, []}
-use mathlib.Core.Path.{sym, ap, ◌∙◌}
+use mathlib.Core.Path.{ap, ◌∙◌}
 use Rattle.rules.specs.Group as Rule
 use Rattle.rules.specs.Calls.{run, after}
 use Rattle.windows.specs.declared.Session.{Session}

@@ -1,5 +1,4 @@
 -- Each number is the rule's, of what is shared and of the displays.
-use mathlib.Core.Path.{◌≡◌, ap, ◌∙◌}
 use Rattle.windows.proofs.laws.Portions.{place_low}
 use Rattle.windows.proofs.laws.State.{session_stands}
 use Rattle.windows.proofs.Session.state.Goals as goal

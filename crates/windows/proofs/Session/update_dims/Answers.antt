@@ -2,7 +2,6 @@
 use Rattle.std.specs.Prelude.{not}
 use mathlib.Core.Path.{ap}
 use native.Mathlib.Omega.{arith}
-use Rattle.windows.proofs.laws.Asked.{passed, failed}
 use Rattle.windows.proofs.laws.Lent.{fits, unfit}
 use Rattle.windows.proofs.laws.Planned.{goes_to, no_store, too_large, accepted, stored, roomy}
 use Rattle.windows.proofs.laws.Updated.{by_move, goes_small, begins, goes_on, ends}

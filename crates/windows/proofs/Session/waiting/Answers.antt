@@ -1,5 +1,5 @@
 -- The bits of the last i windows are in the number.
-use Rattle.std.specs.Prelude.{ℕ, ◌-◌, ◌≤◌, ◌≡◌, Bool, true, false, cond}
+use Rattle.std.specs.Prelude.{ℕ, ◌-◌, ◌≡◌, Bool, true, false, cond}
 use mathlib.Core.Path.{refl, ap, ◌∙◌}
 use mir.Val.{bool_byte}
 use native.Mathlib.Omega.{arith}

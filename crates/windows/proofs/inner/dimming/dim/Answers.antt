@@ -1,5 +1,5 @@
 -- What is set stays, or a switch and the debt, in every session that shares this.
-use mathlib.Core.Path.{◌≡◌, refl, sym, subst, ◌∙◌}
+use mathlib.Core.Path.{◌≡◌, refl, subst, ◌∙◌}
 use mathlib.Core.Bool.{Bool, true, false, beq}
 use Rattle.rules.specs.Calls.{Dim}
 use Rattle.rules.specs.Dim.{same}

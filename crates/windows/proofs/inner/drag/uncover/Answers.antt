@@ -5,12 +5,11 @@ use native.Mathlib.Omega.{arith}
 use Rattle.geom.specs.declared.Rect.{Rect}
 use Rattle.geom.specs.declared.inner.rect16.Rect16.{Rect16}
 use Rattle.geom.specs.Geom.{meets, common}
-use Rattle.geom.specs.inner.Fits.{Fits, Within}
+use Rattle.geom.specs.inner.Fits.{Within}
 use Rattle.geom.specs.Lists.{relative}
 use Rattle.geom.specs.Rect16.{rect_of, Small}
 use Rattle.geom.proofs.geometry.Facts.{says_meet, common_within}
 use Rattle.window.specs.declared.Window.{Window}
-use Rattle.window.specs.Window.{Win}
 use Rattle.window.specs.Represents.{win_of, RepWindow}
 use Rattle.rules.specs.Group.{with_mark}
 use Rattle.rules.specs.Store.{dirtied}

@@ -1,5 +1,4 @@
 -- The windows from place i on are left to uncover.
-use Rattle.std.specs.Prelude.{◌≤◌}
 use Rattle.geom.specs.Rect16.{rect_of}
 use Rattle.windows.proofs.laws.Dragged.{Uncovering}
 use Rattle.windows.proofs.inner.drag.uncover_below.Given as goal

@@ -1,10 +1,9 @@
 -- The window that the search found has pixels, of which the nearest is told.
 use mathlib.Core.Bool.{not}
-use mathlib.Core.Path.{◌≡◌, sym, ap, ◌∙◌}
-use Rattle.order.specs.Ids.{grab_of}
+use mathlib.Core.Path.{sym, ap, ◌∙◌}
 use Rattle.topmost.specs.inner.Topmost.{hit_of}
 use Rattle.windows.specs.inner.Events.{at_point}
-use Rattle.windows.proofs.laws.Frames.{Found, order_lent}
+use Rattle.windows.proofs.laws.Frames.{order_lent}
 use Rattle.windows.proofs.laws.Routing.{too_far}
 use Rattle.windows.proofs.laws.Taker.{refused_taker}
 use Rattle.windows.proofs.laws.Aimed.{aimed_at, aimed_nowhere, aims_point}

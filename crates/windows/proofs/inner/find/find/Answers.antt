@@ -1,5 +1,5 @@
 -- Question 3, then the place in the order: a window that has one lies under those behind it.
-use Rattle.std.specs.Prelude.{◌+◌, ◌<◌, not, ℕ, ◌≡◌}
+use Rattle.std.specs.Prelude.{◌<◌, not, ℕ, ◌≡◌}
 use Rattle.std.proofs.Math.Option.{some}
 use mathlib.Core.Path.{sym, ap, ◌∙◌, refl}
 use native.Mathlib.Omega.{arith}

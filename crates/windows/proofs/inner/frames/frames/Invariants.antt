@@ -1,4 +1,4 @@
-use Prim.Native.Nat.{◌-◌, ◌≤◌}
+use Prim.Native.Nat.{◌≤◌}
 use Rattle.windows.specs.inner.Frames.{Framed}
 use Rattle.windows.proofs.inner.frames.frames.Given as goal
 

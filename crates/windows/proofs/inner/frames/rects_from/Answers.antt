@@ -1,11 +1,10 @@
 -- The rectangles that the frames say of the windows from there on in the order.
-use mathlib.Core.Path.{sym, ap, subst, ◌∙◌}
+use mathlib.Core.Path.{subst}
 use native.Mathlib.Omega.{arith}
 use Rattle.std.specs.Prelude.{◌≡◌, length, take}
 use Rattle.std.proofs.Common.{length-take-le}
 use Rattle.order.specs.inner.Rects.{Holds}
 use Rattle.order.proofs.laws.Order.{shown_front}
-use Rattle.windows.specs.declared.Shared.{Shared}
 use Rattle.windows.proofs.laws.Above.{frames_higher}
 use Rattle.windows.proofs.laws.Frames.{order_lies}
 use Rattle.windows.proofs.inner.frames.rects_from.Goals as goal

@@ -1,6 +1,6 @@
 -- A window in use is hidden in what is shared if it has a place there, and its id is freed.
 use Prim.Native.Nat.{ℕ}
-use mathlib.Core.Path.{◌≡◌, refl, sym, ap, ◌∙◌}
+use mathlib.Core.Path.{◌≡◌, refl, ap, ◌∙◌}
 use mathlib.Core.Bool.{true, false, not}
 use mathlib.Core.Option.{none}
 use Rattle.window.specs.declared.Window.{Window}

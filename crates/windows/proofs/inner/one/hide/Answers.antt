@@ -1,6 +1,6 @@
 -- A window in use is hidden in what is shared if it has a place there, and stays as it is.
 use Prim.Native.Nat.{ℕ}
-use mathlib.Core.Path.{◌≡◌, sym, ap, ◌∙◌}
+use mathlib.Core.Path.{◌≡◌, ap, ◌∙◌}
 use mathlib.Core.Bool.{true, false, not}
 use Rattle.rules.specs.Group.{used}
 use Rattle.rules.specs.Order as Order

@@ -1,7 +1,6 @@
 -- One window after the other is cleaned, where it was drawn.
-use Rattle.std.specs.Prelude.{ℕ, ◌<◌, ◌≡◌, get_or}
+use Rattle.std.specs.Prelude.{get_or}
 use mathlib.Core.Path.{ap}
-use Rattle.window.specs.declared.ids.WinId.{WinId}
 use Rattle.window.specs.inner.Ids.{no_id}
 use Rattle.windows.specs.declared.Shared.{Shared}
 use Rattle.windows.proofs.laws.Cleaned.{clean_none, clean_next, clean_end}

@@ -1,10 +1,7 @@
 -- The windows from place p on are left to draw.
 use Rattle.std.proofs.Common.{rules}
-use mathlib.Core.Path.{refl, ap, ◌∙◌}
+use mathlib.Core.Path.{refl}
 use native.Mathlib.Omega.{arith}
-use Rattle.order.specs.inner.Rects.{Holds}
-use Rattle.windows.proofs.laws.Places.{id_low}
-use Rattle.windows.proofs.laws.Above.{higher}
 use Rattle.windows.proofs.laws.Drawn.{paints, window_drawn, draw_next, draw_end}
 use Rattle.windows.proofs.inner.redraw.draw_all.Goals as goal
 

@@ -1,6 +1,5 @@
 -- Only the damage changes, and of its array what is past the entries stays.
 use Rattle.window.specs.Represents.{win_of}
-use Rattle.window.specs.declared.damage.Damage.{Damage}
 use Rattle.rules.specs.Store.{dirtied}
 use Rattle.windows.specs.inner.Pixels.{Becomes}
 use Rattle.windows.proofs.laws.Parts.{set_damage}
