@@ -75,19 +75,19 @@ impl Session {
         self.displays.add(region)
     }
 
-    pub fn begin(&mut self, forced: bool) -> Result<(), Refusal>
+    // Asks no question, and so cannot be refused.
+    pub fn begin(&mut self, forced: bool)
         requires { Given self.old }
-        ensures { Meets (Call.Begin forced) self.old (done self.new (answer_of result)) }
+        ensures { Meets (Call.Begin forced) self.old (done self.new 0) }
     {
         portion::begin(&mut self.shared, forced);
-        Ok(())
     }
 
-    pub fn dim(&mut self, on: bool) -> Result<(), Refusal>
+    // Asks no question, and so cannot be refused.
+    pub fn dim(&mut self, on: bool)
         requires { Given self.old }
-        ensures { Meets (Call.Dim on) self.old (done self.new (answer_of result)) }
+        ensures { Meets (Call.Dim on) self.old (done self.new 0) }
     {
         dimming::dim(&mut self.shared, on);
-        Ok(())
     }
 }

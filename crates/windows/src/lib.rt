@@ -58,7 +58,7 @@ pub struct Shared {
 
 impl Shared {
     // The windows that are shown, lowest first.
-    pub fn in_order(&self) -> &[WinId]
+    pub(crate) fn in_order(&self) -> &[WinId]
         requires { self.now.shown ≤ 16 }
         ensures { result.now ≡ take self.now.shown self.now.order }
     {
@@ -66,7 +66,7 @@ impl Shared {
     }
 
     // The place of a window in the render order, if it is shown.
-    pub fn place_of(&self, id: WinId) -> Option<Place>
+    pub(crate) fn place_of(&self, id: WinId) -> Option<Place>
         requires { self.now.shown ≤ 16 }
         ensures { idx_of result ≡ render_idx id.0 (ids self.now.shown self.now.order) }
     {
