@@ -1,6 +1,7 @@
 // A first program: a panel of 2 by 2 pixels on a screen of 3 by 2 is filled, drawn and pressed.
 //
-// `check::expect` requires that its argument is true: each check below is proved, from the contracts of the calls alone.
+// `check::expect` requires that its argument is true: each check below is proved, from the contracts of the calls
+// alone.
 #![tactic(auto)]
 
 ghost use Rattle.std.specs.Prelude.{◌≡◌};
@@ -47,8 +48,8 @@ fn main() {
     scanlines();
 }
 
-// A scanline of bare pixels, 3 by 2: row 1 from column 1 on. Its 9 pixels are cut to two. It is written as a part of the
-// pixels, and what they hold afterwards is known.
+// A scanline of bare pixels, 3 by 2: row 1 from column 1 on. Its 9 pixels are cut to two. It is written as a part of
+// the pixels, and what they hold afterwards is known.
 fn scanlines() {
     let mut pixels = [5u32; 6];
     let range = winbuf::scanline_range(pixels.len(), 3, 2, 1, 1, 9);

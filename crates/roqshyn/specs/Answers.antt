@@ -26,7 +26,7 @@ use Rattle.roqshyn.specs.declared.values.RoqStale.{RoqStale}
 use Rattle.roqshyn.specs.declared.values.RoqWindow.{RoqWindow}
 use Rattle.roqshyn.specs.Events.{numbers_of, Routes}
 
--- Structs of numbers ----------------------------------------------------------------------------------------------------
+-- Structs of numbers --------------------------------------------------------------------------------------------------
 
 abbrev pub as_listing : RoqListing → Listing
 as_listing r = record { answer = r.answer; count = r.count }
@@ -63,7 +63,7 @@ as_window r =
       moved = r.moved;
     }
 
--- Ids, events and displays ----------------------------------------------------------------------------------------------
+-- Ids, events and displays --------------------------------------------------------------------------------------------
 
 -- "an id … asked for is then absent": 4,294,967,295, which is no window's
 pub record Creates (s t : Session) (r : RoqCreated) : Type 0 where

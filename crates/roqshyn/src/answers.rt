@@ -36,7 +36,8 @@ impl From<Result<usize, Refusal>> for RoqListing {
     }
 }
 
-// The answer of a call that writes pixels, and how many of them have another value than before: none where it was refused.
+// The answer of a call that writes pixels, and how many of them have another value than before: none where it was
+// refused.
 #[repr(C)]
 #[derive(Clone, Copy)]
 pub struct RoqAltered {

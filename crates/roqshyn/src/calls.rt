@@ -1,6 +1,7 @@
 // The calls that change a session, which lies behind a pointer.
 //
-// Before `roq_start` the memory holds zeros or a session; before any other call, a session that `roq_start` and later calls left.
+// Before `roq_start` the memory holds zeros or a session; before any other call, a session that `roq_start` and later
+// calls left.
 ghost use Rattle.rules.specs.Calls.{Call};
 ghost use Rattle.rules.specs.Panels.{Write};
 ghost use Rattle.windows.specs.View.{done, Given, Meets, MeetsStore, MeetsAltered, MeetsMark, MeetsScreen, Starts};

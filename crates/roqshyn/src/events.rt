@@ -12,8 +12,8 @@ use window::Event;
 use window::ids::WinId;
 use windows::{Session, Taken};
 
-// What an event carries, by its kind; a field that the kind does not have is 0. C's kinds are numbers: those of no event
-// and of the nine are below.
+// What an event carries, by its kind; a field that the kind does not have is 0. C's kinds are numbers: those of the
+// nine events are below, and 0 is no event.
 #[repr(C)]
 #[derive(Clone, Copy)]
 pub struct RoqEvent {

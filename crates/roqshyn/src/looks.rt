@@ -3,7 +3,8 @@ ghost use Rattle.std.specs.Prelude.{◌≡◌};
 
 use look::{Look, Zoom};
 
-// A corner, a factor, and whether the look fits the window into the target, in which case corner and factor are not read.
+// A corner, a factor, and whether the look fits the window into the target, in which case corner and factor are not
+// read.
 #[repr(C)]
 #[derive(Clone, Copy)]
 pub struct RoqLook {

@@ -1,5 +1,5 @@
-// The bare calls on pixels. A part is handed back as where it begins in the lent pixels and how long it is, never as a copy: an exported
-// function cannot return a reference.
+// The bare calls on pixels. A part is handed back as where it begins in the lent pixels and how long it is, never as a
+// copy: an exported function cannot return a reference.
 ghost use Rattle.winbuf.specs.Pixels.{line_start, scanline, fill_scanline, set_scanline, region};
 ghost use Rattle.winbuf.specs.Bare.{Gives, range_of, region_start};
 ghost use Rattle.roqshyn.specs.Answers.{as_altered};

@@ -1,4 +1,5 @@
--- The program's calls: what the rules give for them, by computation, and that the code's calls are a run of them, by their contracts.
+-- The program's calls: what the rules give for them, by computation, and that the code's calls are a run of them, by
+-- their contracts.
 use Rattle.std.proofs.Common.{ℕ, ◌≡◌, true, List, [], ◌∷◌, ◌++◌, replicate, false, Result, Ok, Err, refl, ap, ◌∙◌, is_ok, arith}
 use Rattle.std.proofs.Math.Option.{some}
 use Rattle.geom.specs.declared.Rect.{Rect}
@@ -27,7 +28,7 @@ use Rattle.windows.specs.View.{Done, Created, Written, Popped, done, group, Star
 use Rattle.windows.specs.Run.{calls, Kept, Run, started, called}
 use Rattle.windows.proofs.demand.Runs.{made, calls_append, reached, by_meets, by_store, by_screen}
 
--- The calls -------------------------------------------------------------------------------------------------------------
+-- The calls -----------------------------------------------------------------------------------------------------------
 
 -- the store's 64 pixels, of which the panel has the first four
 abbrev pub store : ℕ → List ℕ
@@ -74,7 +75,7 @@ after_pop = after_press ++ (Pop 0 ∷ [])
 abbrev pub picture : List ℕ
 picture = 7 ∷ 7 ∷ 5 ∷ 7 ∷ 7 ∷ 5 ∷ []
 
--- What the rules give ---------------------------------------------------------------------------------------------------
+-- What the rules give -------------------------------------------------------------------------------------------------
 
 -- what the program checks, and the stores and the screen that its calls leave
 record Computed : Type 0 where
@@ -127,7 +128,8 @@ record Next (ks : List Call) (k : Call) (r : Done) : Type 0 where
   answer : r.answer ≡ (does (after 4 ks) k).answer
   ran : Ran (ks ++ (k ∷ [])) r.session
 
--- the code's call j is the call k, and the run goes on with it. It left the store and the screen, where it was lent them
+-- the code's call j is the call k, and the run goes on with it. It left the store and the screen, where it was lent
+-- them
 next : {j : Call} {s : Session} {r : Done} {store screen : List ℕ} (ks : List Call) (k : Call) → j ≡ k → Ran ks s
     → Kept (made j r store screen) s r.session → Next ks k r
 next ks k same p m =
