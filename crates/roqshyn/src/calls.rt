@@ -201,7 +201,8 @@ pub extern "C" fn roq_begin(s: &mut Session, forced: bool) -> u32
     requires { Given s.old }
     ensures { Meets (Call.Begin forced) s.old (done s.new result) }
 {
-    code(s.begin(forced))
+    s.begin(forced);
+    0
 }
 
 #[unsafe(no_mangle)]
@@ -209,7 +210,8 @@ pub extern "C" fn roq_dim(s: &mut Session, on: bool) -> u32
     requires { Given s.old }
     ensures { Meets (Call.Dim on) s.old (done s.new result) }
 {
-    code(s.dim(on))
+    s.dim(on);
+    0
 }
 
 #[unsafe(no_mangle)]
