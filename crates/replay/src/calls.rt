@@ -40,8 +40,14 @@ fn plain(s: &mut Session, line: Line, ns: &Numbers) -> Result<(), Refusal>
         Kind::Drop => s.drop(id),
         Kind::Mark => s.mark(id),
         Kind::Move => s.move_window(id, numbers::pos(ns, 1)),
-        Kind::Begin => s.begin(ns[0] == 1),
-        Kind::Dim => s.dim(ns[0] == 1),
+        Kind::Begin => {
+            s.begin(ns[0] == 1);
+            Ok(())
+        }
+        Kind::Dim => {
+            s.dim(ns[0] == 1);
+            Ok(())
+        }
         Kind::Layer => s.set_layer(id, ns[1]),
         Kind::Display => s.add_display(numbers::rect(ns, 0)),
         Kind::Raise => s.raise(id),
