@@ -6,8 +6,6 @@ ghost use Rattle.geom.specs.Nearest.{nearest_x, nearest_y, apart, distance²};
 ghost use Rattle.geom.specs.inner.Fits.{Fits};
 ghost use Rattle.geom.specs.Bare.{edges_fit, both_fit};
 
-pub mod answers;
-pub mod bools;
 pub mod lent;
 pub mod numbers;
 pub mod pieces;
@@ -28,24 +26,6 @@ pub fn both_fit(a: Rect, b: Rect) -> bool
     ensures { result ≡ both_fit a b }
 {
     edges_fit(a) && edges_fit(b)
-}
-
-pub fn least(a: u32, b: u32) -> u32
-    ensures { result ≡ min a b }
-{
-    if a < b {
-        return a;
-    }
-    b
-}
-
-pub fn greatest(a: u32, b: u32) -> u32
-    ensures { result ≡ max a b }
-{
-    if b < a {
-        return a;
-    }
-    b
 }
 
 // The first column past the rectangle.

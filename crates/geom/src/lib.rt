@@ -34,14 +34,6 @@ pub struct Rect {
     pub dims: Dims,
 }
 
-// The answer, and how many rectangles were listed or bytes written: none where the call was refused.
-#[repr(C)]
-#[derive(Clone, Copy)]
-pub struct Listing {
-    pub answer: u32,
-    pub count: usize,
-}
-
 // Up to four rectangles; the places from `count` on hold (0,0,0,0). No list grows here: the C interface has this struct.
 #[repr(C)]
 #[derive(Clone, Copy)]
