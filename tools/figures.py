@@ -165,20 +165,20 @@ FIGURES = (
     ),
     Figure(
         "numbers of a line",
-        at("crates/script/src/count.rt", "DATA: usize = {}"),
+        at("crates/script/src/table.rt", "DATA: usize = {}"),
         "DATA are at most {} numbers",
         "N… is 0 to {} numbers",
         "BYTE… is 0 to {} numbers",
     ),
     Figure(
         "numbers of a blit",
-        at("crates/script/src/count.rt", "BLIT: usize = {}"),
+        at("crates/script/src/table.rt", "BLIT: usize = {}"),
         "DATA is 0 to {} numbers",
         "{} numbers of a blit",
     ),
     Figure(
         "times of a line",
-        at("crates/script/src/count.rt", "TIMES: usize = {}"),
+        at("crates/script/src/table.rt", "TIMES: usize = {}"),
         "T… is 0 to {} times",
         "script may have {} numbers",
     ),
