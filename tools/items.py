@@ -186,6 +186,8 @@ class Reader:
             self.crate.ghosts.setdefault(module.file, []).append(self.until(";"))
             self.take(";")
         elif word in ("ghost", "type"):
+            if word == "type" and not owner:
+                self.crate.refuse(module, line, "a type by another name would hide whose methods they are")
             self.until(";")
             self.take(";")
         elif word == "trait":

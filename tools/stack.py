@@ -33,10 +33,7 @@ EXTERNAL = ("memcpy", "memmove", "memset")
 WINDOWS_ABOVE = 15
 SEARCH = "one turn for each of the at most 15 windows above, and the last"
 DEPTHS = {
-    "visible::draw::draw_seen": (WINDOWS_ABOVE + 1, SEARCH),
-    "visible::extents::join_seen": (WINDOWS_ABOVE + 1, SEARCH),
-    "visible::list::count_seen": (WINDOWS_ABOVE + 1, SEARCH),
-    "visible::list::write": (WINDOWS_ABOVE + 1, SEARCH),
+    "visible::walk::walk": (WINDOWS_ABOVE + 1, SEARCH),
 }
 # The functions of the driver that measures.
 DRIVER = "run_"
