@@ -160,7 +160,7 @@ FIGURES = (
     ),
     Figure(
         "as the least C that replay cannot lend",
-        at("crates/replay/src/calls.rt", "c <= {} ", lambda most: most + 1),
+        at("crates/replay/src/calls.rt", "if {} < c ", lambda most: most + 1),
         "C from {} on",
     ),
     Figure(
