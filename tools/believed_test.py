@@ -28,7 +28,7 @@ TRUTH = "unfoldable pub Truth : Type 0\nTruth = Unit {0}\n"
 BODY = "leb t u && ltb u (t + 1000)"
 HEAD = "use Rattle."
 # The contract of `busiest`.
-ENSURES = "{ result ≡ busiest times.now }"
+ENSURES = "{ second_of result ≡ busiest times.now }"
 BELIEVED = "inner/More.antt: it must be believed, and lies in inner"
 
 

@@ -7,7 +7,7 @@ CALL = "crates/windows/src/calls.rt"
 STATION = "crates/roqshyn/src/calls.rt"
 RATE = "crates/busiest/src/lib.rt"
 GROUP = "crates/windows/src/lib.rt"
-SHOW = "    pub fn show(self, id: WinId) -> Done\n        requires { Given self }\n"
+SHOW = "    pub fn show(&mut self, id: WinId) -> Result<(), Refusal>\n        requires { Given self.old }\n"
 ROQ = 'pub extern "C" fn roq_show(s: &mut Session, id: WinId) -> u32\n    requires { Given s.old }\n'
 METHOD = "impl Session { pub fn peek(self) -> u32 ensures { result ≡ 0 } { 0 } }\n"
 FUNCTION = "pub fn peek() -> u32 ensures { result ≡ 0 } { 0 }\n"
@@ -27,7 +27,7 @@ REFUSED = [
     ),
     (
         "a premise widened",
-        [(CALL, SHOW, SHOW.replace("self }", "self × (id.0 < 16) }"))],
+        [(CALL, SHOW, SHOW.replace("old }", "old × (id.0 < 16) }"))],
         "windows::Session::show: requires",
     ),
     (
@@ -45,8 +45,8 @@ REFUSED = [
         [
             (
                 RATE,
-                "-> Second\n    ensures { result ≡ busiest",
-                "-> Second\n    requires { Given times }\n    ensures { result ≡ busiest",
+                "-> Result<Second, Refusal>\n    ensures { second_of result ≡ busiest",
+                "-> Result<Second, Refusal>\n    requires { Given times }\n    ensures { second_of result ≡ busiest",
             ),
         ],
         "it has no session",
@@ -56,27 +56,27 @@ REFUSED = [
     ("another now", [(STATION, "ghost use ", "ghost use Rattle.rules.specs.Calls.{now};\nghost use ")], "`now` is brought in"),
     (
         "an ensures removed",
-        [(RATE, "    ensures { result ≡ busiest times.now }\n", "")],
+        [(RATE, "    ensures { second_of result ≡ busiest times.now }\n", "")],
         "busiest::busiest: has no ensures",
     ),
     (
         "an ensures made a comment",
-        [(RATE, "    ensures { result ≡ busiest", "    // ensures { result ≡ busiest")],
+        [(RATE, "    ensures { second_of result ≡ busiest", "    // ensures { second_of result ≡ busiest")],
         "busiest::busiest: has no ensures",
     ),
     (
         "an ensures that says nothing of the result",
-        [(RATE, "result ≡ busiest times.now", "0 ≡ 0")],
+        [(RATE, "second_of result ≡ busiest times.now", "0 ≡ 0")],
         "does not name what it hands back",
     ),
     (
         "the same in a comment",
-        [(RATE, "result ≡ busiest times.now", "0 ≡ 0 -- result\n")],
+        [(RATE, "second_of result ≡ busiest times.now", "0 ≡ 0 -- result\n")],
         "does not name what it hands back",
     ),
     (
         "lent pixels left open",
-        [("crates/winbuf/src/lib.rt", " result pixels.new }", " result pixels.old }")],
+        [("crates/winbuf/src/lib.rt", " (altered_of result) pixels.new }", " (altered_of result) pixels.old }")],
         "does not say what pixels holds",
     ),
     (
@@ -96,15 +96,15 @@ REFUSED = [
     ),
     (
         "an impl by another name",
-        [("crates/windows/src/inner/dimming.rt", "use crate::{Shared, SharedDone};", "use crate::Session as Shared;\nuse crate::SharedDone;")],
+        [("crates/windows/src/inner/dimming.rt", "use crate::Shared;", "use crate::Session as Shared;")],
         "use … as …",
     ),
     (
         "a type by another name",
         [("crates/windows/src/inner/dimming.rt", "", "type Kept = Session;\n")],
-        "an item that begins with 'type'",
+        "a type by another name would hide",
     ),
-    ("a public module", [(GROUP, "mod calls;", "pub mod calls;")], "pub mod calls: the one public module"),
+    ("a public module", [(GROUP, "mod calls;", "pub mod calls;")], "pub mod calls: a crate that has calls"),
     (
         "a public module in the file",
         [(RATE, "", "pub mod more {\n" + FUNCTION + "}\n")],

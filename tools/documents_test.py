@@ -105,18 +105,18 @@ EDITS = [
     ("a question that bindings lack", [("bindings/rust/src/error.rs", "    28 ", "    29 ")], "it has no question 28"),
     (
         "a question that the code lacks",
-        [("crates/geom/src/inner/answers.rt", "u32 = 28;", "u32 = 29;")],
+        [("crates/geom/src/refusal.rt", "WhichCall = 28,", "WhichCall = 29,")],
         "it has no question 29",
     ),
     (
         "an answer by another name",
         [(HEADER, "ROQ_ERROR_LAYER = 17", "ROQ_ERROR_LAYERS = 17")],
-        "it has no answer LAYER: u32 = 17",
+        "it has no answer Layer = 17",
     ),
     (
         "an answer by another number",
         [(HEADER, "ROQ_ERROR_LAYER = 17", "ROQ_ERROR_LAYER = 71")],
-        "it has no answer LAYER: u32 = 17",
+        "it has no answer Layer = 17",
     ),
     ("a new version in the header", [(HEADER, "VERSION_MINOR 1", "VERSION_MINOR 2")], "Cargo.toml: version 1.1.0, and"),
     ("another version in the code", [(VERSION, "MAJOR: u32 = 1", "MAJOR: u32 = 2")], f"{VERSION}: version 2.1.0, and"),

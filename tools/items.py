@@ -4,6 +4,8 @@ import re
 
 # The attributes that an item here may have.
 ATTRIBUTES = ("repr", "no_mangle", "unsafe", "derive", "tactic")
+# The public modules of a crate that has calls: what our own crates need, and why a call is refused.
+PUBLIC = ("inner", "refusal")
 WORD = re.compile(r"\s+|//[^\n]*|/\*|b?\"(?:\\.|[^\"\\])*\"|b'(?:\\.|[^'\\])'|'\w+|«\w+»|::|->|--|\w[\w·]*|.", re.S)
 CLOSING = {"{": "}", "(": ")", "[": "]"}
 
@@ -183,6 +185,14 @@ class Reader:
         elif word == "ghost" and self.peek() == "use":
             self.crate.ghosts.setdefault(module.file, []).append(self.until(";"))
             self.take(";")
+        elif word in ("ghost", "type"):
+            if word == "type" and not owner:
+                self.crate.refuse(module, line, "a type by another name would hide whose methods they are")
+            self.until(";")
+            self.take(";")
+        elif word == "trait":
+            self.until("{")
+            self.block(module, "")
         elif word in ("struct", "enum", "const"):
             if self.until("{", ";") and self.peek() == "{":
                 self.group()
@@ -216,8 +226,8 @@ class Reader:
     def submodule(self, module, public, line):
         name = self.take()
         below = Module(module.crate, module.file, module.path + (name,), module.public and public)
-        if below.public and not below.inner:
-            self.crate.refuse(module, line, f"pub mod {name}: the one public module of a crate that has calls is `inner`")
+        if below.public and below.path[0] not in PUBLIC:
+            self.crate.refuse(module, line, f"pub mod {name}: a crate that has calls has no public module but {PUBLIC}")
         if self.peek() == "{":
             self.block(below, "")
             return
@@ -234,9 +244,13 @@ class Reader:
         if self.peek() == "<":
             self.until(">")
             self.take(">")
-        name = [word for word in self.until("{", "<") if word != "::"][-1]
-        self.until("{")
+        line, start = self.line(), self.at
+        heads = [word for word in self.until("{") if word != "::"]
+        name = [word for word in heads[heads.index("for") + 1 if "for" in heads else 0 :] if word != "<"][0]
         self.block(module, name)
+        told = any(word == "ghost" for word, _ in self.words[start : self.at])
+        if heads[0] in ("From", "TryFrom") and not told:
+            self.crate.refuse(module, line, f"an impl of {heads[0]} that says nothing of what it gives")
 
     def used(self, module, public, line):
         words = self.until(";")
@@ -258,6 +272,9 @@ class Reader:
             if self.peek() != "{":
                 self.take()
             clauses[kind].append(self.group())
+        if self.peek() == ";":  # of a trait
+            self.take()
+            return
         if {"fn", "impl", "mod", "use"}.intersection(self.group()):
             raise Unread(f"an item in the body of {name}")
         self.crate.functions.append(Function(module, line, owner, name, public, exported, takes, gives, **clauses))

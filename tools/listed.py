@@ -8,7 +8,7 @@ import prose
 from calls import tables
 from figures import number_of
 
-HEADER, ERRORS, ANSWERS = "include/roqshyn.h", "bindings/rust/src/error.rs", "crates/geom/src/inner/answers.rt"
+HEADER, ERRORS, ANSWERS = "include/roqshyn.h", "bindings/rust/src/error.rs", "crates/geom/src/refusal.rt"
 SCRIPT, NOTICE, MANUAL = "docs/CALL-SCRIPT.md", "NOTICE", "docs/SAFETY-MANUAL.md"
 DIFFERENCES = "docs/DIFFERENCES.md"
 LOCKED, FOUND = r'^name = "roqshyn"\nversion = "(.*)"$', r"find_package\(roqshyn (\S+) REQUIRED\)"
@@ -105,11 +105,11 @@ def questions(tree):
         for number in sorted(set(said) & set(header)):
             if said[number] != header[number]:
                 yield f"{path}: question {number} has other words than in {HEADER}"
-    answers = re.findall(r"^pub const (\w+: u32 = (\d+));", tree.files[ANSWERS], re.M)
-    yield from differ(HEADER, "question", header, {int(number) for _, number in answers} - {0})
-    named = re.findall(r"^    ROQ_(?:ERROR_)?(OK|(?<=ERROR_)\w+) = (\d+),?$", tree.files[HEADER], re.M)
-    said = [f"{name}: u32 = {number}" for name, number in named]
-    yield from differ(HEADER, "answer", said, [name for name, _ in answers])
+    answers = re.findall(r"^    (\w+) = (\d+),$", tree.files[ANSWERS], re.M)
+    yield from differ(HEADER, "question", header, {int(number) for _, number in answers})
+    named = re.findall(r"^    ROQ_ERROR_(\w+) = (\d+),?$", tree.files[HEADER], re.M)
+    said = [f"{name.title().replace('_', '')} = {number}" for name, number in named]
+    yield from differ(HEADER, "answer", said, [f"{name} = {number}" for name, number in answers])
 
 
 def exported(tree):

@@ -33,15 +33,15 @@ EXTERNAL = ("memcpy", "memmove", "memset")
 WINDOWS_ABOVE = 15
 SEARCH = "one turn for each of the at most 15 windows above, and the last"
 DEPTHS = {
-    "visible::draw::draw_seen": (WINDOWS_ABOVE + 1, SEARCH),
-    "visible::extents::join_seen": (WINDOWS_ABOVE + 1, SEARCH),
-    "visible::list::count_seen": (WINDOWS_ABOVE + 1, SEARCH),
-    "visible::list::write": (WINDOWS_ABOVE + 1, SEARCH),
+    "visible::walk::walk": (WINDOWS_ABOVE + 1, SEARCH),
+    # The kit's sort, by which crate bands sorts the rectangles above a window. Of twenty or fewer it calls neither.
+    "core::slice::sort::unstable::quicksort": (7, "each of which hands on a limit that falls from twice the logarithm of 15"),
+    "core::slice::sort::pivot::median_of_medians": (1, "since of fewer than 64 elements it is not called"),
 }
 # The functions of the driver that measures.
 DRIVER = "run_"
 PADDING = re.compile(r"nop|data16|cs|xchg +%ax,%ax|int3")
-LINE = re.compile(r"\s+([0-9a-f]+):\s+(.*?)\s*(?:#.*)?$")
+LINE = re.compile(r"\s+([0-9a-f]+):\s+(.*?)\s*(?:(?<!<)#.*)?$")
 LINKED = re.compile(r"\s+[0-9a-f]+: (R_X86_64_\w+)\s+(\S+?)([-+]0x[0-9a-f]+)?$")
 ENTRY = re.compile(r"([0-9a-f]{16}) (R_X86_64_\w+)\s+(\S+?)([-+]0x[0-9a-f]+)?$")
 JUMP_BY_TABLE = re.compile(r"jmp +\*%r\w+")
@@ -228,16 +228,25 @@ class Frame:
             at += 4
 
 
+def generic(name):
+    """The name of a function without the mark of what it was made for: a generic one stands once for each type."""
+    return re.sub(r"::<#[0-9a-f]+>$", "", name)
+
+
 class Stack:
     """What each function takes, with all that it calls."""
 
     def __init__(self, code, depths):
         self.code, self.depths, self.known = code, depths, {}
         for name in depths:
-            if name not in code.functions:
+            if not self.made(name):
                 raise Refused(f"the table of depths has {name}, and there is no such function")
-            if not Frame(name, code).own_calls:
+            if not all(Frame(made, code).own_calls for made in self.made(name)):
                 raise Refused(f"the table of depths has {name}, which does not call itself")
+
+    def made(self, name):
+        """The functions of this name in the object code."""
+        return [function for function in self.code.functions if generic(function) == name]
 
     def bytes(self, name, path=()):
         """What a call of a function takes, its return address included."""
@@ -257,14 +266,14 @@ class Stack:
         """What the turns before the last take of a function that calls itself."""
         if not frame.own_calls:
             return 0
-        if frame.name not in self.depths:
+        if generic(frame.name) not in self.depths:
             raise Refused(f"{frame.name} calls itself, and is in no table of depths")
-        return (self.depths[frame.name][0] - 1) * max(depth for depth, _ in frame.own_calls)
+        return (self.depths[generic(frame.name)][0] - 1) * max(depth for depth, _ in frame.own_calls)
 
     def turns(self):
         """A line for each function that calls itself."""
         for name, (depth, why) in self.depths.items():
-            turn = max(depth for depth, _ in Frame(name, self.code).own_calls)
+            turn = max(depth for made in self.made(name) for depth, _ in Frame(made, self.code).own_calls)
             yield f"{name}: {depth} turns of {turn} bytes, {why}"
 
     def exported(self, prefix="roq_"):

@@ -92,5 +92,5 @@ class Tree:
 
     def script_lines(self):
         """How many numbers a line of a call script has, and whether more may follow, by its first word."""
-        rows = re.findall(r"^ *\\x..\\x(..)([ +*@])([a-z-]+) *\\$", self.files["crates/script/src/kind.rt"], re.M)
-        return {word: (int(count, 16), more != " ") for count, more, word in rows}
+        rows = re.findall(r'^ *\(b"([a-z-]+)", Kind::\w+, (\d+), (\w+)\),$', self.files["crates/script/src/table.rt"], re.M)
+        return {word: (int(count), more != "0") for word, count, more in rows}

@@ -1,263 +1,223 @@
-// The text that waits to be written, at the front of the block `out`. Each function adds to it and hands back what waits
-// then.
+// Answers: text that waits in a block of 64 KB, and is handed to standard output when the block is full or a caller says so.
 #![tactic(auto)]
 
-ghost use Rattle.std.specs.Prelude.{◌≡◌, [], ◌∷◌, ◌++◌, ◌+◌, ◌≤◌, ◌<◌, length, take};
+ghost use Rattle.std.specs.Prelude.{◌≡◌, ℕ, [], ◌∷◌, ◌++◌, ◌+◌, ◌≤◌, length, cond, map};
+ghost use Rattle.arrayvec.specs.ArrayVec.{array_vec_len};
+ghost use Rattle.geom.specs.Refusals.{answer_of};
 ghost use Rattle.answer_text.specs.Text as Text;
 ghost use Rattle.answer_text.specs.Text.{decimal};
-ghost use Rattle.answer_text.specs.Added.{counted as counting, handed_over, Adds};
+ghost use Rattle.answer_text.specs.Added.{handed_over, waits, Says};
 
 pub mod picture;
 
+use arrayvec::ArrayVec;
+use geom::refusal::Refusal;
 use std::io::{Stdout, Write};
+use std::marker::Model;
 
-// The first `at` bytes of the block wait. `sent` bytes were handed to standard output before them, as far as 64 bits
-// count.
-#[derive(Clone, Copy)]
-pub struct Waiting {
-    pub at: usize,
-    pub sent: u64,
+// A number that is written behind a space.
+pub trait Number: Copy {
+    ghost value: { Self → ℕ };
+
+    fn wide(self) -> u64
+        ensures { result ≡ value self };
 }
 
-impl Waiting {
-    pub fn none() -> Waiting
-        ensures { result ≡ record { at = 0; sent = 0 } }
+// 0 or 1.
+impl Number for bool {
+    ghost value = { λ b. cond b 1 0 };
+
+    fn wide(self) -> u64 {
+        u64::from(self)
+    }
+}
+
+impl Number for u8 {
+    ghost value = { λ n. n };
+
+    fn wide(self) -> u64 {
+        u64::from(self)
+    }
+}
+
+impl Number for u32 {
+    ghost value = { λ n. n };
+
+    fn wide(self) -> u64 {
+        u64::from(self)
+    }
+}
+
+impl Number for u64 {
+    ghost value = { λ n. n };
+
+    fn wide(self) -> u64 {
+        self
+    }
+}
+
+impl Number for usize {
+    ghost value = { λ n. n };
+
+    fn wide(self) -> u64 {
+        self as u64
+    }
+}
+
+// `block` is what waits. `sent` bytes were handed to standard output before it, as far as 64 bits count.
+#[derive(Drop)]
+pub struct Output {
+    stdout: Stdout,
+    block: ArrayVec<u8, 65536>,
+    sent: u64,
+}
+
+impl Model for Output {
+    ghost use Rattle.std.specs.Prelude.{◌≤◌, length};
+    ghost use Rattle.answer_text.specs.Added.{Output as Waits};
+
+    ghost Value = { Waits };
+
+    ghost view = { λ o. record { bytes = o.block.items; sent = o.sent } };
+
+    ghost invariant = { λ o. (length o.block.items ≤ 65536) × (o.sent ≤ 18446744073709551615) };
+}
+
+impl Output {
+    pub fn new(stdout: Stdout) -> Output
+        ensures { waits result ≡ record { at = 0; sent = 0 } }
     {
-        Waiting { at: 0, sent: 0 }
+        Output {
+            stdout,
+            block: ArrayVec::new(),
+            sent: 0,
+        }
+    }
+
+    // Writes what waits. No other function writes to standard output. Whether the system took all of it is not looked
+    // at: there is nobody to tell.
+    pub fn flush(&mut self)
+        ensures { waits self.new ≡ handed_over (waits self.old) }
+    {
+        let _ = self.stdout.write_all(self.block.as_slice());
+        self.sent = self.sent.saturating_add(self.block.len() as u64);
+        self.block.clear();
+    }
+
+    // Room for one more number, its sign and a space. Nothing is added.
+    pub fn make_room(&mut self)
+        ensures { Says [] self.old self.new × (length self.new.bytes + 32 ≤ 65536) }
+    {
+        if self.block.remaining_capacity() < 32 {
+            self.flush();
+        }
+    }
+
+    pub fn byte(&mut self, b: u8)
+        ensures { Says (Text.sign b ∷ []) self.old self.new }
+    {
+        self.make_room();
+        self.block.push(b);
+    }
+
+    // The number that a line begins with.
+    pub fn number(&mut self, n: u64)
+        ensures { Says (Text.first n ∷ []) self.old self.new }
+    {
+        self.make_room();
+        put_number(&mut self.block, n);
+    }
+
+    // A number that is not the first word of its line.
+    pub fn more<N: Number>(&mut self, n: N)
+        ensures { Says (Text.number (N.value n) ∷ []) self.old self.new }
+    {
+        self.make_room();
+        self.block.push(b' ');
+        put_number(&mut self.block, n.wide());
+    }
+
+    // The numbers of a list, each after a space.
+    pub fn all<N: Number>(&mut self, list: &[N])
+        ensures { Says (map (λ n. Text.number (N.value n)) list.now) self.old self.new }
+    {
+        self.make_room();
+        for &n in list {
+            self.more(n);
+        }
+    }
+
+    pub fn signed(&mut self, z: i16)
+        ensures { Says (Text.signed z ∷ []) self.old self.new }
+    {
+        self.byte(b' ');
+        if z < 0 {
+            self.byte(b'-');
+        }
+        self.number(u64::from(z.unsigned_abs()));
+    }
+
+    pub fn word(&mut self, text: &[u8])
+        ensures { Says (Text.word text.now ∷ []) self.old self.new }
+    {
+        self.byte(b' ');
+        for &b in text {
+            self.byte(b);
+        }
+    }
+
+    pub fn end(&mut self)
+        ensures { Says (Text.end ∷ []) self.old self.new }
+    {
+        self.byte(b'\n');
+    }
+
+    // A line of an answer alone.
+    pub fn answer(&mut self, answer: Result<(), Refusal>)
+        ensures { Says (Text.line (answer_of answer) []) self.old self.new }
+    {
+        let number = match answer {
+            Ok(()) => 0,
+            Err(refusal) => refusal.number(),
+        };
+        self.number(u64::from(number));
+        self.end();
+    }
+
+    // A line of the answer 0 and a count.
+    pub fn counted(&mut self, n: usize)
+        ensures { Says (Text.line 0 (Text.number n ∷ [])) self.old self.new }
+    {
+        self.number(0);
+        self.more(n);
+        self.end();
+    }
+
+    // The line for what the program cannot lend or write.
+    pub fn refused(&mut self)
+        ensures { Says Text.beyond self.old self.new }
+    {
+        self.byte(b'!');
+        self.end();
+    }
+
+    pub fn malformed(&mut self, line: u64)
+        ensures { Says (Text.malformed line) self.old self.new }
+    {
+        self.byte(b'?');
+        self.more(line);
+        self.end();
     }
 }
 
-// The count after n bytes more.
-fn count_on(sent: u64, n: usize) -> u64
-    ensures { result ≡ counting (sent + n) }
-{
-    let more = n as u64;
-    if 18446744073709551615 - sent < more {
-        return 18446744073709551615;
-    }
-    sent + more
-}
-
-// Writes what waits. No other function writes to standard output. Whether the system took all of it is not looked at: there
-// is nobody to tell.
-pub fn flush(mut stdout: Stdout, out: &[u8], w: Waiting) -> Waiting
-    requires { w.at ≤ length out.now }
-    ensures { result ≡ handed_over w }
-{
-    let n = w.at;
-    let _ = stdout.write_all(&out[0..n]);
-    Waiting {
-        at: 0,
-        sent: count_on(w.sent, n),
-    }
-}
-
-// Room for one more number.
-fn room(stdout: Stdout, out: &[u8; 65536], w: Waiting) -> Waiting
-    requires { w.at ≤ 65536 }
-    ensures { Adds [] w out.now result out.now × (result.at ≤ 65504) }
-{
-    if w.at <= 65504 {
-        return w;
-    }
-    flush(stdout, out, w)
-}
-
-// Puts a byte behind the first `at`.
-fn put_byte(out: &mut [u8], at: usize, b: u8) -> usize
-    requires { at < length out.old }
-    ensures { (result ≡ at + 1) × (take result out.new ≡ take at out.old ++ (b ∷ [])) }
-{
-    out[at] = b;
-    at + 1
-}
-
-fn copy(digits: &[u8], n: usize, out: &mut [u8], at: usize) -> usize
-    requires { (n ≤ length digits.now) × (at + n ≤ length out.old) }
-    ensures { (result ≡ at + n) × (take result out.new ≡ take at out.old ++ take n digits.now) }
-{
-    let mut i: usize = 0;
-    while i < n {
-        out[at + i] = digits[i];
-        i += 1;
-    }
-    at + n
-}
-
-fn place(digits: &[u8; 20], n: usize, out: &mut [u8; 65536], at: usize) -> usize
-    requires { (n ≤ length digits.now) × (at ≤ 65516) }
-    ensures { (result ≡ at + n) × (n ≤ 20) × (take result out.new ≡ take at out.old ++ take n digits.now) }
-{
-    copy(digits, n, out, at)
-}
-
-// Puts a number behind the first `at` bytes.
-fn put_number(out: &mut [u8; 65536], at: usize, n: u64) -> usize
-    requires { at ≤ 65516 }
-    ensures { (result ≤ at + 20) × (take result out.new ≡ take at out.old ++ decimal n) }
+fn put_number(block: &mut ArrayVec<u8, 65536>, n: u64)
+    requires { array_vec_len block.old + 20 ≤ 65536 }
+    ensures put { block.new.items ≡ block.old.items ++ decimal n }
+    ensures len { array_vec_len block.new ≤ array_vec_len block.old + 20 }
 {
     let mut digits = [0u8; 20];
     let k = io::decimal(n, &mut digits);
-    place(&digits, k, out, at)
-}
-
-// Puts a space and a number behind the first `at` bytes. It hands back a place alone: a struct would go through memory
-// for each number of a list.
-fn put_spaced(out: &mut [u8; 65536], at: usize, n: u64) -> usize
-    requires { at ≤ 65504 }
-    ensures { (result ≤ at + 21) × (take result out.new ≡ take at out.old ++ (32 ∷ decimal n)) }
-{
-    let space = put_byte(out, at, b' ');
-    put_number(out, space, n)
-}
-
-pub fn byte(stdout: Stdout, out: &mut [u8; 65536], w: Waiting, b: u8) -> Waiting
-    requires { w.at ≤ 65536 }
-    ensures { Adds (Text.sign b ∷ []) w out.old result out.new }
-{
-    let to = room(stdout, out, w);
-    Waiting {
-        at: put_byte(out, to.at, b),
-        sent: to.sent,
+    for &digit in &digits[..k] {
+        block.push(digit);
     }
-}
-
-// The number that a line begins with.
-pub fn number(stdout: Stdout, out: &mut [u8; 65536], w: Waiting, n: u64) -> Waiting
-    requires { w.at ≤ 65536 }
-    ensures { Adds (Text.first n ∷ []) w out.old result out.new }
-{
-    let to = room(stdout, out, w);
-    Waiting {
-        at: put_number(out, to.at, n),
-        sent: to.sent,
-    }
-}
-
-// A number that is not the first word of its line.
-pub fn more(stdout: Stdout, out: &mut [u8; 65536], w: Waiting, n: u32) -> Waiting
-    requires { w.at ≤ 65536 }
-    ensures { Adds (Text.number n ∷ []) w out.old result out.new }
-{
-    let to = room(stdout, out, w);
-    Waiting {
-        at: put_spaced(out, to.at, n as u64),
-        sent: to.sent,
-    }
-}
-
-// The same of a count.
-pub fn count(stdout: Stdout, out: &mut [u8; 65536], w: Waiting, n: usize) -> Waiting
-    requires { w.at ≤ 65536 }
-    ensures { Adds (Text.number n ∷ []) w out.old result out.new }
-{
-    let to = room(stdout, out, w);
-    Waiting {
-        at: put_spaced(out, to.at, n as u64),
-        sent: to.sent,
-    }
-}
-
-pub fn signed(stdout: Stdout, out: &mut [u8; 65536], w: Waiting, z: i16) -> Waiting
-    requires { w.at ≤ 65536 }
-    ensures { Adds (Text.signed z ∷ []) w out.old result out.new }
-{
-    let to = byte(stdout, out, w, b' ');
-    if z < 0 {
-        let minus = byte(stdout, out, to, b'-');
-        return number(stdout, out, minus, (-(z as i32)) as u64);
-    }
-    number(stdout, out, to, z as u64)
-}
-
-pub fn end(stdout: Stdout, out: &mut [u8; 65536], w: Waiting) -> Waiting
-    requires { w.at ≤ 65536 }
-    ensures { Adds (Text.end ∷ []) w out.old result out.new }
-{
-    byte(stdout, out, w, b'\n')
-}
-
-pub fn word(stdout: Stdout, out: &mut [u8; 65536], w: Waiting, text: &[u8]) -> Waiting
-    requires { w.at ≤ 65536 }
-    ensures { Adds (Text.word text.now ∷ []) w out.old result out.new }
-{
-    let mut to = byte(stdout, out, w, b' ');
-    let mut i: usize = 0;
-    while i < text.len() {
-        to = byte(stdout, out, to, text[i]);
-        i += 1;
-    }
-    to
-}
-
-// The numbers of a list, each after a space.
-pub fn all(stdout: Stdout, out: &mut [u8; 65536], w: Waiting, list: &[u32]) -> Waiting
-    requires { w.at ≤ 65536 }
-    ensures { Adds (Text.numbers list.now) w out.old result out.new }
-{
-    let mut to = w;
-    let mut i: usize = 0;
-    while i < list.len() {
-        to = more(stdout, out, to, list[i]);
-        i += 1;
-    }
-    to
-}
-
-fn wide(b: u8) -> u32
-    ensures { result ≡ b }
-{
-    b as u32
-}
-
-// The same of bytes.
-pub fn bytes(stdout: Stdout, out: &mut [u8; 65536], w: Waiting, list: &[u8]) -> Waiting
-    requires { w.at ≤ 65536 }
-    ensures { Adds (Text.numbers list.now) w out.old result out.new }
-{
-    let mut to = w;
-    let mut i: usize = 0;
-    while i < list.len() {
-        to = more(stdout, out, to, wide(list[i]));
-        i += 1;
-    }
-    to
-}
-
-// A line of an answer alone.
-pub fn answer(stdout: Stdout, out: &mut [u8; 65536], w: Waiting, answer: u32) -> Waiting
-    requires { w.at ≤ 65536 }
-    ensures { Adds (Text.line answer []) w out.old result out.new }
-{
-    let to = number(stdout, out, w, answer as u64);
-    end(stdout, out, to)
-}
-
-// A line of the answer 0 and a count.
-pub fn counted(stdout: Stdout, out: &mut [u8; 65536], w: Waiting, n: usize) -> Waiting
-    requires { w.at ≤ 65536 }
-    ensures { Adds (Text.line 0 (Text.number n ∷ [])) w out.old result out.new }
-{
-    let to = number(stdout, out, w, 0);
-    let then = count(stdout, out, to, n);
-    end(stdout, out, then)
-}
-
-// The line for what the program cannot lend or write.
-pub fn refused(stdout: Stdout, out: &mut [u8; 65536], w: Waiting) -> Waiting
-    requires { w.at ≤ 65536 }
-    ensures { Adds Text.beyond w out.old result out.new }
-{
-    let to = byte(stdout, out, w, b'!');
-    end(stdout, out, to)
-}
-
-pub fn malformed(stdout: Stdout, out: &mut [u8; 65536], w: Waiting, line: u64) -> Waiting
-    requires { w.at ≤ 65536 }
-    ensures { Adds (Text.malformed line) w out.old result out.new }
-{
-    let mark = byte(stdout, out, w, b'?');
-    let space = byte(stdout, out, mark, b' ');
-    let to = number(stdout, out, space, line);
-    end(stdout, out, to)
 }

@@ -1,5 +1,5 @@
 -- Each file uses the ones before it.
-pub mod Lent
+pub mod Rows
 pub mod Sorts
 pub mod Pass
 pub mod Same

@@ -5,11 +5,12 @@ use Rattle.std.specs.Float.Ieee.{of_bits}
 use Rattle.geom.specs.declared.Rect.{Rect}
 use Rattle.geom.specs.Geom.{rect}
 use Rattle.script.specs.declared.shape.Line.{Line}
+use Rattle.script.specs.Kind.{code_of}
 use Rattle.script.specs.Script.{Shaped}
 
 -- the numbers are those of the line
 abbrev pub Sound : Line → List ℕ → Type 0
-Sound l ns = Shaped l.kind l.count l.name ns
+Sound l ns = Shaped (code_of l.kind) l.count l.name ns
 
 abbrev pub num : List ℕ → ℕ → ℕ
 num ns i = get_or ns i 0

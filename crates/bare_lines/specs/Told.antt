@@ -2,9 +2,7 @@
 use Rattle.std.specs.Prelude.{ℕ, ◌+◌, ◌-◌, cond, List, [], ◌∷◌, eqb, length, take, drop}
 use Rattle.std.proofs.Math.Option.{Option, none, some}
 use Rattle.geom.specs.declared.Rect.{Rect}
-use Rattle.geom.specs.declared.Tested.{Tested}
-use Rattle.geom.specs.declared.United.{United}
-use Rattle.geom.specs.Bare.{Met, answer14, both_fit, bare_contains, bare_contains_rect, bare_within, bare_union, bare_intersect, bare_pieces}
+use Rattle.geom.specs.Bare.{Tested, United, Met, answer14, both_fit, bare_contains, bare_contains_rect, bare_within, bare_union, bare_intersect, bare_pieces}
 use Rattle.winbuf.specs.Pixels.{Part, Write, scanline, fill_scanline, set_scanline, region}
 use Rattle.script.specs.Text.{bytes}
 use Rattle.script.specs.Kind as Kind

@@ -1,139 +1,118 @@
 // The lines of bare geometry.
-ghost use Rattle.std.specs.Prelude.{◌≤◌, [], ◌∷◌, take};
-ghost use Rattle.geom.specs.Bare.{answer14, both_fit, bare_union, bare_intersect, bare_pieces};
-ghost use Rattle.script.specs.Text.{bytes};
-ghost use Rattle.answer_text.specs.Text.{word, line, rectangle, rectangles};
-ghost use Rattle.answer_text.specs.Added.{Adds};
-ghost use Rattle.bare_lines.specs.Told.{met_line, united_line, pieces_line, tested_line, rect_line};
+ghost use Rattle.std.specs.Prelude.{◌≡◌, ◌≤◌, ◌∷◌, take};
+ghost use Rattle.geom.specs.Bare.{BareNotIntersect, Tested, tested_of, united_of, met, not_intersect_of, bare_union, bare_intersect, bare_pieces, answer14, both_fit};
+ghost use Rattle.geom.specs.Refusals.{option_of};
+ghost use Rattle.script.specs.Kind.{code_of};
+ghost use Rattle.answer_text.specs.Text.{number, rectangle, rectangles};
+ghost use Rattle.answer_text.specs.Added.{Says};
+ghost use Rattle.bare_lines.specs.Told.{rectangle_or, met_line, united_line, pieces_line, tested_line, rect_line};
 
 use crate::numbers;
-use answer_text::Waiting;
-use geom::inner::answers::OK;
-use geom::{Intersection, Rect, Tested};
-use script::kind;
-use std::io::Stdout;
+use crate::numbers::Numbers;
+use answer_text::Output;
+use geom::refusal::Refusal;
+use geom::{Pieces, Rect};
+use script::kind::Kind;
 
-pub fn rect_line(
-    k: u8,
-    ns: &[u32; 384006],
-    stdout: Stdout,
-    out: &mut [u8; 65536],
-    w: Waiting,
-) -> Waiting
-    requires { w.at ≤ 65536 }
-    ensures { Adds (rect_line k ns.now) w out.old result out.new }
+pub fn rect_line(k: Kind, ns: &Numbers, out: &mut Output)
+    ensures { Says (rect_line (code_of k) ns.now) out.old out.new }
 {
     let a = numbers::rect(ns, 0);
     let b = numbers::rect(ns, 4);
     match k {
-        kind::INTERSECT => intersect(a, b, stdout, out, w),
-        kind::PIECES => pieces(a, b, stdout, out, w),
-        kind::UNION => union(a, b, stdout, out, w),
-        kind::CONTAINS => tested(a.contains(numbers::pos(ns, 4)), stdout, out, w),
-        kind::CONTAINS_RECT => tested(a.contains_rect(b), stdout, out, w),
-        _ => tested(a.within(ns[4], ns[5]), stdout, out, w),
+        Kind::Intersect => found(a.intersect(b), out),
+        Kind::Pieces => pieces(a, b, out),
+        Kind::Union => united(a.union(b), out),
+        Kind::Contains => tested(a.contains(numbers::pos(ns, 4)), out),
+        Kind::ContainsRect => tested(a.contains_rect(b), out),
+        _ => tested(a.within(ns[4], ns[5]), out),
     }
 }
 
-pub fn write_rect(r: Rect, stdout: Stdout, out: &mut [u8; 65536], w: Waiting) -> Waiting
-    requires { w.at ≤ 65536 }
-    ensures { Adds (rectangle r) w out.old result out.new }
+pub fn write_rect(r: Rect, out: &mut Output)
+    ensures { Says (rectangle r) out.old out.new }
 {
-    let x = answer_text::more(stdout, out, w, r.pos.x);
-    let y = answer_text::more(stdout, out, x, r.pos.y);
-    let width = answer_text::more(stdout, out, y, r.dims.w);
-    answer_text::more(stdout, out, width, r.dims.h)
+    out.more(r.pos.x);
+    out.more(r.pos.y);
+    out.more(r.dims.w);
+    out.more(r.dims.h);
 }
 
-// A line of 0 and a rectangle.
-pub fn found(r: Rect, stdout: Stdout, out: &mut [u8; 65536], w: Waiting) -> Waiting
-    requires { w.at ≤ 65536 }
-    ensures { Adds (line 0 (rectangle r)) w out.old result out.new }
+fn write_rect_or_none(rect: Option<Rect>, out: &mut Output)
+    ensures { Says (rectangle_or (option_of rect)) out.old out.new }
 {
-    let to = answer_text::number(stdout, out, w, 0);
-    let then = write_rect(r, stdout, out, to);
-    answer_text::end(stdout, out, then)
-}
-
-// A line of 0 where there is none.
-pub fn none(stdout: Stdout, out: &mut [u8; 65536], w: Waiting) -> Waiting
-    requires { w.at ≤ 65536 }
-    ensures { Adds (line 0 (word (bytes "none") ∷ [])) w out.old result out.new }
-{
-    let to = answer_text::number(stdout, out, w, 0);
-    let then = answer_text::word(stdout, out, to, b"none");
-    answer_text::end(stdout, out, then)
-}
-
-fn intersect(a: Rect, b: Rect, stdout: Stdout, out: &mut [u8; 65536], w: Waiting) -> Waiting
-    requires { w.at ≤ 65536 }
-    ensures { Adds (met_line (bare_intersect a b)) w out.old result out.new }
-{
-    let common = a.intersect(b);
-    match common {
-        Intersection::Common(r) => found(r, stdout, out, w),
-        Intersection::Apart => none(stdout, out, w),
-        Intersection::Refused => answer_text::answer(stdout, out, w, 14),
+    match rect {
+        Some(rect) => write_rect(rect, out),
+        None => out.word(b"none"),
     }
 }
 
-fn union(a: Rect, b: Rect, stdout: Stdout, out: &mut [u8; 65536], w: Waiting) -> Waiting
-    requires { w.at ≤ 65536 }
-    ensures { Adds (united_line (bare_union a b)) w out.old result out.new }
+// A rectangle, or `none`.
+pub fn found(found: Result<Option<Rect>, Refusal>, out: &mut Output)
+    ensures { Says (met_line (met found)) out.old out.new }
 {
-    let joined = a.union(b);
-    if joined.answer == OK {
-        let r = joined.rect;
-        return found(r, stdout, out, w);
+    match found {
+        Ok(rect) => {
+            out.number(0);
+            write_rect_or_none(rect, out);
+            out.end();
+        }
+        Err(refusal) => out.answer(Err(refusal)),
     }
-    answer_text::answer(stdout, out, w, joined.answer)
 }
 
-fn pieces(a: Rect, b: Rect, stdout: Stdout, out: &mut [u8; 65536], w: Waiting) -> Waiting
-    requires { w.at ≤ 65536 }
-    ensures { Adds (pieces_line (answer14 (both_fit a b)) (bare_pieces a b)) w out.old result out.new }
+fn united(united: Result<Rect, Refusal>, out: &mut Output)
+    ensures { Says (united_line (united_of united)) out.old out.new }
 {
-    let outside = a.not_intersect(b);
-    if outside.answer == OK {
-        let list = outside.pieces;
-        let rects = list.rects;
-        let n = list.count;
-        let to = answer_text::number(stdout, out, w, 0);
-        let then = answer_text::more(stdout, out, to, n as u32);
-        let last = write_rects(rects, n, stdout, out, then);
-        return answer_text::end(stdout, out, last);
+    match united {
+        Ok(rect) => {
+            out.number(0);
+            write_rect(rect, out);
+            out.end();
+        }
+        Err(refusal) => out.answer(Err(refusal)),
     }
-    answer_text::answer(stdout, out, w, outside.answer)
 }
 
-fn write_rects(
-    rects: [Rect; 4],
-    n: usize,
-    stdout: Stdout,
-    out: &mut [u8; 65536],
-    w: Waiting,
-) -> Waiting
-    requires { (n ≤ 4) × (w.at ≤ 65536) }
-    ensures { Adds (rectangles (take n rects)) w out.old result out.new }
+fn pieces(a: Rect, b: Rect, out: &mut Output)
+    ensures { Says (pieces_line (answer14 (both_fit a b)) (bare_pieces a b)) out.old out.new }
 {
-    let mut to = w;
-    let mut i: usize = 0;
-    while i < n {
-        let r = rects[i];
-        to = write_rect(r, stdout, out, to);
-        i += 1;
+    match a.not_intersect(b) {
+        Ok(pieces) => {
+            out.number(0);
+            write_pieces(pieces, out);
+            out.end();
+        }
+        Err(refusal) => out.answer(Err(refusal)),
     }
-    to
 }
 
-fn tested(t: Tested, stdout: Stdout, out: &mut [u8; 65536], w: Waiting) -> Waiting
-    requires { w.at ≤ 65536 }
-    ensures { Adds (tested_line t) w out.old result out.new }
+fn write_pieces(pieces: Pieces, out: &mut Output)
+    requires { pieces.count ≤ 4 }
+    ensures { Says (number pieces.count ∷ rectangles (take pieces.count pieces.rects)) out.old out.new }
 {
-    if t.answer == OK {
-        let to = answer_text::number(stdout, out, w, 0);
-        let then = answer_text::more(stdout, out, to, t.yes as u32);
-        return answer_text::end(stdout, out, then);
+    out.more(pieces.count);
+    write_rects(&pieces.rects[..pieces.count], out);
+}
+
+fn write_rects(rects: &[Rect], out: &mut Output)
+    ensures { Says (rectangles rects.now) out.old out.new }
+{
+    out.make_room();
+    for &rect in rects {
+        write_rect(rect, out);
     }
-    answer_text::answer(stdout, out, w, t.answer)
+}
+
+fn tested(yes: Result<bool, Refusal>, out: &mut Output)
+    ensures { Says (tested_line (tested_of yes)) out.old out.new }
+{
+    match yes {
+        Ok(yes) => {
+            out.number(0);
+            out.more(yes);
+            out.end();
+        }
+        Err(refusal) => out.answer(Err(refusal)),
+    }
 }

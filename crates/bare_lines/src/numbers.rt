@@ -5,28 +5,31 @@ ghost use Rattle.bare_lines.specs.Numbers.{num, id_of, rect_at, float_of};
 use geom::{Dims, Pos, Rect};
 use window::ids::WinId;
 
+// Room for the numbers of the longest line. Those behind a line's last are of lines before it.
+pub type Numbers = [u32; 384006];
+
 // The window that a line names. Any number is handed on, and one that no window has is answered by 3.
-pub fn id(ns: &[u32; 384006]) -> WinId
+pub fn id(ns: &Numbers) -> WinId
     ensures { result.0 ≡ id_of ns.now }
 {
     WinId(ns[0])
 }
 
-pub fn pos(ns: &[u32; 384006], at: usize) -> Pos
+pub fn pos(ns: &Numbers, at: usize) -> Pos
     requires { at ≤ 4 }
     ensures { (result.x ≡ num ns.now at) × (result.y ≡ num ns.now (at + 1)) }
 {
     Pos::new(ns[at], ns[at + 1])
 }
 
-pub fn dims(ns: &[u32; 384006], at: usize) -> Dims
+pub fn dims(ns: &Numbers, at: usize) -> Dims
     requires { at ≤ 4 }
     ensures { (result.w ≡ num ns.now at) × (result.h ≡ num ns.now (at + 1)) }
 {
     Dims::new(ns[at], ns[at + 1])
 }
 
-pub fn rect(ns: &[u32; 384006], at: usize) -> Rect
+pub fn rect(ns: &Numbers, at: usize) -> Rect
     requires { at ≤ 4 }
     ensures { result ≡ rect_at ns.now at }
 {
@@ -37,13 +40,7 @@ pub fn rect(ns: &[u32; 384006], at: usize) -> Rect
 pub fn size(w: u32, h: u32) -> u64
     ensures { result ≡ w * h }
 {
-    w as u64 * h as u64
-}
-
-pub fn wide(n: u32) -> usize
-    ensures { result ≡ n }
-{
-    n as usize
+    u64::from(w) * u64::from(h)
 }
 
 // The f64 of its upper and its lower 32 bits. The language reads no NaN from bits, so one is made: by the model of f64 there is one.

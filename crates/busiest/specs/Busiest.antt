@@ -1,7 +1,16 @@
 -- Document 02, N13: the busiest second of a run of event times in milliseconds, over whole numbers, so that no sum is too large.
 use Rattle.std.specs.Prelude.{ℕ, ◌+◌, max, Bool, true, cond, ◌&&◌, List, [], ◌∷◌, map, leb, ltb, eqb, length}
+use Rattle.std.specs.Prelude.{Result, Ok, Err}
 use Rattle.geom.specs.Questions.{◌is◌, asked}
-use Rattle.busiest.specs.declared.Second.{Second}
+use Rattle.geom.specs.declared.refusal.Refusal.{Refusal}
+use Rattle.geom.specs.Refusals.{number}
+use Rattle.busiest.specs.declared.Second as Code
+
+-- the answer, the greatest count of a second, and the place of its first event
+pub record Second : Type 0 where
+  pub answer : ℕ
+  pub count : ℕ
+  pub place : ℕ
 
 -- "any span from an event's time t up to but not including t + 1,000"
 abbrev pub in_span : ℕ → ℕ → Bool
@@ -47,3 +56,8 @@ busiest run =
     cond (eqb (answer run) 0)
     (record { answer = 0; count = greatest (counts run); place = first (greatest (counts run)) (counts run) })
     (refused (answer run))
+
+-- what a call gave, with its answer
+abbrev pub second_of : Result Code.Second Refusal → Second
+second_of (Ok s) = record { answer = 0; count = s.count; place = s.place }
+second_of (Err refusal) = refused (number refusal)

@@ -1,7 +1,6 @@
 -- Runs and their busiest seconds, by computation.
 use Rattle.std.specs.Prelude.{ℕ, ◌≡◌, refl, List, [], ◌∷◌, replicate}
-use Rattle.busiest.specs.declared.Second.{Second}
-use Rattle.busiest.specs.Busiest.{busiest, refused}
+use Rattle.busiest.specs.Busiest.{Second, busiest, refused}
 
 -- the answer 0 with a count and a place
 abbrev found : ℕ → ℕ → Second

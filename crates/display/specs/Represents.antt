@@ -1,6 +1,5 @@
 -- What the displays in memory stand for: an array of eight with a count, in numbers of 16 bits; and what the code keeps of it.
 use Rattle.std.specs.Prelude.{ℕ, ◌≤◌, ◌<◌, ◌≡◌, List, [], ◌∷◌, ◌++◌, map, length, take, get_or}
-use Rattle.std.proofs.Math.Option.{Option, none, some}
 use Rattle.geom.specs.declared.Rect.{Rect}
 use Rattle.geom.specs.Questions.{◌is◌, asked}
 use Rattle.geom.specs.Geom.{width, height, right, bottom, small_rect}
@@ -8,11 +7,8 @@ use Rattle.geom.specs.Displays as rule
 use Rattle.geom.specs.Rect16.{rect_of, no_rect16}
 use Rattle.rules.specs.Displays.{on_screen, room_for}
 use Rattle.display.specs.declared.Displays.{Displays}
-use Rattle.display.specs.declared.Added.{Added}
 use Rattle.display.specs.declared.Located.{Located}
 use Rattle.display.specs.declared.Located.TheVariants.{On, Closest}
-use Rattle.display.specs.declared.AtPos.{AtPos}
-use Rattle.display.specs.declared.AtPos.TheVariants.{Display, Nowhere}
 
 -- the displays in order of adding
 abbrev pub regions : Displays → List Rect
@@ -35,9 +31,13 @@ abbrev pub located_of : Located → rule.Located
 located_of (On r) = rule.on r
 located_of (Closest r) = rule.closest r
 
-abbrev pub region_of : AtPos → Option Rect
-region_of (Display r) = some r
-region_of Nowhere = none
+-- what the adding of a display makes of them, and the answer
+pub record Added : Type 0 where
+  pub displays : Displays
+  pub answer : ℕ
+
+abbrev pub added : Displays → ℕ → Added
+added d n = record { displays = d; answer = n }
 
 -- one display more, or as they were: the questions and the list are the rule's
 pub record Adds (d : Displays) (r : Rect) (a : Added) : Type 0 where

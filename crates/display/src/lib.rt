@@ -4,21 +4,24 @@
 // (specs/Represents.antt).
 #![tactic(auto)]
 
-ghost use Rattle.std.specs.Prelude.{◌≡◌, [], ◌≤◌};
+ghost use Rattle.std.specs.Prelude.{◌≡◌, [], ◌≤◌, take};
+ghost use Rattle.geom.specs.Geom.{contains};
 ghost use Rattle.geom.specs.Displays.{first_on, closest_to, display_for};
-ghost use Rattle.geom.specs.Rect16.{Small};
+ghost use Rattle.geom.specs.Rect16.{Small, rect_of};
+ghost use Rattle.geom.specs.Refusals.{answer_of, option_of};
 ghost use Rattle.rules.specs.Displays.{on_screen};
-ghost use Rattle.display.specs.Represents.{regions, RepDisplays, region_of, located_of, Adds};
+ghost use Rattle.display.specs.Represents.{regions, RepDisplays, located_of, Adds, added};
 
-use geom::inner::answers::{DISPLAY_SIZE, OK, TOO_LARGE, TOO_MANY_DISPLAYS};
 use geom::inner::rect16::Rect16;
 use geom::inner::small::{MOST, is_small};
 use geom::inner::{bottom, clamp_pos, dist_sq, is_empty, right};
+use geom::refusal::Refusal;
 use geom::{Pos, Rect};
 
 pub mod update;
 
-// The first `len` areas.
+// The first `len` areas. It is an array with its length beside it, and `RepDisplays` a clause and no invariant, since C
+// owns the session that holds it.
 #[repr(C)]
 #[derive(Clone, Copy)]
 pub struct Displays {
@@ -26,25 +29,11 @@ pub struct Displays {
     pub len: u8,
 }
 
-// The display that a position is on, or the closest one.
-#[derive(Clone, Copy)]
+// The display that a position is on, or the closest one. It is no Result, since neither is a failure.
+#[derive(Clone, Copy, Debug, PartialEq, Eq)]
 pub enum Located {
     On(Rect),
     Closest(Rect),
-}
-
-// What the adding of a display makes of them, and the answer.
-#[repr(C)]
-#[derive(Clone, Copy)]
-pub struct Added {
-    pub displays: Displays,
-    pub answer: u32,
-}
-
-#[derive(Clone, Copy)]
-pub enum AtPos {
-    Display(Rect),
-    Nowhere,
 }
 
 // Question 15 of a rectangle that passed question 5.
@@ -52,114 +41,91 @@ fn on_screen(r: Rect) -> bool
     requires { Small r }
     ensures { result ≡ on_screen r }
 {
-    if is_empty(r) {
-        return false;
-    }
-    if MOST < right(r) {
-        return false;
-    }
-    bottom(r) <= MOST
+    !is_empty(r) && (right(r) <= MOST && bottom(r) <= MOST)
 }
 
-// A refused call.
-fn refused(displays: Displays, answer: u32) -> Added
-    ensures { result ≡ record { displays = displays; answer = answer } }
+fn has(area: Rect16, pos: Pos) -> bool
+    ensures { result ≡ contains (rect_of area) pos.x pos.y }
 {
-    Added { displays, answer }
+    area.rect().contains(pos) == Ok(true)
 }
 
 impl Displays {
     pub fn none() -> Displays
         ensures { (regions result ≡ []) × RepDisplays result }
     {
-        let blank = Rect16 {
-            x: 0,
-            y: 0,
-            w: 0,
-            h: 0,
-        };
-        let areas = [blank; 8];
-        Displays { areas, len: 0 }
+        Displays {
+            areas: [Rect16::new(0, 0, 0, 0); 8],
+            len: 0,
+        }
     }
 
     // One display more, behind the others. A refused call leaves them as they were.
-    pub fn add(mut self, region: Rect) -> Added
-        requires { RepDisplays self }
-        ensures { Adds self region result }
+    pub fn add(&mut self, region: Rect) -> Result<(), Refusal>
+        requires { RepDisplays self.old }
+        ensures { Adds self.old region (added self.new (answer_of result)) }
     {
         if !is_small(region) {
-            return refused(self, TOO_LARGE);
+            return Err(Refusal::TooLarge);
         }
         if !on_screen(region) {
-            return refused(self, DISPLAY_SIZE);
+            return Err(Refusal::DisplaySize);
         }
-        let n = self.len;
-        if 8 <= n {
-            return refused(self, TOO_MANY_DISPLAYS);
+        if self.len >= 8 {
+            return Err(Refusal::TooManyDisplays);
         }
         let last = Rect16::new(region.pos.x, region.pos.y, region.dims.w, region.dims.h);
-        let at = n as usize;
-        self.areas[at] = last;
-        self.len = n + 1;
-        Added {
-            displays: self,
-            answer: OK,
-        }
+        self.areas[self.len as usize] = last;
+        self.len += 1;
+        Ok(())
+    }
+
+    fn present(&self) -> &[Rect16]
+        requires { RepDisplays self.now }
+        ensures { result.now ≡ take self.now.len self.now.areas }
+    {
+        &self.areas[..self.len as usize]
     }
 
     // The first display that contains the position.
-    fn with_display_at_pos(self, pos: Pos) -> AtPos
-        requires { RepDisplays self }
-        ensures { region_of result ≡ first_on (regions self) pos.x pos.y }
+    fn with_display_at_pos(&self, pos: Pos) -> Option<Rect>
+        requires { RepDisplays self.now }
+        ensures { option_of result ≡ first_on (regions self.now) pos.x pos.y }
     {
-        let n = self.len as usize;
-        let mut i: usize = 0;
-        while i < n {
-            let surf = self.areas[i];
-            let region = surf.rect();
-            let on = region.contains(pos);
-            if on.yes {
-                return AtPos::Display(region);
+        let areas = self.present();
+        for area in areas {
+            if has(*area, pos) {
+                return Some(area.rect());
             }
-            i += 1;
         }
-        AtPos::Nowhere
+        None
     }
 
     // The nearest display, the first of those that are equally near; with no display (0,0,0,0).
-    fn closest(self, pos: Pos) -> Rect
-        requires { RepDisplays self × (pos.x ≤ 32767) × (pos.y ≤ 32767) }
-        ensures { result ≡ closest_to (regions self) pos.x pos.y }
+    fn closest(&self, pos: Pos) -> Rect
+        requires { RepDisplays self.now × (pos.x ≤ 32767) × (pos.y ≤ 32767) }
+        ensures { result ≡ closest_to (regions self.now) pos.x pos.y }
     {
-        let n = self.len as usize;
-        let mut dist: u64 = 18446744073709551615;
-        let mut near = Rect16 {
-            x: 0,
-            y: 0,
-            w: 0,
-            h: 0,
-        };
-        let mut i: usize = 0;
-        while i < n {
-            let surf = self.areas[i];
-            let new_dist = dist_sq(pos, clamp_pos(surf.rect(), pos));
+        let areas = self.present();
+        let mut dist = u64::MAX;
+        let mut near = Rect16::new(0, 0, 0, 0);
+        for area in areas {
+            let new_dist = dist_sq(pos, clamp_pos(area.rect(), pos));
             if new_dist < dist {
                 dist = new_dist;
-                near = surf;
+                near = *area;
             }
-            i += 1;
         }
         near.rect()
     }
 
-    pub fn get_display_for_pos(self, pos: Pos) -> Located
-        requires { RepDisplays self × (pos.x ≤ 32767) × (pos.y ≤ 32767) }
-        ensures { located_of result ≡ display_for (regions self) pos.x pos.y }
+    pub fn get_display_for_pos(&self, pos: Pos) -> Located
+        requires { RepDisplays self.now × (pos.x ≤ 32767) × (pos.y ≤ 32767) }
+        ensures { located_of result ≡ display_for (regions self.now) pos.x pos.y }
     {
-        let at = self.with_display_at_pos(pos);
-        match at {
-            AtPos::Display(r) => Located::On(r),
-            AtPos::Nowhere => Located::Closest(self.closest(pos)),
+        match self.with_display_at_pos(pos) {
+            Some(d) => Located::On(d),
+            None => Located::Closest(self.closest(pos)),
         }
     }
 }

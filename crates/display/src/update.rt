@@ -1,27 +1,26 @@
-// Where windows go: the display that a maximised window takes, and where `update_dims` puts each of sixteen windows. Translated from windows/mod.rs.
+// Where windows go: the display that a maximised window takes, and where `update_dims` puts each of sixteen windows.
+// Translated from windows/mod.rs.
 ghost use Rattle.std.specs.Prelude.{◌≡◌, ℕ, ◌<◌, length};
 ghost use Rattle.geom.specs.Displays.{answered};
 ghost use Rattle.geom.specs.Rect16.{Small, rect_of};
 ghost use Rattle.rules.specs.Displays as rule;
 ghost use Rattle.display.specs.Represents.{regions, RepDisplays, located_of};
-ghost use Rattle.display.specs.inner.Update.{place, MovesTo, all_fit, Roomy, all_resized};
+ghost use Rattle.display.specs.inner.Update.{place, moves_of, MovesTo, all_fit, Roomy, all_resized};
 
 use crate::{Displays, Located};
-use geom::inner::bools::both;
 use geom::inner::rect16::Rect16;
-use geom::inner::{bottom, greatest, least, right};
+use geom::inner::{bottom, right};
 use geom::{Pos, Rect};
 use winbuf::inner::resize::resize_store;
 
 // What stays visible at least of a window that comes to the closest display.
 const MIN_VISIBLE: u32 = 20;
 
-// Where sixteen windows go, by their numbers, and which of them take a display there.
-#[repr(C)]
+// Where a window goes, and whether it takes a display there.
 #[derive(Clone, Copy)]
-pub struct Moves {
-    pub areas: [Rect16; 16],
-    pub resizes: [bool; 16],
+pub struct Move {
+    pub to: Rect16,
+    pub resizes: bool,
 }
 
 fn area_of(d: Rect) -> Rect16
@@ -35,10 +34,7 @@ fn area_of(d: Rect) -> Rect16
 fn warped(from: u32, to: u32, n: u32) -> u32
     ensures { result ≡ rule.warped from to n }
 {
-    if to < MIN_VISIBLE {
-        return from;
-    }
-    greatest(least(n, to - MIN_VISIBLE), from)
+    n.min(to.saturating_sub(MIN_VISIBLE)).max(from)
 }
 
 // The place of a window that is not maximised: one on a display stays, one on none comes to the closest, with its size.
@@ -47,7 +43,7 @@ fn kept_at(found: Located, at: Rect16) -> Rect16
     ensures { (rect_of result ≡ rule.kept_at (located_of found) (rect_of at)) × Small (rect_of result) }
 {
     match found {
-        Located::On(d) => at,
+        Located::On(_) => at,
         Located::Closest(d) => {
             let x = warped(d.pos.x, right(d), at.x as u32);
             let y = warped(d.pos.y, bottom(d), at.y as u32);
@@ -67,8 +63,7 @@ fn answered(found: Located) -> Rect16
     ensures { rect_of result ≡ answered (located_of found) }
 {
     match found {
-        Located::On(d) => area_of(d),
-        Located::Closest(d) => area_of(d),
+        Located::On(d) | Located::Closest(d) => area_of(d),
     }
 }
 
@@ -81,21 +76,21 @@ pub fn fits(display: Rect16, c: u32) -> bool
 
 impl Displays {
     // The display that a window takes which is maximised there: (0,0,0,0) where it is on none.
-    pub fn display_of(self, at: Rect16) -> Rect16
-        requires { RepDisplays self × Small (rect_of at) }
-        ensures { (rect_of result ≡ rule.on_only (rule.locate (regions self) (rect_of at))) × Small (rect_of result) }
+    pub fn display_of(&self, at: Rect16) -> Rect16
+        requires { RepDisplays self.now × Small (rect_of at) }
+        ensures { (rect_of result ≡ rule.on_only (rule.locate (regions self.now) (rect_of at))) × Small (rect_of result) }
     {
         let found = self.get_display_for_pos(Pos::new(at.x as u32, at.y as u32));
         match found {
             Located::On(d) => area_of(d),
-            Located::Closest(d) => Rect16::new(0, 0, 0, 0),
+            Located::Closest(_) => Rect16::new(0, 0, 0, 0),
         }
     }
 
     // Where `update_dims` puts a window.
-    fn updated_at(self, maximised: bool, at: Rect16) -> Rect16
-        requires { RepDisplays self × Small (rect_of at) }
-        ensures { (rect_of result ≡ rule.updated_at (regions self) maximised (rect_of at)) × Small (rect_of result) }
+    fn updated_at(&self, maximised: bool, at: Rect16) -> Rect16
+        requires { RepDisplays self.now × Small (rect_of at) }
+        ensures { (rect_of result ≡ rule.updated_at (regions self.now) maximised (rect_of at)) × Small (rect_of result) }
     {
         let found = self.get_display_for_pos(Pos::new(at.x as u32, at.y as u32));
         if maximised {
@@ -104,58 +99,48 @@ impl Displays {
         kept_at(found, at)
     }
 
-    // Where it puts sixteen windows, each by itself: those that are in use and maximised take a display.
-    pub fn moves(self, areas: [Rect16; 16], used: [bool; 16], maximised: [bool; 16]) -> Moves
-        requires { RepDisplays self × ((i : ℕ) → i < 16 → Small (place areas i)) }
-        ensures { MovesTo (regions self) areas used maximised 16 result }
+    // Where it puts sixteen windows by their numbers, each by itself: those that are in use and maximised take a
+    // display.
+    pub fn moves(
+        &self,
+        areas: &[Rect16; 16],
+        used: &[bool; 16],
+        maximised: &[bool; 16],
+    ) -> [Move; 16]
+        requires { RepDisplays self.now × ((i : ℕ) → i < 16 → Small (place areas.now i)) }
+        ensures { MovesTo (regions self.now) areas.now used.now maximised.now 16 (moves_of result) }
     {
-        let mut to = areas;
-        let mut resizes = used;
-        let mut i: usize = 0;
-        while i < 16 {
-            let resize = both(used[i], maximised[i]);
-            let at = self.updated_at(resize, areas[i]);
-            to[i] = at;
-            resizes[i] = resize;
-            i += 1;
+        let stays = Move {
+            to: Rect16::new(0, 0, 0, 0),
+            resizes: false,
+        };
+        let mut moves = [stays; 16];
+        for i in 0..16 {
+            let resizes = used[i] && maximised[i];
+            let to = self.updated_at(resizes, areas[i]);
+            moves[i] = Move { to, resizes };
         }
-        Moves { areas: to, resizes }
+        moves
     }
 }
 
 // Question 6 of all of them.
-pub fn all_fit(m: Moves, c: u32) -> bool
-    requires { length m.areas ≡ 16 }
-    ensures { result ≡ all_fit c m }
+pub fn all_fit(moves: &[Move; 16], c: u32) -> bool
+    ensures { result ≡ all_fit c (moves_of moves.now) }
 {
-    let areas = m.areas;
-    let resizes = m.resizes;
-    let mut i: usize = 0;
-    while i < 16 {
-        if resizes[i] {
-            if !fits(areas[i], c) {
-                return false;
-            }
-        }
-        i += 1;
-    }
-    true
+    moves.iter().all(|m| !m.resizes || fits(m.to, c))
 }
 
 // The pixels of those that take a display: window i has the c from i × c on, and had the size of `old`.
-pub fn resize_all(store: &mut [u32], c: usize, old: [Rect16; 16], m: Moves)
-    requires { Roomy (length store.old) c old m }
-    ensures { store.new ≡ all_resized c old m.resizes 0 m.areas store.old }
+pub fn resize_all(store: &mut [u32], c: usize, old: &[Rect16; 16], moves: &[Move; 16])
+    requires { Roomy (length store.old) c old.now (moves_of moves.now) }
+    ensures { store.new ≡ all_resized c old.now (moves_of moves.now).resizes 0 (moves_of moves.now).areas store.old }
 {
-    let areas = m.areas;
-    let resizes = m.resizes;
-    let mut i: usize = 0;
-    while i < 16 {
-        if resizes[i] {
+    for (i, m) in moves.iter().enumerate() {
+        if m.resizes {
             let was = old[i];
-            let at = areas[i];
-            resize_store(store, i * c, c, was.w, was.h as usize, at.w, at.h as usize);
+            let to = m.to;
+            resize_store(store, i * c, c, was.w, was.h as usize, to.w, to.h as usize);
         }
-        i += 1;
     }
 }

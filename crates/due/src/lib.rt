@@ -4,11 +4,11 @@
 ghost use Rattle.std.specs.Prelude.{◌≡◌, ◌&&◌, ◌||◌, ◌<◌, leb};
 ghost use Rattle.due.specs.inner.Due.{no_walk, settled, owing, begun, further};
 
-use geom::inner::bools::either;
 use window::ids::Place;
 
-// A redraw that goes through the places of the render order, lowest first: whether one was begun and is neither over nor dropped, the place of
-// its next window, and whether it is full. What the other two hold where none is on is not looked at.
+// A redraw that goes through the places of the render order, lowest first: whether one was begun and is neither over
+// nor dropped, the place of its next window, and whether it is full. What the other two hold where none is on is not
+// looked at. It is no Option, since a session holds it in C's memory.
 #[repr(C)]
 #[derive(Clone, Copy)]
 pub struct Walk {
@@ -29,77 +29,67 @@ impl Walk {
         ensures { result ≡ no_walk }
     {
         Walk {
-            next: Place(0),
+            next: Place::lowest(),
             on: false,
             full: false,
         }
     }
 
     // Whether it is on and has no window left, of so many that are shown.
-    fn is_over(self, shown: usize) -> bool
-        ensures { result ≡ self.on && leb shown self.next.0 }
+    fn is_over(&self, shown: usize) -> bool
+        ensures { result ≡ self.now.on && leb shown self.now.next.0 }
     {
-        if self.on {
-            return shown <= self.next.0;
-        }
-        false
-    }
-
-    // A walk with no window left to draw is over, and only then is the debt cleared.
-    fn settled(self, owed: bool, shown: usize) -> Due
-        ensures { result ≡ settled owed self shown }
-    {
-        if self.is_over(shown) {
-            return Due {
-                walk: Walk::none(),
-                owed: false,
-            };
-        }
-        Due { walk: self, owed }
+        self.on && shown <= self.next.0
     }
 }
 
 impl Due {
     // Whether a full redraw is owed or a walk is on: a repair of a window then owes a full redraw.
-    pub fn is_pending(self) -> bool
-        ensures { result ≡ self.owed || self.walk.on }
+    pub fn is_pending(&self) -> bool
+        ensures { result ≡ self.now.owed || self.now.walk.on }
     {
-        let walk = self.walk;
-        either(self.owed, walk.on)
+        self.owed || self.walk.on
+    }
+
+    // A walk with no window left to draw is over, and only then is the debt cleared.
+    #[tactic(auto, unfolding(crate::specs::inner::Due::settled))]
+    fn settle(&mut self, shown: usize)
+        ensures { self.new ≡ settled self.old.owed self.old.walk shown }
+    {
+        if self.walk.is_over(shown) {
+            self.walk = Walk::none();
+            self.owed = false;
+        }
     }
 
     // A full redraw is owed, and a walk goes back to the bottom, in full.
-    pub fn owing(self, shown: usize) -> Due
-        ensures { result ≡ owing self shown }
+    pub fn owe(&mut self, shown: usize)
+        ensures { self.new ≡ owing self.old shown }
     {
-        let mut back = self.walk;
-        let bottom = Place(0);
-        back.next = bottom;
-        back.full = true;
-        back.settled(true, shown)
+        self.owed = true;
+        self.walk.next = Place::lowest();
+        self.walk.full = true;
+        self.settle(shown);
     }
 
     // A walk from the bottom, full if told so or owed, in place of one before it.
-    pub fn begin(self, forced: bool, shown: usize) -> Due
-        ensures { result ≡ begun forced self shown }
+    pub fn begin(&mut self, forced: bool, shown: usize)
+        ensures { self.new ≡ begun forced self.old shown }
     {
-        let walk = Walk {
-            next: Place(0),
+        self.walk = Walk {
+            next: Place::lowest(),
             on: true,
-            full: either(forced, self.owed),
+            full: forced || self.owed,
         };
-        walk.settled(self.owed, shown)
+        self.settle(shown);
     }
 
     // The walk goes on above the window that was treated.
-    pub fn further(self, shown: usize) -> Due
-        requires { self.walk.next.0 < 16 }
-        ensures { result ≡ further self shown }
+    pub fn advance(&mut self, shown: usize)
+        requires { self.old.walk.next.0 < 16 }
+        ensures { self.new ≡ further self.old shown }
     {
-        let mut rest = self.walk;
-        let next = rest.next;
-        let above = next.next();
-        rest.next = above;
-        rest.settled(self.owed, shown)
+        self.walk.next = self.walk.next.next();
+        self.settle(shown);
     }
 }

@@ -1,5 +1,6 @@
 -- What everybody must believe of rectangles, and the limits.
 pub mod Questions
+pub mod Refusals
 pub mod Geom
 pub mod Rect16
 pub mod Lists

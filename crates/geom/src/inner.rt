@@ -1,12 +1,11 @@
-// The same without question 14, for our own crates: their coordinates are known to fit (`Fits`).
+// The same without question 14, for our own crates: their coordinates are known to fit (`Fits`). That is no invariant of `Rect`, which is a struct
+// of the C interface and may hold any numbers.
 ghost use Rattle.std.specs.Prelude.{◌≡◌, true, false, ◌≤◌, min, max};
 ghost use Rattle.geom.specs.Geom as rule;
 ghost use Rattle.geom.specs.Nearest.{nearest_x, nearest_y, apart, distance²};
 ghost use Rattle.geom.specs.inner.Fits.{Fits};
 ghost use Rattle.geom.specs.Bare.{edges_fit, both_fit};
 
-pub mod answers;
-pub mod bools;
 pub mod lent;
 pub mod numbers;
 pub mod pieces;
@@ -19,41 +18,14 @@ use crate::{Pos, Rect};
 pub fn edges_fit(r: Rect) -> bool
     ensures { result ≡ edges_fit r }
 {
-    if 4294967295 - r.pos.x < r.dims.w {
-        return false;
-    }
-    if 4294967295 - r.pos.y < r.dims.h {
-        return false;
-    }
-    true
+    r.dims.w <= u32::MAX - r.pos.x && r.dims.h <= u32::MAX - r.pos.y
 }
 
 // Question 14 of two rectangles.
 pub fn both_fit(a: Rect, b: Rect) -> bool
     ensures { result ≡ both_fit a b }
 {
-    if edges_fit(a) {
-        return edges_fit(b);
-    }
-    false
-}
-
-pub fn least(a: u32, b: u32) -> u32
-    ensures { result ≡ min a b }
-{
-    if a < b {
-        return a;
-    }
-    b
-}
-
-pub fn greatest(a: u32, b: u32) -> u32
-    ensures { result ≡ max a b }
-{
-    if b < a {
-        return a;
-    }
-    b
+    edges_fit(a) && edges_fit(b)
 }
 
 // The first column past the rectangle.
@@ -75,64 +47,28 @@ pub fn bottom(r: Rect) -> u32
 pub fn is_empty(r: Rect) -> bool
     ensures { result ≡ rule.is_empty r }
 {
-    if r.dims.w == 0 {
-        return true;
-    }
-    if r.dims.h == 0 {
-        return true;
-    }
-    false
+    r.dims.w == 0 || r.dims.h == 0
 }
 
 pub fn contains(r: Rect, x: u32, y: u32) -> bool
     requires { Fits r }
     ensures { result ≡ rule.contains r x y }
 {
-    if x < r.pos.x {
-        return false;
-    }
-    if right(r) <= x {
-        return false;
-    }
-    if y < r.pos.y {
-        return false;
-    }
-    if bottom(r) <= y {
-        return false;
-    }
-    true
+    r.pos.x <= x && (x < right(r) && (r.pos.y <= y && y < bottom(r)))
 }
 
 pub fn contains_rect(a: Rect, b: Rect) -> bool
     requires { Fits a × Fits b }
     ensures { result ≡ rule.contains_rect a b }
 {
-    if contains(a, b.pos.x, b.pos.y) {
-        if is_empty(b) {
-            return true;
-        }
-        return contains(a, right(b) - 1, bottom(b) - 1);
-    }
-    false
+    contains(a, b.pos.x, b.pos.y) && (is_empty(b) || contains(a, right(b) - 1, bottom(b) - 1))
 }
 
 pub fn within(r: Rect, w: u32, h: u32) -> bool
     requires { Fits r }
     ensures { result ≡ rule.within r w h }
 {
-    if w <= r.pos.x {
-        return false;
-    }
-    if h <= r.pos.y {
-        return false;
-    }
-    if w < right(r) {
-        return false;
-    }
-    if h < bottom(r) {
-        return false;
-    }
-    true
+    r.pos.x < w && (r.pos.y < h && (right(r) <= w && bottom(r) <= h))
 }
 
 // The smallest rectangle with both.
@@ -140,10 +76,10 @@ pub fn union(a: Rect, b: Rect) -> Rect
     requires { Fits a × Fits b }
     ensures { result ≡ rule.union a b }
 {
-    let x = least(a.pos.x, b.pos.x);
-    let y = least(a.pos.y, b.pos.y);
-    let r = greatest(right(a), right(b));
-    let s = greatest(bottom(a), bottom(b));
+    let x = a.pos.x.min(b.pos.x);
+    let y = a.pos.y.min(b.pos.y);
+    let r = right(a).max(right(b));
+    let s = bottom(a).max(bottom(b));
     Rect::new(x, y, r - x, s - y)
 }
 
@@ -152,13 +88,7 @@ pub fn meets(a: Rect, b: Rect) -> bool
     requires { Fits a × Fits b }
     ensures { result ≡ rule.meets a b }
 {
-    if least(right(a), right(b)) <= greatest(a.pos.x, b.pos.x) {
-        return false;
-    }
-    if least(bottom(a), bottom(b)) <= greatest(a.pos.y, b.pos.y) {
-        return false;
-    }
-    true
+    a.pos.x.max(b.pos.x) < right(a).min(right(b)) && a.pos.y.max(b.pos.y) < bottom(a).min(bottom(b))
 }
 
 // The pixels that both have, of two rectangles that meet.
@@ -167,10 +97,10 @@ pub fn common(a: Rect, b: Rect) -> Rect
     requires b_value { rule.meets a b ≡ true }
     ensures { result ≡ rule.common a b }
 {
-    let x = greatest(a.pos.x, b.pos.x);
-    let y = greatest(a.pos.y, b.pos.y);
-    let r = least(right(a), right(b));
-    let s = least(bottom(a), bottom(b));
+    let x = a.pos.x.max(b.pos.x);
+    let y = a.pos.y.max(b.pos.y);
+    let r = right(a).min(right(b));
+    let s = bottom(a).min(bottom(b));
     Rect::new(x, y, r - x, s - y)
 }
 
@@ -180,19 +110,9 @@ pub fn clamp_pos(r: Rect, pos: Pos) -> Pos
     requires r_value { rule.is_empty r ≡ false }
     ensures { (result.x ≡ nearest_x r pos.x) × (result.y ≡ nearest_y r pos.y) }
 {
-    let x = greatest(r.pos.x, least(right(r) - 1, pos.x));
-    let y = greatest(r.pos.y, least(bottom(r) - 1, pos.y));
+    let x = r.pos.x.max(pos.x.min(right(r) - 1));
+    let y = r.pos.y.max(pos.y.min(bottom(r) - 1));
     Pos::new(x, y)
-}
-
-// How far two numbers are apart.
-fn abs_diff(a: u32, b: u32) -> u32
-    ensures { result ≡ apart a b }
-{
-    if a < b {
-        return b - a;
-    }
-    a - b
 }
 
 // The square of the distance between two positions in a straight line. Twice the square of a difference of 31 bits is a number of 64 bits.
@@ -200,7 +120,7 @@ pub fn dist_sq(a: Pos, b: Pos) -> u64
     requires { (apart a.x b.x ≤ 2147483647) × (apart a.y b.y ≤ 2147483647) }
     ensures { result ≡ distance² a.x a.y b.x b.y }
 {
-    let dx = abs_diff(a.x, b.x) as u64;
-    let dy = abs_diff(a.y, b.y) as u64;
+    let dx = a.x.abs_diff(b.x) as u64;
+    let dy = a.y.abs_diff(b.y) as u64;
     dx * dx + dy * dy
 }

@@ -6,79 +6,40 @@
 
 ghost use Rattle.std.specs.Prelude.{◌≡◌};
 ghost use Rattle.geom.specs.Geom.{rect};
-ghost use Rattle.geom.specs.Bare.{met, bare_contains, bare_contains_rect, bare_within, bare_intersect, bare_union, BareNotIntersect};
+ghost use Rattle.geom.specs.Bare.{met, tested_of, united_of, not_intersect_of, bare_contains, bare_contains_rect, bare_within, bare_intersect, bare_union, BareNotIntersect};
 
-use crate::inner::answers::{EDGE_TOO_LARGE, OK};
+use crate::refusal::Refusal;
 
 pub mod inner;
+pub mod refusal;
 
 #[repr(C)]
-#[derive(Clone, Copy)]
+#[derive(Clone, Copy, Debug, PartialEq, Eq)]
 pub struct Pos {
     pub x: u32,
     pub y: u32,
 }
 
 #[repr(C)]
-#[derive(Clone, Copy)]
+#[derive(Clone, Copy, Debug, PartialEq, Eq)]
 pub struct Dims {
     pub w: u32,
     pub h: u32,
 }
 
 #[repr(C)]
-#[derive(Clone, Copy)]
+#[derive(Clone, Copy, Debug, PartialEq, Eq)]
 pub struct Rect {
     pub pos: Pos,
     pub dims: Dims,
 }
 
-// The answer, and how many rectangles were listed or bytes written: none where the call was refused.
-#[repr(C)]
-#[derive(Clone, Copy)]
-pub struct Listing {
-    pub answer: u32,
-    pub count: usize,
-}
-
-// A test's answer: 0, or 14 with `yes` false.
-#[repr(C)]
-#[derive(Clone, Copy)]
-pub struct Tested {
-    pub answer: u32,
-    pub yes: bool,
-}
-
-// A union's answer: 0, or 14 with (0,0,0,0).
-#[repr(C)]
-#[derive(Clone, Copy)]
-pub struct United {
-    pub answer: u32,
-    pub rect: Rect,
-}
-
-// `met` in specs/Bare.antt gives each case its answer and its rectangle.
-#[derive(Clone, Copy)]
-pub enum Intersection {
-    Common(Rect),
-    Apart,
-    Refused,
-}
-
-// Up to four rectangles; the places from `count` on hold (0,0,0,0).
+// Up to four rectangles; the places from `count` on hold (0,0,0,0). No list grows here: the C interface has this struct.
 #[repr(C)]
 #[derive(Clone, Copy)]
 pub struct Pieces {
     pub count: usize,
     pub rects: [Rect; 4],
-}
-
-// The answer 0, or 14 with no pieces.
-#[repr(C)]
-#[derive(Clone, Copy)]
-pub struct NotIntersect {
-    pub answer: u32,
-    pub pieces: Pieces,
 }
 
 impl Pos {
@@ -114,8 +75,8 @@ impl Rect {
     pub const FULL: Rect = Rect {
         pos: Pos { x: 0, y: 0 },
         dims: Dims {
-            w: 4294967295,
-            h: 4294967295,
+            w: u32::MAX,
+            h: u32::MAX,
         },
     };
 
@@ -183,85 +144,65 @@ impl Rect {
     }
 
     // Is the pixel one of this rectangle's?
-    pub fn contains(self, pt: Pos) -> Tested
-        ensures { result ≡ bare_contains self pt.x pt.y }
+    pub fn contains(self, pt: Pos) -> Result<bool, Refusal>
+        ensures { tested_of result ≡ bare_contains self pt.x pt.y }
     {
-        if inner::edges_fit(self) {
-            let yes = inner::contains(self, pt.x, pt.y);
-            return Tested { answer: OK, yes };
+        if !inner::edges_fit(self) {
+            return Err(Refusal::EdgeTooLarge);
         }
-        Tested {
-            answer: EDGE_TOO_LARGE,
-            yes: false,
-        }
+        Ok(inner::contains(self, pt.x, pt.y))
     }
 
     // Is the other rectangle in this one?
-    pub fn contains_rect(self, r: Rect) -> Tested
-        ensures { result ≡ bare_contains_rect self r }
+    pub fn contains_rect(self, r: Rect) -> Result<bool, Refusal>
+        ensures { tested_of result ≡ bare_contains_rect self r }
     {
-        if inner::both_fit(self, r) {
-            let yes = inner::contains_rect(self, r);
-            return Tested { answer: OK, yes };
+        if !inner::both_fit(self, r) {
+            return Err(Refusal::EdgeTooLarge);
         }
-        Tested {
-            answer: EDGE_TOO_LARGE,
-            yes: false,
-        }
+        Ok(inner::contains_rect(self, r))
     }
 
     // Is this rectangle in (0,0,w,h)?
-    pub fn within(self, w: u32, h: u32) -> Tested
-        ensures { result ≡ bare_within self w h }
+    pub fn within(self, w: u32, h: u32) -> Result<bool, Refusal>
+        ensures { tested_of result ≡ bare_within self w h }
     {
-        if inner::edges_fit(self) {
-            let yes = inner::within(self, w, h);
-            return Tested { answer: OK, yes };
+        if !inner::edges_fit(self) {
+            return Err(Refusal::EdgeTooLarge);
         }
-        Tested {
-            answer: EDGE_TOO_LARGE,
-            yes: false,
-        }
+        Ok(inner::within(self, w, h))
     }
 
-    // The pixels that both have.
-    pub fn intersect(self, other: Rect) -> Intersection
+    // The pixels that both have, if there are any.
+    pub fn intersect(self, other: Rect) -> Result<Option<Rect>, Refusal>
         ensures { met result ≡ bare_intersect self other }
     {
-        if inner::both_fit(self, other) {
-            if inner::meets(self, other) {
-                return Intersection::Common(inner::common(self, other));
-            }
-            return Intersection::Apart;
+        if !inner::both_fit(self, other) {
+            return Err(Refusal::EdgeTooLarge);
         }
-        Intersection::Refused
+        if !inner::meets(self, other) {
+            return Ok(None);
+        }
+        Ok(Some(inner::common(self, other)))
     }
 
     // The smallest rectangle with both.
-    pub fn union(self, other: Rect) -> United
-        ensures { result ≡ bare_union self other }
+    pub fn union(self, other: Rect) -> Result<Rect, Refusal>
+        ensures { united_of result ≡ bare_union self other }
     {
-        if inner::both_fit(self, other) {
-            let rect = inner::union(self, other);
-            return United { answer: OK, rect };
+        if !inner::both_fit(self, other) {
+            return Err(Refusal::EdgeTooLarge);
         }
-        United {
-            answer: EDGE_TOO_LARGE,
-            rect: Rect::new(0, 0, 0, 0),
-        }
+        Ok(inner::union(self, other))
     }
 
     // The pieces of this rectangle outside the other.
-    pub fn not_intersect(self, other: Rect) -> NotIntersect
-        ensures { BareNotIntersect self other result }
+    pub fn not_intersect(self, other: Rect) -> Result<Pieces, Refusal>
+        ensures { BareNotIntersect self other (not_intersect_of result) }
     {
-        if inner::both_fit(self, other) {
-            let pieces = inner::pieces::outside(self, other);
-            return NotIntersect { answer: OK, pieces };
+        if !inner::both_fit(self, other) {
+            return Err(Refusal::EdgeTooLarge);
         }
-        NotIntersect {
-            answer: EDGE_TOO_LARGE,
-            pieces: inner::pieces::none(),
-        }
+        Ok(inner::pieces::outside(self, other))
     }
 }

@@ -1,5 +1,5 @@
 -- "the same rule in whole quarters"
-use Rattle.std.specs.Prelude.{◌≡◌, ℕ, ◌+◌, ◌*◌, ◌/◌, Bool, true, false, cond, ◌&&◌, T, ◌==◌, nat_le, Float}
+use Rattle.std.specs.Prelude.{◌≡◌, ℕ, ◌+◌, ◌*◌, ◌/◌, Bool, cond, Option, Some, None, ◌&&◌, T, ◌==◌, nat_le, Float}
 use Rattle.std.specs.Float.{nan, inf, fin}
 use Rattle.std.specs.Float.Ieee.{up, down}
 use Rattle.look.specs.declared.Look.{Look}
@@ -7,8 +7,6 @@ use Rattle.look.specs.declared.Sizes.{Sizes}
 use Rattle.look.specs.declared.Steps.{Steps}
 use Rattle.look.specs.declared.Zoom.{Zoom}
 use Rattle.look.specs.declared.Zoom.TheVariants.{Factor, Fit}
-use Rattle.look.specs.declared.quarters.Quarters.{Quarters}
-use Rattle.look.specs.declared.quarters.Quarters.TheVariants.{Of, None}
 use Rattle.look.specs.Floats.{is_corner}
 
 -- x is q / 4
@@ -23,13 +21,9 @@ quarters nan = 0
 quarters (inf s) = 0
 quarters (fin s m e) = m * up e * 4 / down e
 
-abbrev pub pick : Bool → Quarters → Quarters → Quarters
-pick true a b = a
-pick false a b = b
-
 -- the same of an x that may be a corner number
-unfoldable pub quarters_of : Float → Quarters
-quarters_of x = pick (is_corner x) (Of (quarters x)) None
+unfoldable pub quarters_of : Float → Option ℕ
+quarters_of x = cond (is_corner x) (Some (quarters x)) None
 
 -- the factors are 1, 2, 4, 8 and 16 quarters; 1 / factor is then 16, 8, 4, 2 or 1 quarters. 0 for any other
 abbrev pub step_of : ℕ → ℕ

@@ -7,12 +7,13 @@
 #![tactic(auto)]
 
 ghost use Rattle.std.specs.Prelude.{◌≡◌, ◌+◌, ◌*◌, ◌≤◌, length};
+ghost use Rattle.geom.specs.Refusals.{answer_of};
 ghost use Rattle.look.specs.inner.Steps.{Looks};
 
-use geom::inner::answers::{LOOK, OK, TARGET_SIZE};
 use geom::inner::lent::pixels_fit;
+use geom::refusal::Refusal;
 use rows::look_rows;
-use whole::{Whole, whole_of};
+use whole::whole_of;
 
 mod fit;
 mod quarters;
@@ -37,10 +38,10 @@ pub struct Look {
 // The window's width and height, and the target's.
 #[derive(Clone, Copy)]
 pub struct Sizes {
-    pub w: u64,
-    pub h: u64,
-    pub tw: u64,
-    pub th: u64,
+    pub w: u16,
+    pub h: u16,
+    pub tw: u32,
+    pub th: u32,
 }
 
 // A look in whole quarters: its corner, and how far apart in the window two neighbours of the target are, which is 1 / factor.
@@ -61,23 +62,17 @@ pub fn look_window(
     target: &mut [u32],
     tw: u32,
     th: u32,
-) -> u32
+) -> Result<(), Refusal>
     requires { (w ≤ 32767) × (h ≤ 32767) × (base + w * h ≤ length store.now) }
-    ensures { Looks look (record { w = w; h = h; tw = tw; th = th }) base store.now target.old result target.new }
+    ensures { Looks look (record { w = w; h = h; tw = tw; th = th }) base store.now target.old (answer_of result) target.new }
 {
-    let sizes = Sizes {
-        w: w as u64,
-        h: h as u64,
-        tw: tw as u64,
-        th: th as u64,
-    };
-    let whole = whole_of(look, sizes);
-    let Whole::Steps(t) = whole else {
-        return LOOK;
+    let sizes = Sizes { w, h, tw, th };
+    let Some(t) = whole_of(look, sizes) else {
+        return Err(Refusal::Look);
     };
     if !pixels_fit(tw, th, target.len()) {
-        return TARGET_SIZE;
+        return Err(Refusal::TargetSize);
     }
     look_rows(target, tw as u16, th as usize, store, base, w, h, t);
-    OK
+    Ok(())
 }

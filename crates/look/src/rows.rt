@@ -26,12 +26,9 @@ fn step_part(target: &mut [u32], at: usize, store: &[u32], from: usize, n: u16, 
     requires { Along (length target.old) at (length store.now) from n x step }
     ensures { target.new ≡ sets target.old at (line (stepped store.now from x step) n) }
 {
-    let mut place = x;
-    let mut i: u16 = 0;
-    while i < n {
+    for i in 0..n {
+        let place = x + i as u64 * step;
         target[at + i as usize] = store[from + (place / 4) as usize];
-        place += step;
-        i += 1;
     }
 }
 
@@ -82,11 +79,9 @@ pub fn look_rows(
     ensures { target.new ≡ shown (place_quarters t.x t.step) (place_quarters t.y t.step) (record { w = w; h = h; tw = tw; th = th }) base store.now }
 {
     let n = columns(w, t.x, t.step, tw);
-    let mut place = t.y;
-    let mut at: usize = 0;
-    let mut j: usize = 0;
-    while j < th {
-        let row = place / 4;
+    for j in 0..th {
+        let at = j * tw as usize;
+        let row = (t.y + j as u64 * t.step) / 4;
         if row < h as u64 {
             look_row(
                 target,
@@ -101,8 +96,5 @@ pub fn look_rows(
         } else {
             fill_part(target, at, tw, 0);
         }
-        place += t.step;
-        at += tw as usize;
-        j += 1;
     }
 }

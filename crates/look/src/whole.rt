@@ -1,50 +1,32 @@
 // A look in whole quarters.
 ghost use Rattle.std.specs.Prelude.{◌≡◌};
-ghost use Rattle.look.specs.inner.Steps.{Countable, joined_of, whole_of};
+ghost use Rattle.look.specs.inner.Steps.{joined_of, whole_of};
 
 use crate::fit::fitted;
-use crate::quarters::{Quarters, quarters_of, step_of};
+use crate::quarters::{quarters_of, step_of};
 use crate::{Look, Sizes, Steps, Zoom};
 
-// What a look comes to, or 22.
-#[derive(Clone, Copy)]
-pub enum Whole {
-    Steps(Steps),
-    Wrong,
-}
-
-// The factor, x and y, which are whole quarters or are not.
-fn joined(factor: Quarters, x: Quarters, y: Quarters) -> Whole
+// The factor, x and y, where all are whole quarters and the factor is one of the five.
+fn joined(factor: Option<u64>, x: Option<u64>, y: Option<u64>) -> Option<Steps>
     ensures { result ≡ joined_of factor x y }
 {
-    let Quarters::Of(f) = factor else {
-        return Whole::Wrong;
-    };
-    let Quarters::Of(left) = x else {
-        return Whole::Wrong;
-    };
-    let Quarters::Of(top) = y else {
-        return Whole::Wrong;
-    };
+    let f = factor?;
+    let x = x?;
+    let y = y?;
     let step = step_of(f);
     if step == 0 {
-        return Whole::Wrong;
+        return None;
     }
-    Whole::Steps(Steps {
-        x: left,
-        y: top,
-        step,
-    })
+    Some(Steps { x, y, step })
 }
 
-// Question 22, and the look in whole quarters. Fit does not look at the corner.
-pub fn whole_of(look: Look, s: Sizes) -> Whole
-    requires { Countable s }
+// What a look comes to in whole quarters; none where it is refused by question 22. Fit does not look at the corner.
+pub fn whole_of(look: Look, s: Sizes) -> Option<Steps>
     ensures { result ≡ whole_of look s }
 {
     let zoom = look.zoom;
     let Zoom::Factor(factor) = zoom else {
-        return Whole::Steps(fitted(s));
+        return Some(fitted(s));
     };
     joined(
         quarters_of(factor),

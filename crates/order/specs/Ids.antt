@@ -6,6 +6,10 @@ use Rattle.window.specs.declared.ids.WinId.{WinId}
 abbrev pub num : WinId → ℕ
 num i = i.0
 
+-- all the ids of a list
+abbrev pub nums : List WinId → List ℕ
+nums l = map num l
+
 -- the first n ids
 abbrev pub ids : ℕ → List WinId → List ℕ
 ids n l = map num (take n l)

@@ -1,25 +1,18 @@
 // Where the windows are by their numbers, and which numbers are in use.
-ghost use Rattle.order.specs.inner.Frames.{FirstFree};
+ghost use Rattle.order.specs.inner.Frames.{FirstFreeIn};
 
 use geom::inner::rect16::Rect16;
 
+// Two arrays and no array of pairs: the areas alone are lent to the searches for a window.
 #[derive(Clone, Copy)]
 pub struct Frames {
     pub areas: [Rect16; 16],
     pub used: [bool; 16],
 }
 
-// The smallest number that is not in use; 0 where all are.
-pub fn first_free(used: [bool; 16]) -> usize
-    ensures { FirstFree used result }
+// The smallest number that is not in use.
+pub fn first_free(used: &[bool; 16]) -> Option<usize>
+    ensures { FirstFreeIn used.now result }
 {
-    let mut at: usize = 0;
-    while at < 16 {
-        if used[at] {
-            at += 1;
-        } else {
-            return at;
-        }
-    }
-    0
+    used.iter().position(|u| !*u)
 }

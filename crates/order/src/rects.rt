@@ -1,76 +1,94 @@
-// Up to sixteen rectangles as numbers, four for each: what the crate `visible` is lent.
-ghost use Rattle.std.specs.Prelude.{[], ◌∷◌, map, ◌≤◌, drop};
+// Up to sixteen rectangles: what the crate `visible` is lent.
+ghost use Rattle.std.specs.Prelude.{◌≡◌, [], ◌∷◌, ◌++◌, List, map, ◌≤◌, ◌<◌, length, take, drop};
+ghost use Rattle.geom.specs.declared.Rect.{Rect};
+ghost use Rattle.geom.specs.Rect16.{rect_of};
 ghost use Rattle.window.specs.Represents.{rects, RepDamage};
-ghost use Rattle.order.specs.Ids.{ids};
+ghost use Rattle.order.specs.Ids.{nums};
 ghost use Rattle.order.specs.inner.Frames.{frame_at, Shown};
 ghost use Rattle.order.specs.inner.Rects.{Holds, full_rect, dirty_of};
 
 use geom::Rect;
-use geom::inner::bools::either;
-use geom::inner::numbers::write_rect;
 use geom::inner::rect16::Rect16;
 use window::damage::Damage;
 use window::ids::{Place, WinId};
 
+// The first `len`: an array with its length beside it, since the library has no heap.
 #[derive(Clone, Copy)]
 pub struct Rects {
-    pub numbers: [u32; 64],
+    pub rects: [Rect; 16],
     pub len: usize,
 }
 
 impl Rects {
+    pub fn none() -> Rects
+        ensures { Holds result [] }
+    {
+        Rects {
+            rects: [Rect::new(0, 0, 0, 0); 16],
+            len: 0,
+        }
+    }
+
     // The full rectangle alone.
     pub fn full() -> Rects
         ensures { Holds result (full_rect ∷ []) }
     {
-        let mut numbers = [0u32; 64];
-        write_rect(&mut numbers, 0, Rect::FULL);
-        Rects { numbers, len: 1 }
+        Rects {
+            rects: [Rect::FULL; 16],
+            len: 1,
+        }
+    }
+
+    pub fn as_slice(&self) -> &[Rect]
+        requires { self.now.len ≤ 16 }
+        ensures { result.now ≡ take self.now.len self.now.rects }
+    {
+        &self.rects[..self.len]
+    }
+
+    // One more, behind the others.
+    fn push(&mut self, area: Rect16)
+        requires { self.old.len < 16 }
+        ensures { (rs : List Rect) → Holds self.old rs → Holds self.new (rs ++ (rect_of area ∷ [])) }
+    {
+        self.rects[self.len] = area.rect();
+        self.len += 1;
     }
 
     // The dirty entries of a window.
-    pub fn of_damage(d: Damage) -> Rects
-        requires { RepDamage d }
-        ensures { Holds result (rects d) }
+    pub fn of_damage(d: &Damage) -> Rects
+        requires { RepDamage d.now }
+        ensures { Holds result (rects d.now) }
     {
-        let n = d.len as usize;
-        let mut numbers = [0u32; 64];
-        let mut i: usize = 0;
-        while i < n {
-            let area = d.areas[i];
-            write_rect(&mut numbers, i, area.rect());
-            i += 1;
+        let mut list = Rects::none();
+        let entries = d.entries();
+        for area in entries {
+            list.push(*area);
         }
-        Rects { numbers, len: n }
+        list
     }
 }
 
 // What a redraw takes for dirty: the full rectangle where it is full or no entry is there, else the entries.
-pub fn dirty_of(full: bool, d: Damage) -> Rects
-    requires { RepDamage d }
-    ensures { Holds result (dirty_of full (rects d)) }
+pub fn dirty_of(full: bool, d: &Damage) -> Rects
+    requires { RepDamage d.now }
+    ensures { Holds result (dirty_of full (rects d.now)) }
 {
-    if either(full, d.len == 0) {
+    if full || d.is_empty() {
         return Rects::full();
     }
     Rects::of_damage(d)
 }
 
 // The rectangles of the windows from a place on, lowest first.
-pub fn from(areas: [Rect16; 16], order: [WinId; 16], shown: usize, p: Place) -> Rects
-    requires { Shown areas order shown × (p.0 ≤ shown) }
-    ensures { Holds result (map (frame_at areas) (drop p.0 (ids shown order))) }
+pub fn from(areas: &[Rect16; 16], shown: &[WinId], p: Place) -> Rects
+    requires { Shown areas.now shown.now (length shown.now) × (p.0 ≤ length shown.now) }
+    ensures { Holds result (map (frame_at areas.now) (drop p.0 (nums shown.now))) }
 {
-    let mut numbers = [0u32; 64];
-    let mut next = p.0;
-    let mut i: usize = 0;
-    while next < shown {
-        let id = order[next];
-        let at = id.0 as usize;
-        let area = areas[at];
-        write_rect(&mut numbers, i, area.rect());
-        next += 1;
-        i += 1;
+    let mut list = Rects::none();
+    let above = &shown[p.0..];
+    for id in above {
+        list.push(areas[id.0 as usize]);
     }
-    Rects { numbers, len: i }
+    list
 }

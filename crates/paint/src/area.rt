@@ -2,14 +2,12 @@
 ghost use Rattle.std.specs.Prelude.{◌≡◌, map, ◌+◌, ◌*◌, length};
 ghost use Rattle.scanline.specs.Pixels.{write_rows, part};
 ghost use Rattle.scanline.specs.inner.Rows.{Fit, Inside};
-ghost use Rattle.paint.specs.Shade.{shade, tone};
-ghost use Rattle.paint.specs.inner.Table.{Entries};
+ghost use Rattle.paint.specs.Shade.{tone};
 
-use crate::row::{TABLE, shade_part};
-use scanline::row::copy_part;
+use crate::row::{TABLE, draw_part};
 
-// n rows of w pixels, from rows `step` apart in `src`.
-pub fn copy_rows(
+// n rows of w pixels, from rows `step` apart in `src`, while dimming is on (`DIM`) through the table.
+fn draw_rows<const DIM: bool>(
     px: &mut [u32],
     at: usize,
     pitch: usize,
@@ -20,38 +18,17 @@ pub fn copy_rows(
     n: usize,
 )
     requires { Fit (length px.old) at pitch w n × Fit (length src.now) from step w n }
-    ensures { px.new ≡ write_rows n (λ r. at + r * pitch) (λ r. part (from + r * step) w src.now) px.old }
+    ensures { px.new ≡ write_rows n (λ r. at + r * pitch) (λ r. map (tone DIM) (part (from + r * step) w src.now)) px.old }
 {
-    let mut r: usize = 0;
-    while r < n {
-        copy_part(px, at + r * pitch, src, from + r * step, w);
-        r += 1;
+    let table = TABLE;
+    for r in 0..n {
+        draw_part::<DIM>(px, at + r * pitch, src, from + r * step, w, &table);
     }
 }
 
-// The same, each pixel through the table of dimming.
-pub fn shade_rows(
-    px: &mut [u32],
-    at: usize,
-    pitch: usize,
-    src: &[u32],
-    from: usize,
-    step: usize,
-    w: u16,
-    n: usize,
-    table: &[u8; 256],
-)
-    requires { Fit (length px.old) at pitch w n × Fit (length src.now) from step w n × Entries table.now }
-    ensures { px.new ≡ write_rows n (λ r. at + r * pitch) (λ r. map shade (part (from + r * step) w src.now)) px.old }
-{
-    let mut r: usize = 0;
-    while r < n {
-        shade_part(px, at + r * pitch, src, from + r * step, w, table);
-        r += 1;
-    }
-}
-
-// An area of the screen takes an area of a window: the window's pixels begin at `base` of the store. Whether dimming is on is asked once.
+// The window's pixels begin at `base` of the store. The numbers of both areas are the caller's own, worked out for this
+// one call: a struct of them would be made there and taken apart here. Whether dimming is on is asked once, and not for
+// each row.
 pub fn draw_area(
     px: &mut [u32],
     pitch: usize,
@@ -72,8 +49,8 @@ pub fn draw_area(
     let at = top * pitch + left;
     let from = base + y * step + x;
     if dim {
-        shade_rows(px, at, pitch, src, from, step, w, n, &TABLE)
+        draw_rows::<true>(px, at, pitch, src, from, step, w, n)
     } else {
-        copy_rows(px, at, pitch, src, from, step, w, n)
+        draw_rows::<false>(px, at, pitch, src, from, step, w, n)
     }
 }

@@ -5,7 +5,7 @@ ghost use Rattle.scanline.specs.Pixels.{part};
 ghost use Rattle.paint.specs.Shade as Shade;
 ghost use Rattle.paint.specs.inner.Table.{Entries};
 
-use scanline::row::fill_part;
+use scanline::row::{copy_part, fill_part};
 
 // Entry i is (i * i + 127) / 255. Who lends it builds it anew: so it is lent once for all rows of an area.
 pub const TABLE: [u8; 256] = *b"\
@@ -27,17 +27,11 @@ pub const TABLE: [u8; 256] = *b"\
     \xe2\xe4\xe6\xe8\xe9\xeb\xed\xef\xf1\xf3\xf5\xf7\xf9\xfb\xfd\xff\
     ";
 
-fn wide(b: u8) -> u32
-    ensures { (result ≡ b) × (result < 256) }
-{
-    b as u32
-}
-
 fn entry(i: u32, table: &[u8; 256]) -> u32
     requires { Entries table.now × (i < 256) }
     ensures { (result ≡ Shade.entry i) × (result < 256) }
 {
-    wide(table[i as usize])
+    u32::from(table[i as usize])
 }
 
 // Red, green and blue go through the table; the top byte stays.
@@ -56,37 +50,28 @@ fn shade_each(px: &mut [u32], at: usize, src: &[u32], from: usize, n: u16, table
     requires { (at + n ≤ length px.old) × (from + n ≤ length src.now) × Entries table.now }
     ensures { px.new ≡ sets px.old at (map Shade.shade (part from n src.now)) }
 {
-    let mut i: u16 = 0;
-    while i < n {
+    for i in 0..n {
         px[at + i as usize] = shade(src[from + i as usize], table);
-        i += 1;
     }
-}
-
-// 1 if the pixel at i is v, else 0.
-fn same(src: &[u32], i: usize, v: u32) -> u32
-    requires { i < length src.now }
-    ensures { (result ≤ 1) × (result ≡ 1 → get_or src.now i 0 ≡ v) }
-{
-    if src[i] == v { 1 } else { 0 }
 }
 
 // Are eight pixels all alike? The last four are compared with the first, and then the three between: in runs of a
 // colour these are alike where the last four are, so that the processor foresees the second branch. The answers are
-// added up: of seven joined by `&` the compiler makes a branch on the first five pixels, and one on each of the others.
+// added up: of seven joined by `&` the compiler makes a branch on the first five pixels, and one on each of the others,
+// and of the slice's `all` seven branches.
 fn are_alike(src: &[u32], at: usize) -> bool
     requires { at + 8 ≤ length src.now }
     ensures { result ≡ true → part at 8 src.now ≡ replicate 8 (get_or src.now at 0) }
 {
     let v = src[at];
-    let last = same(src, at + 4, v)
-        + same(src, at + 5, v)
-        + same(src, at + 6, v)
-        + same(src, at + 7, v);
+    let last = u32::from(src[at + 4] == v)
+        + u32::from(src[at + 5] == v)
+        + u32::from(src[at + 6] == v)
+        + u32::from(src[at + 7] == v);
     if last != 4 {
         return false;
     }
-    same(src, at + 1, v) + same(src, at + 2, v) + same(src, at + 3, v) == 3
+    u32::from(src[at + 1] == v) + u32::from(src[at + 2] == v) + u32::from(src[at + 3] == v) == 3
 }
 
 // Eight pixels. Where all are alike, the table is asked for one.
@@ -106,14 +91,29 @@ pub fn shade_part(px: &mut [u32], at: usize, src: &[u32], from: usize, n: u16, t
     requires { (at + n ≤ length px.old) × (from + n ≤ length src.now) × Entries table.now }
     ensures { px.new ≡ sets px.old at (map Shade.shade (part from n src.now)) }
 {
-    let mut i: u16 = 0;
-    while i < n {
-        if n - i >= 8 {
-            shade_eight(px, at + i as usize, src, from + i as usize, table);
-            i += 8;
-        } else {
-            shade_each(px, at + i as usize, src, from + i as usize, n - i, table);
-            i = n;
-        }
+    let eights = n / 8;
+    for k in 0..eights {
+        shade_eight(px, at + k as usize * 8, src, from + k as usize * 8, table);
+    }
+    let done = eights as usize * 8;
+    shade_each(px, at + done, src, from + done, n % 8, table);
+}
+
+// n pixels of `src` from `from` on go to `at` on, while dimming is on (`DIM`) through the table.
+pub(crate) fn draw_part<const DIM: bool>(
+    px: &mut [u32],
+    at: usize,
+    src: &[u32],
+    from: usize,
+    n: u16,
+    table: &[u8; 256],
+)
+    requires { (at + n ≤ length px.old) × (from + n ≤ length src.now) × Entries table.now }
+    ensures { px.new ≡ sets px.old at (map (Shade.tone DIM) (part from n src.now)) }
+{
+    if DIM {
+        shade_part(px, at, src, from, n, table)
+    } else {
+        copy_part(px, at, src, from, n)
     }
 }

@@ -6,7 +6,7 @@ pub mod Picked
 pub mod Bytes
 pub mod Made
 pub mod Nexts
-pub mod Events
 pub mod Lists
 pub mod Shows
 pub mod Runs
+pub mod Lends

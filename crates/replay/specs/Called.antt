@@ -113,11 +113,6 @@ routes k = within Kind.keydown Kind.resized k
 abbrev pub is_plain : ℕ → Bool
 is_plain k = is_one k (kinds (window_calls [])) || routes k
 
--- something is asked, lent nothing, and the session stays as it is
-abbrev pub asking : List ℕ
-asking =
-    Kind.focus ∷ Kind.busiest ∷ Kind.share ∷ Kind.display_at ∷ Kind.sheet ∷ Kind.stale ∷ Kind.waiting ∷ Kind.window ∷ Kind.session ∷ []
-
 -- the store is lent, to be written
 abbrev pub OnStore : ℕ → Type 0
 OnStore k = ((Kind.resize ≤ k) × (k ≤ Kind.blit)) ⊎ ((Kind.maximise ≤ k) × (k ≤ Kind.update_dims))
@@ -147,3 +142,17 @@ abbrev pub is_lent : ℕ → Bool
 is_lent k =
     within Kind.resize Kind.blit k
     || (eqb k Kind.redraw || (eqb k Kind.portion || (eqb k Kind.visible || (eqb k Kind.hits || (eqb k Kind.look || (eqb k Kind.look_fit || (eqb k Kind.read_sheet || (within Kind.screen Kind.region k || within Kind.maximise Kind.update_dims k))))))))
+
+-- pixels of the screen or of a window are shown, or what needs no session: `screen` to `region`
+abbrev pub OnShown : ℕ → Type 0
+OnShown k = (Kind.screen ≤ k) × (k ≤ Kind.region)
+
+-- it says how much the next line of a kind is lent
+abbrev pub is_lend : ℕ → Bool
+is_lend k = is_one k (Kind.lend ∷ Kind.lend_screen ∷ Kind.lend_list ∷ Kind.lend_target ∷ Kind.lend_sheet ∷ [])
+
+-- what the program has of it
+abbrev pub most_lent : ℕ → ℕ
+most_lent k =
+    cond (eqb k Kind.lend) 6144000
+    (cond (eqb k Kind.lend_screen) 3072000 (cond (eqb k Kind.lend_list) 7812 (cond (eqb k Kind.lend_target) 65536 2048)))

@@ -1,5 +1,5 @@
 -- The lines `look` and `look-fit`: the look that a line names, and how many pixels its target has.
-use Rattle.std.specs.Prelude.{ℕ, ◌+◌, ◌*◌, ◌≡◌, Bool, true, false, cond, List, ◌++◌, eqb, take, drop}
+use Rattle.std.specs.Prelude.{ℕ, ◌+◌, ◌*◌, ◌≡◌, Bool, true, false, List, ◌++◌, eqb, take, drop}
 use Rattle.look.specs.declared.Look.{Look}
 use Rattle.look.specs.declared.Zoom.{Zoom}
 use Rattle.look.specs.declared.Zoom.TheVariants.{Factor, Fit}
@@ -9,6 +9,7 @@ use Rattle.rules.specs.Look.{Looked, look}
 use Rattle.replay.specs.declared.player.Player.{Player}
 use Rattle.bare_lines.specs.Numbers.{num, id_of, float_of}
 use Rattle.replay.specs.Called.{size_at}
+use Rattle.replay.specs.Ready.{lent_or}
 
 abbrev pub zoom_of : Bool → List ℕ → Zoom
 zoom_of true ns = Fit
@@ -19,7 +20,7 @@ look_of k ns = record { x = float_of (num ns 1) (num ns 2); y = float_of (num ns
 
 -- how many pixels a target has: what `lend-target` said, or "the target has TW × TH pixels"
 abbrev pub target_len : Player → ℕ → List ℕ → ℕ
-target_len p k ns = cond p.has_target p.target (num ns (size_at k) * num ns (size_at k + 1))
+target_len p k ns = lent_or (num ns (size_at k) * num ns (size_at k + 1)) p.target
 
 -- what the line's call gives, lent a store and a target
 abbrev pub asks : Group → ℕ → List ℕ → List ℕ → List ℕ → Looked

@@ -3,7 +3,7 @@ use Rattle.std.specs.Prelude.{ℕ, ◌*◌, Bool, cond, ◌&&◌, List, [], ◌�
 use Rattle.std.proofs.Math.Option.{Option, none, some}
 use Rattle.geom.specs.Geom.{width, height}
 use Rattle.geom.specs.Displays.{Located, on, closest}
-use Rattle.busiest.specs.declared.Second.{Second}
+use Rattle.busiest.specs.Busiest.{Second}
 use Rattle.window.specs.declared.Event.{Event}
 use Rattle.window.specs.declared.Event.TheVariants.{Resize, KeyDown, KeyUp, KeyFire, Text, MouseMove, MouseDown, MouseClick, MouseUp}
 use Rattle.rules.specs.Group.{Group, Outcome, used, win, id_or}

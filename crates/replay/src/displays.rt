@@ -1,70 +1,55 @@
 // The line that asks which display a position is on.
-ghost use Rattle.std.specs.Prelude.{◌≡◌, ◌≤◌};
-ghost use Rattle.windows.specs.View.{group, Given, Locates};
-ghost use Rattle.bare_lines.specs.Numbers.{num};
+ghost use Rattle.std.specs.Prelude.{◌≡◌};
+ghost use Rattle.geom.specs.Refusals.{answer_of};
 ghost use Rattle.display.specs.Represents.{located_of};
 ghost use Rattle.rules.specs.DisplayAt.{display_at};
+ghost use Rattle.windows.specs.View.{group, for_pos};
+ghost use Rattle.bare_lines.specs.Numbers.{num};
 ghost use Rattle.answer_text.specs.Text.{answered};
-ghost use Rattle.answer_text.specs.Added.{Adds};
+ghost use Rattle.answer_text.specs.Added.{Says};
 ghost use Rattle.replay.specs.Told as Told;
 ghost use Rattle.replay.specs.Told.{display_line};
 ghost use Rattle.replay.specs.Ready.{Ready, Next};
 
 use crate::player::Player;
-use answer_text::Waiting;
+use answer_text::Output;
+use bare_lines::numbers::Numbers;
 use bare_lines::{geometry, numbers};
 use display::Located;
-use geom::inner::answers::OK;
-use std::io::Stdout;
-use windows::{ForPos, Session};
+use geom::refusal::Refusal;
 
-fn locate(s: Session, ns: &[u32; 384006]) -> ForPos
-    requires { Given s }
-    ensures { Locates (group s) (num ns.now 0) (num ns.now 1) result }
-{
-    s.get_display_for_pos(numbers::pos(ns, 0))
-}
-
-fn write_located(located: Located, stdout: Stdout, out: &mut [u8; 65536], w: Waiting) -> Waiting
-    requires { w.at ≤ 65536 }
-    ensures { Adds (Told.located (located_of located)) w out.old result out.new }
+fn write_located(located: Located, out: &mut Output)
+    ensures { Says (Told.located (located_of located)) out.old out.new }
 {
     match located {
-        Located::On(r) => {
-            let to = answer_text::word(stdout, out, w, b"on");
-            geometry::write_rect(r, stdout, out, to)
+        Located::On(rect) => {
+            out.word(b"on");
+            geometry::write_rect(rect, out);
         }
-        Located::Closest(r) => {
-            let to = answer_text::word(stdout, out, w, b"closest");
-            geometry::write_rect(r, stdout, out, to)
+        Located::Closest(rect) => {
+            out.word(b"closest");
+            geometry::write_rect(rect, out);
         }
     }
 }
 
-fn write_for_pos(found: ForPos, stdout: Stdout, out: &mut [u8; 65536], w: Waiting) -> Waiting
-    requires { w.at ≤ 65536 }
-    ensures { Adds (answered found.answer (Told.located (located_of found.located))) w out.old result out.new }
+fn write_for_pos(found: Result<Located, Refusal>, out: &mut Output)
+    ensures { Says (answered (answer_of found) (Told.located (located_of (for_pos found).located))) out.old out.new }
 {
-    if found.answer == OK {
-        let located = found.located;
-        let to = answer_text::number(stdout, out, w, 0);
-        let then = write_located(located, stdout, out, to);
-        return answer_text::end(stdout, out, then);
+    match found {
+        Ok(located) => {
+            out.number(0);
+            write_located(located, out);
+            out.end();
+        }
+        Err(refusal) => out.answer(Err(refusal)),
     }
-    answer_text::answer(stdout, out, w, found.answer)
 }
 
-pub fn display_at(
-    mut p: Player,
-    ns: &[u32; 384006],
-    stdout: Stdout,
-    out: &mut [u8; 65536],
-) -> Player
-    requires { Ready p }
-    ensures { Next (display_line (display_at (group p.session) (num ns.now 0) (num ns.now 1))) p p.session out.old result out.new }
+pub fn display_at(p: &mut Player, ns: &Numbers)
+    requires { Ready p.old }
+    ensures { Next (display_line (display_at (group p.old.session) (num ns.now 0) (num ns.now 1))) p.old p.old.session p.new }
 {
-    let s = p.session;
-    let found = locate(s, ns);
-    p.waiting = write_for_pos(found, stdout, out, p.waiting);
-    p
+    let found = p.session.get_display_for_pos(numbers::pos(ns, 0));
+    write_for_pos(found, &mut p.out);
 }

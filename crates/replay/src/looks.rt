@@ -1,83 +1,88 @@
 // The lines of a closer look.
 ghost use Rattle.std.specs.Prelude.{◌≡◌, ◌≤◌, List, ℕ, length, take, replicate};
+ghost use Rattle.geom.specs.Refusals.{answer_of};
 ghost use Rattle.windows.specs.View.{group, Given};
-ghost use Rattle.replay.specs.Called.{OnTarget, size_at};
-ghost use Rattle.bare_lines.specs.Numbers.{num, id_of, float_of};
+ghost use Rattle.script.specs.Kind.{code_of};
 ghost use Rattle.bare_lines.specs.Told.{part_line};
-ghost use Rattle.answer_text.specs.Added.{Adds};
+ghost use Rattle.answer_text.specs.Added.{Says};
+ghost use Rattle.replay.specs.Called.{OnTarget, size_at};
 ghost use Rattle.replay.specs.Looks.{look_of, LooksPart, target_len, asks};
 ghost use Rattle.replay.specs.Ready.{Ready, Next, untargeted};
 ghost use Rattle.replay.specs.Played.{pixels, Writes};
 
 use crate::player::Player;
-use answer_text::Waiting;
+use answer_text::Output;
+use bare_lines::numbers::Numbers;
 use bare_lines::{numbers, pixels};
+use geom::refusal::Refusal;
 use look::{Look, Zoom};
-use script::{Line, kind};
-use std::io::Stdout;
+use script::Line;
+use script::kind::Kind;
 use windows::Session;
 
 // The look that a line names.
-fn look_of(k: u8, ns: &[u32; 384006]) -> Look
-    ensures { result ≡ look_of k ns.now }
+fn look_of(k: Kind, ns: &Numbers) -> Look
+    ensures { result ≡ look_of (code_of k) ns.now }
 {
     let x = numbers::float(ns[1], ns[2]);
     let y = numbers::float(ns[3], ns[4]);
-    if k == kind::LOOK_FIT {
-        return Look {
+    match k {
+        Kind::LookFit => Look {
             x,
             y,
             zoom: Zoom::Fit,
-        };
-    }
-    let factor = numbers::float(ns[5], ns[6]);
-    Look {
-        x,
-        y,
-        zoom: Zoom::Factor(factor),
+        },
+        _ => Look {
+            x,
+            y,
+            zoom: Zoom::Factor(numbers::float(ns[5], ns[6])),
+        },
     }
 }
 
 // Where the target's width stands among the numbers of a line; its height is the next.
-fn size_at(k: u8) -> usize
-    ensures { (result ≡ size_at k) × (result ≤ 7) }
+fn size_at(k: Kind) -> usize
+    ensures { (result ≡ size_at (code_of k)) × (result ≤ 7) }
 {
-    if k == kind::LOOK_FIT {
-        return 5;
+    match k {
+        Kind::LookFit => 5,
+        _ => 7,
     }
-    7
 }
 
 // How many pixels a target has: what was said, or what its size asks for.
-fn target_len(p: Player, k: u8, ns: &[u32; 384006]) -> u64
-    ensures { result ≡ target_len p k ns.now }
+fn target_len(p: &Player, k: Kind, ns: &Numbers) -> u64
+    ensures { result ≡ target_len p.now (code_of k) ns.now }
 {
-    if p.has_target {
-        return p.target as u64;
-    }
     let at = size_at(k);
-    numbers::size(ns[at], ns[at + 1])
+    match p.target {
+        Some(len) => len as u64,
+        None => numbers::size(ns[at], ns[at + 1]),
+    }
 }
 
-// The call is lent the fronts of the store and of the target.
+// The call is lent the front of the target.
 fn look_at(
-    s: Session,
-    k: u8,
-    ns: &[u32; 384006],
+    s: &Session,
+    k: Kind,
+    ns: &Numbers,
     store: &[u32],
-    lent: usize,
     target: &mut [u32],
     len: usize,
-) -> u32
-    requires { Given s × (lent ≤ length store.now) × (len ≤ length target.old) }
-    ensures { LooksPart (group s) k ns.now (take lent store.now) len target.old result target.new }
+) -> Result<(), Refusal>
+    requires { Given s.now × (len ≤ length target.old) }
+    ensures { LooksPart (group s.now) (code_of k) ns.now store.now len target.old (answer_of result) target.new }
 {
-    let id = numbers::id(ns);
-    let l = look_of(k, ns);
     let at = size_at(k);
-    let tw = ns[at];
-    let th = ns[at + 1];
-    s.look(id, l, tw, th, &store[0..lent], &mut target[0..len])
+    let look = look_of(k, ns);
+    s.look(
+        numbers::id(ns),
+        look,
+        ns[at],
+        ns[at + 1],
+        store,
+        &mut target[..len],
+    )
 }
 
 // A target before a look: made apart, as the other arrays are.
@@ -87,55 +92,32 @@ fn ones() -> [u32; 65536]
     [4294967295u32; 65536]
 }
 
-fn write_target(
-    answer: u32,
-    target: &[u32],
-    len: usize,
-    stdout: Stdout,
-    out: &mut [u8; 65536],
-    w: Waiting,
-) -> Waiting
-    requires { (len ≤ length target.now) × (w.at ≤ 65536) }
-    ensures { Adds (part_line answer (take len target.now)) w out.old result out.new }
+fn write_target(answer: Result<(), Refusal>, target: &[u32], out: &mut Output)
+    ensures { Says (part_line (answer_of answer) target.now) out.old out.new }
 {
-    pixels::write_part(answer, &target[0..len], stdout, out, w)
+    match answer {
+        Ok(()) => pixels::write_part(Ok(target), out),
+        Err(refusal) => out.answer(Err(refusal)),
+    }
 }
 
-fn looked(
-    mut p: Player,
-    k: u8,
-    ns: &[u32; 384006],
-    store: &[u32; 6144000],
-    len: usize,
-    stdout: Stdout,
-    out: &mut [u8; 65536],
-) -> Player
-    requires { Ready p × (len ≤ 65536) }
-    ensures { Next (part_line (asks (group p.session) k ns.now (take p.lent store.now) (replicate len 4294967295)).answer (asks (group p.session) k ns.now (take p.lent store.now) (replicate len 4294967295)).target) (untargeted p) p.session out.old result out.new }
+fn looked(p: &mut Player, k: Kind, ns: &Numbers, store: &[u32; 6144000], len: usize)
+    requires { Ready p.old × (len ≤ 65536) }
+    ensures { Next (part_line (asks (group p.old.session) (code_of k) ns.now (take p.old.lent store.now) (replicate len 4294967295)).answer (asks (group p.old.session) (code_of k) ns.now (take p.old.lent store.now) (replicate len 4294967295)).target) (untargeted p.old) p.old.session p.new }
 {
     let mut target = ones();
-    let s = p.session;
-    let answer = look_at(s, k, ns, store, p.lent, &mut target, len);
-    p.has_target = false;
-    p.waiting = write_target(answer, &target, len, stdout, out, p.waiting);
-    p
+    let answer = look_at(&p.session, k, ns, &store[..p.lent], &mut target, len);
+    p.target = None;
+    write_target(answer, &target[..len], &mut p.out);
 }
 
-pub fn look(
-    p: Player,
-    line: Line,
-    ns: &[u32; 384006],
-    store: &[u32; 6144000],
-    stdout: Stdout,
-    out: &mut [u8; 65536],
-) -> Player
-    requires { Ready p × OnTarget line.kind }
-    ensures { (screen : List ℕ) → Writes line ns.now p (pixels store.now screen) out.old result (pixels store.now screen) out.new }
+pub fn look(p: &mut Player, line: Line, ns: &Numbers, store: &[u32; 6144000])
+    requires { Ready p.old × OnTarget (code_of line.kind) }
+    ensures { (screen : List ℕ) → Writes line ns.now p.old (pixels store.now screen) p.new (pixels store.now screen) }
 {
-    let k = line.kind;
-    let len = target_len(p, k, ns);
-    if len <= 65536 {
-        return looked(p, k, ns, store, len as usize, stdout, out);
+    let len = target_len(p, line.kind, ns);
+    if 65536 < len {
+        return p.out.refused();
     }
-    p.refused(stdout, out)
+    looked(p, line.kind, ns, store, len as usize);
 }

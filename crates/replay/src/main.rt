@@ -67,7 +67,6 @@ fn run<R: Files>(files: &R, alloc: Global, stdin: Stdin, stdout: Stdout) -> Resu
     let mut word = [0u8; 16];
     let mut name = [0u8; 64];
     let mut input = block();
-    let mut out = block();
     input::play(
         files,
         stdin,
@@ -79,7 +78,6 @@ fn run<R: Files>(files: &R, alloc: Global, stdin: Stdin, stdout: Stdout) -> Resu
         &mut word,
         &mut name,
         &mut input,
-        &mut out,
     );
     Ok(())
 }

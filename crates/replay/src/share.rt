@@ -1,46 +1,38 @@
 // The line that asks how much of a window is in view.
-ghost use Rattle.std.specs.Prelude.{◌≡◌, ◌≤◌, [], ◌∷◌};
-ghost use Rattle.windows.specs.View.{group, Given, Shares};
-ghost use Rattle.bare_lines.specs.Numbers.{id_of};
+ghost use Rattle.std.specs.Prelude.{◌≡◌, [], ◌∷◌};
 ghost use Rattle.rules.specs.Share.{share};
+ghost use Rattle.windows.specs.View.{group, in_view};
+ghost use Rattle.bare_lines.specs.Numbers.{id_of};
 ghost use Rattle.answer_text.specs.Text.{number, answered};
-ghost use Rattle.answer_text.specs.Added.{Adds};
+ghost use Rattle.answer_text.specs.Added.{Says};
 ghost use Rattle.replay.specs.Told.{share_line};
 ghost use Rattle.replay.specs.Ready.{Ready, Next};
 
 use crate::player::Player;
-use answer_text::Waiting;
+use answer_text::Output;
 use bare_lines::numbers;
-use geom::inner::answers::OK;
-use std::io::Stdout;
-use windows::{InView, Session};
+use bare_lines::numbers::Numbers;
+use geom::refusal::Refusal;
+use windows::InView;
 
-fn share_of(s: Session, ns: &[u32; 384006]) -> InView
-    requires { Given s }
-    ensures { Shares (group s) (id_of ns.now) result }
+fn write_share(found: Result<InView, Refusal>, out: &mut Output)
+    ensures { Says (answered (in_view found).answer (number (in_view found).percent ∷ number (in_view found).remainder ∷ [])) out.old out.new }
 {
-    s.share(numbers::id(ns))
-}
-
-fn write_share(found: InView, stdout: Stdout, out: &mut [u8; 65536], w: Waiting) -> Waiting
-    requires { w.at ≤ 65536 }
-    ensures { Adds (answered found.answer (number found.percent ∷ number found.remainder ∷ [])) w out.old result out.new }
-{
-    if found.answer == OK {
-        let to = answer_text::number(stdout, out, w, 0);
-        let then = answer_text::more(stdout, out, to, found.percent);
-        let last = answer_text::more(stdout, out, then, found.remainder);
-        return answer_text::end(stdout, out, last);
+    match found {
+        Ok(share) => {
+            out.number(0);
+            out.more(share.percent);
+            out.more(share.remainder);
+            out.end();
+        }
+        Err(refusal) => out.answer(Err(refusal)),
     }
-    answer_text::answer(stdout, out, w, found.answer)
 }
 
-pub fn share(mut p: Player, ns: &[u32; 384006], stdout: Stdout, out: &mut [u8; 65536]) -> Player
-    requires { Ready p }
-    ensures { Next (share_line (share (group p.session) (id_of ns.now))) p p.session out.old result out.new }
+pub fn share(p: &mut Player, ns: &Numbers)
+    requires { Ready p.old }
+    ensures { Next (share_line (share (group p.old.session) (id_of ns.now))) p.old p.old.session p.new }
 {
-    let s = p.session;
-    let found = share_of(s, ns);
-    p.waiting = write_share(found, stdout, out, p.waiting);
-    p
+    let found = p.session.share(numbers::id(ns));
+    write_share(found, &mut p.out);
 }

@@ -1,9 +1,11 @@
 // The lines of region sheets.
 ghost use Rattle.std.specs.Prelude.{ℕ, ◌≤◌, ◌<◌, ◌≡◌, length, take};
-ghost use Rattle.script.specs.Kind as Kind;
+ghost use Rattle.geom.specs.Refusals.{answer_of, value_or, listing_of};
 ghost use Rattle.windows.specs.View.{group, Given};
+ghost use Rattle.script.specs.Kind as Code;
+ghost use Rattle.script.specs.Kind.{code_of};
 ghost use Rattle.bare_lines.specs.Numbers.{num, id_of, Sound};
-ghost use Rattle.answer_text.specs.Added.{Adds};
+ghost use Rattle.answer_text.specs.Added.{Says};
 ghost use Rattle.replay.specs.Told.{sheet_line};
 ghost use Rattle.replay.specs.Ready.{Ready};
 ghost use Rattle.replay.specs.Played.{Pixels, sheet_len, Writes, PlaysAt};
@@ -11,80 +13,66 @@ ghost use Rattle.replay.specs.inner.Sheets.{ReadsPart, PrintsPart};
 
 use crate::lend;
 use crate::player::Player;
-use answer_text::Waiting;
+use answer_text::Output;
 use bare_lines::numbers;
-use geom::Listing;
-use geom::inner::answers::OK;
+use bare_lines::numbers::Numbers;
+use geom::refusal::Refusal;
 use script::Line;
-use std::io::Stdout;
 use windows::Session;
 
 // The numbers of the line as bytes, of which each is one.
-fn bytes_of(ns: &[u32], n: usize) -> [u8; 4096]
-    requires { (n ≤ 4096) × (n ≤ length ns.now) × ((i : ℕ) → i < n → num ns.now i ≤ 255) }
-    ensures { take n result ≡ take n ns.now }
+fn bytes_of(numbers: &[u32]) -> [u8; 4096]
+    requires { (length numbers.now ≤ 4096) × ((i : ℕ) → i < length numbers.now → num numbers.now i ≤ 255) }
+    ensures { take (length numbers.now) result ≡ numbers.now }
 {
     let mut bytes = [0u8; 4096];
-    let mut i: usize = 0;
-    while i < n {
-        bytes[i] = ns[i] as u8;
-        i += 1;
+    for i in 0..numbers.len() {
+        bytes[i] = numbers[i] as u8;
     }
     bytes
 }
 
 // The reader is lent the front of the list.
-fn read(bytes: &[u8], n: usize, list: &mut [u32], len: usize) -> Listing
-    requires { (n ≤ length bytes.now) × (len ≤ length list.old) }
-    ensures { ReadsPart (take n bytes.now) len list.old result list.new }
+fn read(bytes: &[u8], list: &mut [u32], len: usize) -> Result<usize, Refusal>
+    requires { len ≤ length list.old }
+    ensures { ReadsPart bytes.now len list.old (listing_of result) list.new }
 {
-    sheet::read_sheet(&bytes[..n], &mut list[0..len])
+    sheet::read_sheet(bytes, &mut list[..len])
 }
 
 // The bytes of the line are a sheet's.
-fn read_numbers(ns: &[u32; 384006], n: usize, list: &mut [u32], len: usize) -> Listing
-    requires { (n ≤ 4096) × ((i : ℕ) → i < n → num ns.now i ≤ 255) × (len ≤ length list.old) }
-    ensures { ReadsPart (take n ns.now) len list.old result list.new }
+fn read_numbers(numbers: &[u32], list: &mut [u32], len: usize) -> Result<usize, Refusal>
+    requires { (length numbers.now ≤ 4096) × ((i : ℕ) → i < length numbers.now → num numbers.now i ≤ 255) × (len ≤ length list.old) }
+    ensures { ReadsPart numbers.now len list.old (listing_of result) list.new }
 {
-    let bytes = bytes_of(ns, n);
-    read(&bytes, n, list, len)
+    let bytes = bytes_of(numbers);
+    read(&bytes[..numbers.len()], list, len)
 }
 
-pub fn read_sheet(
-    mut p: Player,
-    line: Line,
-    ns: &[u32; 384006],
-    list: &mut [u32; 7812],
-    stdout: Stdout,
-    out: &mut [u8; 65536],
-) -> Player
-    requires { Ready p × Sound line ns.now × (line.kind ≡ Kind.read_sheet) }
-    ensures { (a : Pixels) → Writes line ns.now p a out.old result a out.new }
+pub fn read_sheet(p: &mut Player, line: Line, ns: &Numbers, list: &mut [u32; 7812])
+    requires { Ready p.old × Sound line ns.now × (code_of line.kind ≡ Code.read_sheet) }
+    ensures { (a : Pixels) → Writes line ns.now p.old a p.new a }
 {
     let len = lend::list_len(p, 7812);
-    let found = read_numbers(ns, line.count, list, len);
-    p.has_list = false;
-    p.waiting = lend::write_rects(found.answer, found.count, list, stdout, out, p.waiting);
-    p
+    let count = read_numbers(&ns[..line.count], list, len);
+    p.list = None;
+    lend::write_rects(count, list, &mut p.out);
 }
 
 // How many bytes the buffer of a sheet has: what was said, or as many as suffice for every window.
-fn sheet_len(p: Player) -> usize
-    requires { Ready p }
-    ensures { (result ≡ sheet_len p) × (result ≤ 2048) }
+fn sheet_len(p: &Player) -> usize
+    requires { Ready p.now }
+    ensures { (result ≡ sheet_len p.now) × (result ≤ 2048) }
 {
-    if p.has_sheet {
-        return p.sheet;
-    }
-    2048
+    p.sheet.unwrap_or(2048)
 }
 
 // The call is lent the front of the buffer.
-fn printed(s: Session, ns: &[u32; 384006], bytes: &mut [u8], len: usize) -> Listing
-    requires { Given s × (len ≤ length bytes.old) }
-    ensures { PrintsPart (group s) (id_of ns.now) len bytes.old result bytes.new }
+fn printed(s: &Session, ns: &Numbers, bytes: &mut [u8], len: usize) -> Result<usize, Refusal>
+    requires { Given s.now × (len ≤ length bytes.old) }
+    ensures { PrintsPart (group s.now) (id_of ns.now) len bytes.old (listing_of result) bytes.new }
 {
-    s.sheet(numbers::id(ns), &mut bytes[0..len])
+    s.sheet(numbers::id(ns), &mut bytes[..len])
 }
 
 // A buffer before a sheet is printed: made apart, as the other arrays are.
@@ -92,35 +80,28 @@ fn buffer() -> [u8; 2048] {
     [0u8; 2048]
 }
 
-fn write_sheet(
-    found: Listing,
-    bytes: &[u8],
-    stdout: Stdout,
-    out: &mut [u8; 65536],
-    w: Waiting,
-) -> Waiting
-    requires { (found.count ≤ length bytes.now) × (w.at ≤ 65536) }
-    ensures { Adds (sheet_line found.answer found.count bytes.now) w out.old result out.new }
+fn write_sheet(count: Result<usize, Refusal>, bytes: &[u8], out: &mut Output)
+    requires { value_or 0 count ≤ length bytes.now }
+    ensures { Says (sheet_line (answer_of count) (value_or 0 count) bytes.now) out.old out.new }
 {
-    if found.answer == OK {
-        let to = answer_text::number(stdout, out, w, 0);
-        let n = found.count;
-        let then = answer_text::count(stdout, out, to, n);
-        let last = answer_text::bytes(stdout, out, then, &bytes[0..n]);
-        return answer_text::end(stdout, out, last);
+    match count {
+        Ok(count) => {
+            out.number(0);
+            out.more(count);
+            out.all(&bytes[..count]);
+            out.end();
+        }
+        Err(refusal) => out.answer(Err(refusal)),
     }
-    answer_text::answer(stdout, out, w, found.answer)
 }
 
-pub fn sheet(mut p: Player, ns: &[u32; 384006], stdout: Stdout, out: &mut [u8; 65536]) -> Player
-    requires { Ready p }
-    ensures { PlaysAt Kind.sheet ns.now p out.old result out.new }
+pub fn sheet(p: &mut Player, ns: &Numbers)
+    requires { Ready p.old }
+    ensures { PlaysAt Code.sheet ns.now p.old p.new }
 {
     let mut bytes = buffer();
-    let s = p.session;
     let len = sheet_len(p);
-    let found = printed(s, ns, &mut bytes, len);
-    p.has_sheet = false;
-    p.waiting = write_sheet(found, &bytes, stdout, out, p.waiting);
-    p
+    let count = printed(&p.session, ns, &mut bytes, len);
+    p.sheet = None;
+    write_sheet(count, &bytes, &mut p.out);
 }

@@ -1,50 +1,37 @@
 // The line of event times.
-ghost use Rattle.std.specs.Prelude.{◌≡◌, ◌≤◌, length, take};
-ghost use Rattle.busiest.specs.Busiest.{busiest};
+ghost use Rattle.std.specs.Prelude.{take};
+ghost use Rattle.busiest.specs.Busiest.{second_of, busiest};
 ghost use Rattle.bare_lines.specs.Numbers.{Sound};
-ghost use Rattle.answer_text.specs.Added.{Adds};
+ghost use Rattle.answer_text.specs.Added.{Says};
 ghost use Rattle.replay.specs.Told.{busiest_line};
 ghost use Rattle.replay.specs.Ready.{Ready, Next};
 
 use crate::player::Player;
-use answer_text::Waiting;
+use answer_text::Output;
+use bare_lines::numbers::Numbers;
 use busiest::Second;
-use geom::inner::answers::OK;
+use geom::refusal::Refusal;
 use script::Line;
-use std::io::Stdout;
+
+fn write_second(second: Result<Second, Refusal>, out: &mut Output)
+    ensures { Says (busiest_line (second_of second)) out.old out.new }
+{
+    match second {
+        Ok(second) => {
+            out.number(0);
+            out.more(second.count);
+            out.more(second.place);
+            out.end();
+        }
+        Err(refusal) => out.answer(Err(refusal)),
+    }
+}
 
 // The numbers of the line are the times.
-fn busiest_second(ns: &[u32], count: usize) -> Second
-    requires { count ≤ length ns.now }
-    ensures { result ≡ busiest (take count ns.now) }
+pub fn busiest(p: &mut Player, line: Line, ns: &Numbers)
+    requires { Ready p.old × Sound line ns.now }
+    ensures { Next (busiest_line (busiest (take line.count ns.now))) p.old p.old.session p.new }
 {
-    busiest::busiest(&ns[..count])
-}
-
-fn write_second(second: Second, stdout: Stdout, out: &mut [u8; 65536], w: Waiting) -> Waiting
-    requires { w.at ≤ 65536 }
-    ensures { Adds (busiest_line second) w out.old result out.new }
-{
-    if second.answer == OK {
-        let to = answer_text::number(stdout, out, w, 0);
-        let then = answer_text::count(stdout, out, to, second.count);
-        let last = answer_text::count(stdout, out, then, second.place);
-        return answer_text::end(stdout, out, last);
-    }
-    answer_text::answer(stdout, out, w, second.answer)
-}
-
-pub fn busiest(
-    mut p: Player,
-    line: Line,
-    ns: &[u32; 384006],
-    stdout: Stdout,
-    out: &mut [u8; 65536],
-) -> Player
-    requires { Ready p × Sound line ns.now }
-    ensures { Next (busiest_line (busiest (take line.count ns.now))) p p.session out.old result out.new }
-{
-    let second = busiest_second(ns, line.count);
-    p.waiting = write_second(second, stdout, out, p.waiting);
-    p
+    let second = busiest::busiest(&ns[..line.count]);
+    write_second(second, &mut p.out);
 }

@@ -4,17 +4,13 @@ ghost use Rattle.replay.specs.Told.{waiting_line};
 ghost use Rattle.replay.specs.Ready.{Ready, Next};
 
 use crate::player::Player;
-use std::io::Stdout;
-use windows::Session;
 
-pub fn waiting(mut p: Player, stdout: Stdout, out: &mut [u8; 65536]) -> Player
-    requires { Ready p }
-    ensures { Next (waiting_line (group p.session)) p p.session out.old result out.new }
+pub fn waiting(p: &mut Player)
+    requires { Ready p.old }
+    ensures { Next (waiting_line (group p.old.session)) p.old p.old.session p.new }
 {
-    let s = p.session;
-    let n = s.waiting();
-    let to = answer_text::number(stdout, out, p.waiting, 0);
-    let then = answer_text::more(stdout, out, to, n);
-    p.waiting = answer_text::end(stdout, out, then);
-    p
+    let windows = p.session.waiting();
+    p.out.number(0);
+    p.out.more(windows);
+    p.out.end();
 }

@@ -1,131 +1,89 @@
 // The line that routes an event and tells who took it.
-ghost use Rattle.std.specs.Prelude.{◌≡◌, ◌≤◌, [], ◌∷◌};
+ghost use Rattle.std.specs.Prelude.{◌≡◌};
+ghost use Rattle.geom.specs.Refusals.{answer_of};
 ghost use Rattle.rules.specs.Calls.{Call, does};
 ghost use Rattle.rules.specs.Taker.{taker};
 ghost use Rattle.windows.specs.View.{group, taker_in};
-ghost use Rattle.script.specs.Kind as Kind;
+ghost use Rattle.script.specs.Kind as Code;
+ghost use Rattle.script.specs.Kind.{code_of};
 ghost use Rattle.bare_lines.specs.Numbers.{Sound};
-ghost use Rattle.answer_text.specs.Text.{number};
-ghost use Rattle.answer_text.specs.Added.{Adds};
+ghost use Rattle.answer_text.specs.Added.{Says};
 ghost use Rattle.replay.specs.Called.{who_event};
 ghost use Rattle.replay.specs.Told.{taker_pieces, who_line};
 ghost use Rattle.replay.specs.Ready.{Ready};
 ghost use Rattle.replay.specs.Played.{Makes};
 
 use crate::player::Player;
-use answer_text::Waiting;
-use geom::inner::answers::OK;
+use answer_text::Output;
+use bare_lines::numbers::Numbers;
+use geom::refusal::Refusal;
 use script::Line;
-use std::io::Stdout;
 use window::Event;
-use windows::Taker;
-
-// KIND of `who KIND A B C D`; 1 is a Resize.
-const KEY_DOWN: u32 = 2;
-
-const KEY_UP: u32 = 3;
-
-const KEY_FIRE: u32 = 4;
-
-const TEXT: u32 = 5;
-
-const MOUSE_MOVE: u32 = 6;
-
-const MOUSE_DOWN: u32 = 7;
-
-const MOUSE_CLICK: u32 = 8;
-
-const MOUSE_UP: u32 = 9;
+use windows::Taken;
 
 // How nobody is written.
 const NOBODY: u32 = 16;
 
-// The event of the line's numbers.
-fn event(line: Line, ns: &[u32; 384006]) -> Event
-    requires { Sound line ns.now × (line.kind ≡ Kind.who) }
+// The event of the line's numbers: the first is the event's kind in CALL-SCRIPT.md, of which 1 is a Resize.
+fn event(line: Line, ns: &Numbers) -> Event
+    requires { Sound line ns.now × (code_of line.kind ≡ Code.who) }
     ensures { result ≡ who_event ns.now }
 {
-    let k = ns[0];
     let x = ns[1];
     let y = ns[2];
     let button = ns[3] as u8;
-    match k {
-        KEY_DOWN => Event::KeyDown(x),
-        KEY_UP => Event::KeyUp(x),
-        KEY_FIRE => Event::KeyFire(x),
-        TEXT => Event::Text(x),
-        MOUSE_MOVE => Event::MouseMove { x, y, dx: 0, dy: 0 },
-        MOUSE_DOWN => Event::MouseDown { x, y, button },
-        MOUSE_CLICK => Event::MouseClick {
+    match ns[0] {
+        2 => Event::KeyDown(x),
+        3 => Event::KeyUp(x),
+        4 => Event::KeyFire(x),
+        5 => Event::Text(x),
+        6 => Event::MouseMove { x, y, dx: 0, dy: 0 },
+        7 => Event::MouseDown { x, y, button },
+        8 => Event::MouseClick {
             x,
             y,
             button,
             count: ns[4] as u8,
         },
-        MOUSE_UP => Event::MouseUp { x, y, button },
+        9 => Event::MouseUp { x, y, button },
         _ => Event::Resize,
     }
 }
 
-fn write_three(
-    id: u32,
-    x: u32,
-    y: u32,
-    stdout: Stdout,
-    out: &mut [u8; 65536],
-    w: Waiting,
-) -> Waiting
-    requires { w.at ≤ 65536 }
-    ensures { Adds (number id ∷ number x ∷ number y ∷ []) w out.old result out.new }
-{
-    let to = answer_text::more(stdout, out, w, id);
-    let then = answer_text::more(stdout, out, to, x);
-    answer_text::more(stdout, out, then, y)
-}
-
-fn write_taker(taker: Taker, stdout: Stdout, out: &mut [u8; 65536], w: Waiting) -> Waiting
-    requires { w.at ≤ 65536 }
-    ensures { Adds (taker_pieces (taker_in taker)) w out.old result out.new }
+fn write_taker(taker: Option<Taken>, out: &mut Output)
+    ensures { Says (taker_pieces (taker_in (Ok taker))) out.old out.new }
 {
     match taker {
-        Taker::Window { id, x, y } => write_three(id.0, x, y, stdout, out, w),
-        Taker::Nobody => write_three(NOBODY, 0, 0, stdout, out, w),
+        Some(taken) => {
+            out.more(taken.id.0);
+            out.more(taken.x);
+            out.more(taken.y);
+        }
+        None => {
+            out.more(NOBODY);
+            out.more(0u32);
+            out.more(0u32);
+        }
     }
 }
 
-fn write_routed(
-    answer: u32,
-    taker: Taker,
-    stdout: Stdout,
-    out: &mut [u8; 65536],
-    w: Waiting,
-) -> Waiting
-    requires { w.at ≤ 65536 }
-    ensures { Adds (who_line answer (taker_in taker)) w out.old result out.new }
+fn write_routed(routed: Result<Option<Taken>, Refusal>, out: &mut Output)
+    ensures { Says (who_line (answer_of routed) (taker_in routed)) out.old out.new }
 {
-    if answer == OK {
-        let to = answer_text::number(stdout, out, w, 0);
-        let then = write_taker(taker, stdout, out, to);
-        return answer_text::end(stdout, out, then);
+    match routed {
+        Ok(taker) => {
+            out.number(0);
+            write_taker(taker, out);
+            out.end();
+        }
+        Err(refusal) => out.answer(Err(refusal)),
     }
-    answer_text::answer(stdout, out, w, answer)
 }
 
-pub fn who(
-    mut p: Player,
-    line: Line,
-    ns: &[u32; 384006],
-    stdout: Stdout,
-    out: &mut [u8; 65536],
-) -> Player
-    requires { Ready p × Sound line ns.now × (line.kind ≡ Kind.who) }
-    ensures { Makes (Call.Route (who_event ns.now)) (who_line (does (group p.session) (Call.Route (who_event ns.now))).answer (taker (group p.session) (who_event ns.now))) p out.old result out.new }
+pub fn who(p: &mut Player, line: Line, ns: &Numbers)
+    requires { Ready p.old × Sound line ns.now × (code_of line.kind ≡ Code.who) }
+    ensures { Makes (Call.Route (who_event ns.now)) (who_line (does (group p.old.session) (Call.Route (who_event ns.now))).answer (taker (group p.old.session) (who_event ns.now))) p.old p.new }
 {
-    let s = p.session;
-    let routed = s.route_to(event(line, ns));
-    let session = routed.session;
-    p.session = session;
-    let taker = routed.taker;
-    p.waiting = write_routed(routed.answer, taker, stdout, out, p.waiting);
-    p
+    let routed = p.session.route_to(event(line, ns));
+    write_routed(routed, &mut p.out);
 }

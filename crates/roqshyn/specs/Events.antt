@@ -5,8 +5,7 @@ use Rattle.window.specs.declared.Event.{Event}
 use Rattle.window.specs.declared.Event.TheVariants.{Resize, KeyDown, KeyUp, KeyFire, Text, MouseMove, MouseDown, MouseClick, MouseUp}
 use Rattle.rules.specs.Calls.{Route}
 use Rattle.windows.specs.declared.Session.{Session}
-use Rattle.windows.specs.declared.Done.{Done}
-use Rattle.windows.specs.View.{done, Meets}
+use Rattle.windows.specs.View.{Done, done, Meets}
 use Rattle.roqshyn.specs.declared.events.RoqEvent.{RoqEvent}
 
 -- the event that numbers stand for: none where the kind is none of the nine

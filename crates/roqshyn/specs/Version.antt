@@ -8,6 +8,6 @@ version_of major minor patch = major * 1000000 + minor * 1000 + patch
 abbrev pub version : ℕ
 version = version_of 1 1 0
 
--- the bytes of the struct `Session`; the logic knows no sizes, so include/layout.c compares them
+-- the bytes of the struct `Session`
 abbrev pub session_size : ℕ
 session_size = 5784

@@ -1,3 +1,3 @@
 -- What our own functions say: nobody has to believe it.
-pub mod One
-pub mod Redraw
+pub mod Parts
+pub mod Reaches

@@ -1,13 +1,10 @@
-// A look as numbers, and the session's call with it.
+// A look as numbers.
 ghost use Rattle.std.specs.Prelude.{◌≡◌};
-ghost use Rattle.windows.specs.View.{group, Given, Looks};
-ghost use Rattle.roqshyn.specs.Looks.{look_of};
 
 use look::{Look, Zoom};
-use window::ids::WinId;
-use windows::Session;
 
-// A corner, a factor, and whether the look fits the window into the target, in which case corner and factor are not read.
+// A corner, a factor, and whether the look fits the window into the target, in which case corner and factor are not
+// read.
 #[repr(C)]
 #[derive(Clone, Copy)]
 pub struct RoqLook {
@@ -17,34 +14,14 @@ pub struct RoqLook {
     pub fit: bool,
 }
 
-fn look_of(l: RoqLook) -> Look
-    ensures { result ≡ look_of l }
-{
-    if l.fit {
-        return Look {
-            x: l.x,
-            y: l.y,
-            zoom: Zoom::Fit,
-        };
-    }
-    Look {
-        x: l.x,
-        y: l.y,
-        zoom: Zoom::Factor(l.factor),
-    }
-}
+impl From<RoqLook> for Look {
+    ghost use Rattle.roqshyn.specs.Looks.{look_of};
 
-pub fn look(
-    s: Session,
-    id: WinId,
-    l: RoqLook,
-    tw: u32,
-    th: u32,
-    store: &[u32],
-    target: &mut [u32],
-) -> u32
-    requires { Given s }
-    ensures { Looks (group s) id.0 (look_of l) store.now target.old tw th result target.new }
-{
-    s.look(id, look_of(l), tw, th, store, target)
+    ghost from_gives = { λ numbers look. look ≡ look_of numbers };
+
+    fn from(numbers: RoqLook) -> Look {
+        let RoqLook { x, y, factor, fit } = numbers;
+        let zoom = if fit { Zoom::Fit } else { Zoom::Factor(factor) };
+        Look { x, y, zoom }
+    }
 }

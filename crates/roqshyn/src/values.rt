@@ -1,27 +1,21 @@
-// The functions of one window where the exported call hands back something else: enums become numbers.
-ghost use Rattle.std.specs.Prelude.{◌≡◌, ◌≤◌, ◌<◌};
-ghost use Rattle.window.specs.Represents.{RepCursor};
-ghost use Rattle.rules.specs.Group.{id_or};
-ghost use Rattle.rules.specs.DisplayAt.{display_at};
-ghost use Rattle.windows.specs.View.{group, Given, Starts, id_of, taker_in};
-ghost use Rattle.windows.specs.inner.Aimed.{Aims, who_took};
-ghost use Rattle.roqshyn.specs.Events.{event_of};
-ghost use Rattle.roqshyn.specs.Answers.{displayed, routed_as};
-ghost use Rattle.roqshyn.specs.inner.One.{MakesAt, PopsFront, Reaches};
+// What C gets of the calls of a session beside their answers. Where a call was refused each number is 0, and each
+// rectangle (0,0,0,0); only an id is then 4,294,967,295, which is no window's.
+ghost use Rattle.std.specs.Prelude.{◌≡◌};
 
-use crate::events;
-use crate::events::RoqEvent;
+use crate::answers::code;
 use display::Located;
-use geom::inner::answers::NO_WINDOW;
-use geom::{Pos, Rect};
+use geom::refusal::Refusal;
+use geom::{Dims, Pos, Rect};
 use window::ids::WinId;
-use window::slots::Slot;
-use window::{CursorPos, Window};
-use windows::inner::events::{Aim, Message, aim_event, nobody, who_took};
-use windows::inner::one;
-use windows::{Done, NewId, NextEvent, Session, Shared, Taker};
+use windows::{InView, WindowState};
 
-// The answer and the id: 4,294,967,295 where the call was refused.
+pub const NO_ID: WinId = WinId(4294967295);
+
+pub const NO_RECT: Rect = Rect {
+    pos: Pos { x: 0, y: 0 },
+    dims: Dims { w: 0, h: 0 },
+};
+
 #[repr(C)]
 #[derive(Clone, Copy)]
 pub struct RoqCreated {
@@ -29,25 +23,22 @@ pub struct RoqCreated {
     pub id: WinId,
 }
 
-// The answer, the window that took the event, and the point that it was given there. Nobody is 4,294,967,295, at (0,0).
-#[repr(C)]
-#[derive(Clone, Copy)]
-pub struct RoqRouted {
-    pub answer: u32,
-    pub id: WinId,
-    pub x: u32,
-    pub y: u32,
+impl From<Result<WinId, Refusal>> for RoqCreated {
+    ghost use Rattle.geom.specs.Refusals.{answer_of};
+    ghost use Rattle.rules.specs.Group.{id_or};
+    ghost use Rattle.windows.specs.View.{id_of};
+
+    ghost from_gives = { λ created r. (r.answer ≡ answer_of created) × (r.id.0 ≡ id_or 4294967295 (id_of created)) };
+
+    fn from(created: Result<WinId, Refusal>) -> RoqCreated {
+        RoqCreated {
+            answer: code(created),
+            id: created.unwrap_or(NO_ID),
+        }
+    }
 }
 
-// The answer and the event, whose numbers are all 0 where the call was refused.
-#[repr(C)]
-#[derive(Clone, Copy)]
-pub struct RoqPopped {
-    pub answer: u32,
-    pub event: RoqEvent,
-}
-
-// The answer and a display: the one that the position is on, where `on` is true, else the closest one.
+// A display: the one that the position is on, where `on` is true, else the closest one.
 #[repr(C)]
 #[derive(Clone, Copy)]
 pub struct RoqDisplay {
@@ -56,128 +47,149 @@ pub struct RoqDisplay {
     pub rect: Rect,
 }
 
-// What a create makes of one window, and what it hands back.
+impl From<Result<Located, Refusal>> for RoqDisplay {
+    ghost use Rattle.display.specs.Represents.{located_of};
+    ghost use Rattle.windows.specs.View.{for_pos};
+    ghost use Rattle.roqshyn.specs.Answers.{display_of};
+
+    ghost from_gives = { λ found r. r ≡ display_of (for_pos found).answer (located_of (for_pos found).located) };
+
+    fn from(found: Result<Located, Refusal>) -> RoqDisplay {
+        let answer = code(found);
+        match found.unwrap_or(Located::Closest(NO_RECT)) {
+            Located::On(rect) => RoqDisplay {
+                answer,
+                on: true,
+                rect,
+            },
+            Located::Closest(rect) => RoqDisplay {
+                answer,
+                on: false,
+                rect,
+            },
+        }
+    }
+}
+
+// The share of a window that is in view, as whole percent and what is left over of w × h.
 #[repr(C)]
 #[derive(Clone, Copy)]
-pub struct Made {
-    pub window: Window,
-    pub shared: Shared,
-    pub created: RoqCreated,
+pub struct RoqShare {
+    pub answer: u32,
+    pub percent: u32,
+    pub remainder: u32,
 }
 
-// What a pop makes of one window, field by field, and what it hands back.
+impl From<Result<InView, Refusal>> for RoqShare {
+    ghost use Rattle.windows.specs.View.{in_view};
+    ghost use Rattle.roqshyn.specs.Answers.{as_share};
+
+    ghost from_gives = { λ share r. as_share r ≡ in_view share };
+
+    fn from(share: Result<InView, Refusal>) -> RoqShare {
+        let InView { percent, remainder } = share.unwrap_or(InView {
+            percent: 0,
+            remainder: 0,
+        });
+        RoqShare {
+            answer: code(share),
+            percent,
+            remainder,
+        }
+    }
+}
+
+// The position and size of a window.
 #[repr(C)]
 #[derive(Clone, Copy)]
-pub struct AfterPop {
-    pub cursor: CursorPos,
-    pub head: u8,
-    pub len: u8,
-    pub popped: RoqPopped,
+pub struct RoqPlaced {
+    pub answer: u32,
+    pub rect: Rect,
 }
 
-// 4,294,967,295 for no id.
-fn number_of(id: NewId) -> WinId
-    ensures { result.0 ≡ id_or 4294967295 (id_of id) }
-{
-    match id {
-        NewId::Id(at) => at,
-        NewId::Absent => WinId(4294967295),
+impl From<Result<Rect, Refusal>> for RoqPlaced {
+    ghost use Rattle.windows.specs.View.{placed_of};
+    ghost use Rattle.roqshyn.specs.Answers.{as_placed};
+
+    ghost from_gives = { λ found r. as_placed r ≡ placed_of found };
+
+    fn from(found: Result<Rect, Refusal>) -> RoqPlaced {
+        RoqPlaced {
+            answer: code(found),
+            rect: found.unwrap_or(NO_RECT),
+        }
     }
 }
 
-pub fn display_at(s: Session, x: u32, y: u32) -> RoqDisplay
-    requires { Given s }
-    ensures { result ≡ displayed (display_at (group s) x y) }
-{
-    let found = s.get_display_for_pos(Pos::new(x, y));
-    let answer = found.answer;
-    let located = found.located;
-    match located {
-        Located::On(rect) => RoqDisplay {
-            answer,
-            on: true,
-            rect,
-        },
-        Located::Closest(rect) => RoqDisplay {
-            answer,
-            on: false,
-            rect,
-        },
+// Where a call would write: the smallest rectangle, if one is due.
+#[repr(C)]
+#[derive(Clone, Copy)]
+pub struct RoqStale {
+    pub answer: u32,
+    pub due: bool,
+    pub rect: Rect,
+}
+
+impl From<Result<Option<Rect>, Refusal>> for RoqStale {
+    ghost use Rattle.windows.specs.View.{stale_in};
+    ghost use Rattle.roqshyn.specs.Answers.{as_stale};
+
+    ghost from_gives = { λ stale r. as_stale r ≡ stale_in stale };
+
+    fn from(stale: Result<Option<Rect>, Refusal>) -> RoqStale {
+        let rect = stale.unwrap_or(None);
+        RoqStale {
+            answer: code(stale),
+            due: rect.is_some(),
+            rect: rect.unwrap_or(NO_RECT),
+        }
     }
 }
 
-// What the session was before makes no difference; it is a parameter because the exported call takes one.
-pub fn start(s: Session, c: u32) -> Done
-    ensures { Starts c result }
-{
-    Session::start(c)
+// How a window stands.
+#[repr(C)]
+#[derive(Clone, Copy)]
+pub struct RoqWindow {
+    pub answer: u32,
+    pub rect: Rect,
+    pub shown: bool,
+    pub place: u32,
+    pub layer: u32,
+    pub maximised: bool,
+    pub marked: bool,
+    pub queued: u32,
+    pub moved: bool,
 }
 
-pub fn create(win: Window, shared: Shared, id: WinId) -> Made
-    requires { id.0 < 16 }
-    ensures { MakesAt id.0 win shared result }
-{
-    let made = one::create(win, shared, id);
-    let new = made.id;
-    let number = number_of(new);
-    let created = RoqCreated {
-        answer: made.answer,
-        id: number,
-    };
-    let window = made.window;
-    let same = made.shared;
-    Made {
-        window,
-        shared: same,
-        created,
-    }
-}
+const NO_WINDOW: WindowState = WindowState {
+    rect: NO_RECT,
+    shown: false,
+    place: 0,
+    layer: 0,
+    maximised: false,
+    marked: false,
+    queued: 0,
+    moved: false,
+};
 
-pub fn pop(used: bool, cursor: CursorPos, head: u8, len: u8, first: Slot, id: WinId) -> AfterPop
-    requires { RepCursor cursor × (head < 16) × (len ≤ 16) }
-    ensures { PopsFront id.0 used cursor head len first result }
-{
-    let front = windows::inner::events::pop(used, cursor, head, len, first, id);
-    let next = front.event;
-    let event = events::numbers_of(next);
-    let popped = RoqPopped {
-        answer: front.answer,
-        event,
-    };
-    let read = front.cursor;
-    AfterPop {
-        cursor: read,
-        head: front.head,
-        len: front.len,
-        popped,
-    }
-}
+impl From<Result<WindowState, Refusal>> for RoqWindow {
+    ghost use Rattle.windows.specs.View.{window_in};
+    ghost use Rattle.roqshyn.specs.Answers.{as_window};
 
-// Where the event goes that numbers stand for. Numbers that stand for none find no window to take it: 11.
-pub fn aim(s: Session, e: RoqEvent) -> Aim
-    requires { Given s }
-    ensures { Aims (Reaches (event_of e) s) s result }
-{
-    let next = events::event_of(e);
-    match next {
-        NextEvent::Event(told) => aim_event(s, told),
-        NextEvent::Absent => nobody(NO_WINDOW),
-    }
-}
+    ghost from_gives = { λ found r. as_window r ≡ window_in found };
 
-// The answer, and who took the event that the window at this place was told of.
-pub fn routed(at: usize, what: Message, answer: u32) -> RoqRouted
-    requires { at < 16 }
-    ensures { result ≡ routed_as answer (taker_in (who_took at what answer)) }
-{
-    let taker = who_took(at, what, answer);
-    match taker {
-        Taker::Window { id, x, y } => RoqRouted { answer, id, x, y },
-        Taker::Nobody => RoqRouted {
-            answer,
-            id: WinId(4294967295),
-            x: 0,
-            y: 0,
-        },
+    fn from(found: Result<WindowState, Refusal>) -> RoqWindow {
+        let w = found.unwrap_or(NO_WINDOW);
+        RoqWindow {
+            answer: code(found),
+            rect: w.rect,
+            shown: w.shown,
+            place: w.place,
+            layer: w.layer,
+            maximised: w.maximised,
+            marked: w.marked,
+            queued: w.queued,
+            moved: w.moved,
+        }
     }
 }

@@ -2,13 +2,16 @@
 ghost use Rattle.std.specs.Prelude.{◌≡◌};
 ghost use Rattle.roqshyn.specs.Version.{version, session_size};
 
+use windows::Session;
+
 const MAJOR: u32 = 1;
 
 const MINOR: u32 = 1;
 
 const PATCH: u32 = 0;
-// The language has no size of a struct: include/layout.c compares this number with what the calls read and write.
-const SESSION_SIZE: usize = 5784;
+
+// include/layout.c compares it with what the calls read and write.
+const SESSION_SIZE: usize = size_of::<Session>();
 
 #[unsafe(no_mangle)]
 pub extern "C" fn roq_version() -> u32

@@ -16,7 +16,7 @@ use Rattle.winbuf.specs.Pixels.{small_line, on_line, in_slice, small_area, regio
 use Rattle.look.specs.declared.Look as View
 use Rattle.look.specs.Floats.{allowed}
 use Rattle.look.specs.View.{target_fits}
-use Rattle.geom.specs.declared.Listing.{Listing}
+use Rattle.geom.specs.Refusals.{Listing}
 use Rattle.sheet.specs.Sheet as Bands
 use Rattle.sheet.specs.Sheet.{rects}
 use Rattle.sheet.specs.Bytes.{encode}

@@ -3,7 +3,7 @@ use Rattle.std.specs.Prelude.{ℕ, ◌*◌, ◌≤◌, ◌≡◌, Bool, true, co
 use Rattle.geom.specs.Questions.{◌is◌, asked}
 use Rattle.geom.specs.Geom.{width, height}
 use Rattle.geom.specs.Lists.{any_has, numbers, Disjoint}
-use Rattle.geom.specs.declared.Listing.{Listing}
+use Rattle.geom.specs.Refusals.{Listing}
 use Rattle.sheet.specs.Sheet.{Sheet, has, rects, Valid}
 use Rattle.sheet.specs.Bytes.{encode}
 use Rattle.sheet.specs.Canon.{sheet_of}

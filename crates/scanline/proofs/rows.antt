@@ -2,10 +2,8 @@
 pub mod Rows
 pub mod Paint
 pub mod Runs
-pub mod Fill
 pub mod Columns
 pub mod Move
 pub mod Written
 pub mod Altered
 pub mod Turns
-pub mod Places

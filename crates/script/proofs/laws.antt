@@ -1,5 +1,4 @@
 -- Each file uses the ones before it.
-pub mod Stages
 pub mod Kinds
 pub mod Bytes
 pub mod Calls

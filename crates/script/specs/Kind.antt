@@ -1,5 +1,7 @@
--- The kinds of lines by their names: a number for each word that a line begins with, as in the code.
+-- The kinds of lines by their names: a number for each word that a line begins with.
 use Rattle.std.specs.Prelude.{ℕ}
+use Rattle.script.specs.declared.kind.Kind.{Kind}
+use Rattle.script.specs.declared.kind.Kind.TheVariants as variant
 
 abbrev pub passed : ℕ
 passed = 0
@@ -199,3 +201,71 @@ who = 64
 -- the last of them
 abbrev pub last : ℕ
 last = who
+
+-- the number of a kind as the code has it
+abbrev pub code_of : Kind → ℕ
+code_of variant.Passed = passed
+code_of variant.Malformed = malformed
+code_of variant.Start = start
+code_of variant.Create = create
+code_of variant.Show = show
+code_of variant.Hide = hide
+code_of variant.Drop = drop
+code_of variant.Mark = mark
+code_of variant.Move = move
+code_of variant.Resize = resize
+code_of variant.Fill = fill
+code_of variant.Blit = blit
+code_of variant.KeyDown = keydown
+code_of variant.KeyUp = keyup
+code_of variant.KeyFire = keyfire
+code_of variant.Text = text
+code_of variant.MouseMove = mousemove
+code_of variant.MouseDown = mousedown
+code_of variant.MouseUp = mouseup
+code_of variant.MouseClick = mouseclick
+code_of variant.Resized = resized
+code_of variant.Pop = pop
+code_of variant.Redraw = redraw
+code_of variant.Visible = visible
+code_of variant.Focus = focus
+code_of variant.Lend = lend
+code_of variant.LendScreen = lend_screen
+code_of variant.LendList = lend_list
+code_of variant.Screen = screen
+code_of variant.Pixels = pixels
+code_of variant.Picture = picture
+code_of variant.Intersect = intersect
+code_of variant.Pieces = pieces
+code_of variant.Union = union
+code_of variant.Contains = contains
+code_of variant.ContainsRect = contains_rect
+code_of variant.Within = within
+code_of variant.Scanline = scanline
+code_of variant.FillScanline = fill_scanline
+code_of variant.SetScanline = set_scanline
+code_of variant.Region = region
+code_of variant.Begin = begin
+code_of variant.Portion = portion
+code_of variant.Busiest = busiest
+code_of variant.Share = share
+code_of variant.Hits = hits
+code_of variant.Dim = dim
+code_of variant.Layer = layer
+code_of variant.Look = look
+code_of variant.LookFit = look_fit
+code_of variant.LendTarget = lend_target
+code_of variant.Display = display
+code_of variant.DisplayAt = display_at
+code_of variant.Maximise = maximise
+code_of variant.UpdateDims = update_dims
+code_of variant.Sheet = sheet
+code_of variant.ReadSheet = read_sheet
+code_of variant.LendSheet = lend_sheet
+code_of variant.Raise = raise
+code_of variant.Drag = drag
+code_of variant.Stale = stale
+code_of variant.Waiting = waiting
+code_of variant.Window = window
+code_of variant.Session = session
+code_of variant.Who = who

@@ -4,8 +4,11 @@ use Rattle.std.specs.Prelude.{ℕ, ◌+◌, ◌*◌, ◌-◌, ◌≤◌, ◌<◌
 use mathlib.Core.List.{List, [], ◌∷◌, ◌++◌, foldl}
 use Rattle.std.proofs.Math.Option.{Option, none, some}
 use Rattle.script.specs.declared.Reading.{Reading}
+use Rattle.script.specs.declared.Reading.TheVariants as reading
+use Rattle.script.specs.declared.kind.Kind.{Kind}
 use Rattle.script.specs.declared.shape.Line.{Line}
 use Rattle.script.specs.Kind as Kind
+use Rattle.script.specs.Kind.{code_of}
 use Rattle.script.specs.Script.{Heard, silent, malformed, call, begun, complete, kind_of, name_next, is_digit, name_byte, heard_of, Shaped}
 
 -- at the start; spaces alone; in the first word; between words; in a number; in a name; after a name; in a comment; malformed.
@@ -86,22 +89,17 @@ ends (after_name k ns name) = complete (call k ns name)
 ends in_comment = silent
 ends spoiled = malformed
 
--- the state of each stage, of which 8 is malformed: the kind, the first word, the numbers that have ended, the one that has not, and the name
-unfoldable pub standing : ℕ → ℕ → List ℕ → List ℕ → ℕ → List ℕ → State
-standing s k w ns n name =
-    cond (eqb s 0) at_start
-    (cond (eqb s 1) spaces
-    (cond (eqb s 2) (in_word w)
-    (cond (eqb s 3) (between k ns)
-    (cond (eqb s 4) (in_number k ns n)
-    (cond (eqb s 5) (in_name k ns name)
-    (cond (eqb s 6) (after_name k ns name)
-    (cond (eqb s 7) in_comment spoiled)))))))
-
 -- the state that a reading stands for, with what has been kept of the word, of the numbers and of the name
 abbrev pub state_of : Reading → List ℕ → List ℕ → List ℕ → State
-state_of r w ns name =
-    standing r.stage r.kind (take r.letters w) (take r.count ns) (get_or ns r.count 0) (take r.named name)
+state_of reading.AtStart w ns name = at_start
+state_of reading.Spaces w ns name = spaces
+state_of (reading.InWord letters) w ns name = in_word (take letters w)
+state_of (reading.Between kind count) w ns name = between (code_of kind) (take count ns)
+state_of (reading.InNumber kind count) w ns name = in_number (code_of kind) (take count ns) (get_or ns count 0)
+state_of (reading.InName kind count length) w ns name = in_name (code_of kind) (take count ns) (take length name)
+state_of (reading.AfterName kind count length) w ns name = after_name (code_of kind) (take count ns) (take length name)
+state_of reading.InComment w ns name = in_comment
+state_of reading.Spoiled w ns name = spoiled
 
 -- the reading stands for the bytes bs of a line
 pub record Reads (bs : List ℕ) (r : Reading) (w ns name : List ℕ) : Type 0 where
@@ -115,15 +113,15 @@ pub record ReadTo (block : List ℕ) (start at : ℕ) : Type 0 where
   pub stops : at < length block → get_or block at 0 ≡ 10
 
 -- no call: a line that is passed over, or a malformed one
-abbrev pub no_call : ℕ → Line
+abbrev pub no_call : Kind → Line
 no_call k = record { kind = k; count = 0; name = 0 }
 
 -- the line of a kind with n numbers and a name of m bytes
 pub record Checked (k n m : ℕ) (ns : List ℕ) (l : Line) : Type 0 where
-  pub shaped : Shaped l.kind l.count l.name ns
+  pub shaped : Shaped (code_of l.kind) l.count l.name ns
   pub heard : (name : List ℕ) → length name ≡ 64 → heard_of l ns name ≡ complete (call k (take n ns) (take m name))
 
 -- the line of a reading
 pub record Ended (r : Reading) (w ns : List ℕ) (l : Line) : Type 0 where
-  pub shaped : Shaped l.kind l.count l.name ns
+  pub shaped : Shaped (code_of l.kind) l.count l.name ns
   pub heard : (name : List ℕ) → length name ≡ 64 → heard_of l ns name ≡ ends (state_of r w ns name)

@@ -5,6 +5,7 @@ use mathlib.Core.List.{List, [], ◌∷◌, ◌++◌, foldl}
 use Rattle.std.proofs.Math.Option.{Option, none, some}
 use Rattle.script.specs.Text.{bytes}
 use Rattle.script.specs.Kind as Kind
+use Rattle.script.specs.Kind.{code_of}
 use Rattle.script.specs.declared.shape.Line.{Line}
 
 -- Words ---------------------------------------------------------------------------------------------------------------
@@ -261,8 +262,8 @@ hears (b ∷ bs) = cond (eqb b 35) silent (complete (foldl with_word silent (wor
 -- what a line says, with the numbers and the name that were read
 unfoldable pub heard_of : Line → List ℕ → List ℕ → Heard
 heard_of l ns name =
-    cond (eqb l.kind Kind.passed) silent
-    (cond (eqb l.kind Kind.malformed) malformed (call l.kind (take l.count ns) (take l.name name)))
+    cond (eqb (code_of l.kind) Kind.passed) silent
+    (cond (eqb (code_of l.kind) Kind.malformed) malformed (call (code_of l.kind) (take l.count ns) (take l.name name)))
 
 -- what a program may rely on of any line: of its kind k, its n numbers, the m bytes of its name, and the numbers
 pub record Shaped (k n m : ℕ) (ns : List ℕ) : Type 0 where

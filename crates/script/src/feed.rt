@@ -1,48 +1,44 @@
 // One byte of a line.
-ghost use Rattle.std.specs.Prelude.{◌≡◌, ◌&&◌, eqb, ℕ, ◌≤◌, length, take};
-ghost use mathlib.Core.List.{List, foldl};
+ghost use Rattle.std.specs.Prelude.{◌≡◌, ◌&&◌, eqb, ℕ, List, ◌≤◌, length, take};
+ghost use mathlib.Core.List.{foldl};
 ghost use Rattle.std.proofs.Math.Seq.{slice};
-ghost use Rattle.script.specs.Kind as Kind;
+ghost use Rattle.script.specs.Kind as Code;
+ghost use Rattle.script.specs.Kind.{code_of};
 ghost use Rattle.script.specs.Machine.{ReadTo, state_of, between, after_name, step};
 
-use crate::kind::PICTURE;
-use crate::stage::{AFTER_NAME, AT_START, BETWEEN, IN_NAME, IN_NUMBER, IN_WORD, SPACE, SPACES};
-use crate::{Reading, Step, name, number, stage, word};
+use crate::kind::Kind;
+use crate::{Reading, SPACE, Step, name, number, word};
 
 // The word after `picture W H` is a name, and any other a number.
-fn name_next(kind: u8, count: usize) -> bool
-    ensures { result ≡ eqb kind Kind.picture && eqb count 2 }
+fn name_next(kind: Kind, count: usize) -> bool
+    ensures { result ≡ eqb (code_of kind) Code.picture && eqb count 2 }
 {
-    if kind == PICTURE {
-        return count == 2;
-    }
-    false
+    kind == Kind::Picture && count == 2
 }
 
 // A byte between two words.
-fn between_words(reading: Reading, b: u8, numbers: &mut [u32], name: &mut [u8]) -> Reading
-    requires { (reading.stage ≡ 3) × (length numbers.old ≡ 384006) × (length name.old ≡ 64) }
+fn between_words(kind: Kind, count: usize, b: u8, numbers: &mut [u32], name: &mut [u8]) -> Reading
+    requires { (length numbers.old ≡ 384006) × (length name.old ≡ 64) }
     ensures { (w : List ℕ) → state_of result w numbers.new name.new
-        ≡ step (between reading.kind (take reading.count numbers.old)) b }
+        ≡ step (between (code_of kind) (take count numbers.old)) b }
 {
     if b == SPACE {
-        return reading;
+        return Reading::Between { kind, count };
     }
-    if name_next(reading.kind, reading.count) {
-        return name::more(reading, 0, b, name);
+    if name_next(kind, count) {
+        return name::more(kind, count, 0, b, name);
     }
-    number::first(reading, b, numbers)
+    number::first(kind, count, b, numbers)
 }
 
-fn after_name(reading: Reading, b: u8) -> Reading
-    requires { reading.stage ≡ 6 }
+fn after_name(kind: Kind, count: usize, named: usize, b: u8) -> Reading
     ensures { (w ns name : List ℕ) → state_of result w ns name
-        ≡ step (after_name reading.kind (take reading.count ns) (take reading.named name)) b }
+        ≡ step (after_name (code_of kind) (take count ns) (take named name)) b }
 {
     if b == SPACE {
-        return reading;
+        return Reading::AfterName { kind, count, named };
     }
-    stage::spoiled()
+    Reading::Spoiled
 }
 
 // A comment and a malformed line stay what they are.
@@ -57,29 +53,16 @@ pub fn feed(
     ensures { state_of result word.new numbers.new name.new
         ≡ step (state_of reading word.old numbers.old name.old) b }
 {
-    let stage = reading.stage;
-    if stage == IN_NUMBER {
-        return number::next(reading, b, numbers);
+    match reading {
+        Reading::AtStart => word::at_start(b, word),
+        Reading::Spaces => word::first(b, word),
+        Reading::InWord { letters } => word::next(letters, b, word),
+        Reading::Between { kind, count } => between_words(kind, count, b, numbers, name),
+        Reading::InNumber { kind, count } => number::next(kind, count, b, numbers),
+        Reading::InName { kind, count, named } => name::next(kind, count, named, b, name),
+        Reading::AfterName { kind, count, named } => after_name(kind, count, named, b),
+        Reading::InComment | Reading::Spoiled => reading,
     }
-    if stage == BETWEEN {
-        return between_words(reading, b, numbers, name);
-    }
-    if stage == IN_WORD {
-        return word::next(reading, b, word);
-    }
-    if stage == AT_START {
-        return word::at_start(b, word);
-    }
-    if stage == SPACES {
-        return word::first(b, word);
-    }
-    if stage == IN_NAME {
-        return name::next(reading, b, name);
-    }
-    if stage == AFTER_NAME {
-        return after_name(reading, b);
-    }
-    reading
 }
 
 // The bytes of a block up to the next newline.
@@ -98,14 +81,14 @@ pub fn feed_all(
         (slice from result.at block.now) }
 {
     let mut r = reading;
-    let mut at = from;
-    while at < block.len() {
-        let b = block[at];
-        if b == b'\n' {
+    for at in from..block.len() {
+        if block[at] == b'\n' {
             return Step { reading: r, at };
         }
-        r = feed(r, b, word, numbers, name);
-        at += 1;
+        r = feed(r, block[at], word, numbers, name);
     }
-    Step { reading: r, at }
+    Step {
+        reading: r,
+        at: block.len(),
+    }
 }

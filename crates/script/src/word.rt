@@ -3,52 +3,41 @@ ghost use Rattle.std.specs.Prelude.{◌≡◌, List, ℕ, length, take};
 ghost use Rattle.script.specs.Script.{kind_of};
 ghost use Rattle.script.specs.Machine.{state_of, at_start, spaces, in_word, opened, letter, step};
 
-use crate::kind::MALFORMED;
-use crate::stage::{BETWEEN, IN_COMMENT, IN_WORD, SPACE, SPACES};
-use crate::{Reading, kind, stage};
+use crate::kind::Kind;
+use crate::{Reading, SPACE, table};
+
+// The most letters of a word.
+const LETTERS: usize = 16;
 
 // The first word ends: its kind is known, and no number is read.
 fn ends(word: &[u8], letters: usize) -> Reading
     ensures { (w ns name : List ℕ) → state_of result w ns name ≡ opened (kind_of (take letters word.now)) }
 {
-    let kind = kind::kind_of_letters(word, letters);
-    if kind == MALFORMED {
-        return stage::spoiled();
+    let kind = table::kind_of(word, letters);
+    if kind == Kind::Malformed {
+        return Reading::Spoiled;
     }
-    Reading {
-        stage: BETWEEN,
-        kind,
-        letters,
-        count: 0,
-        named: 0,
-    }
+    Reading::Between { kind, count: 0 }
 }
 
-// A letter of the first word, of which there are `at` already. No word has more than 16.
+// A letter of the first word, of which there are `at` already.
 fn letter(at: usize, b: u8, word: &mut [u8]) -> Reading
     requires { length word.old ≡ 16 }
     ensures { (ns name : List ℕ) → state_of result word.new ns name ≡ letter (in_word (take at word.old)) b }
 {
-    if at >= 16 {
-        return stage::spoiled();
+    if at >= LETTERS {
+        return Reading::Spoiled;
     }
     word[at] = b;
-    Reading {
-        stage: IN_WORD,
-        kind: MALFORMED,
-        letters: at + 1,
-        count: 0,
-        named: 0,
-    }
+    Reading::InWord { letters: at + 1 }
 }
 
 // A byte after a letter.
-pub fn next(reading: Reading, b: u8, word: &mut [u8]) -> Reading
+pub fn next(letters: usize, b: u8, word: &mut [u8]) -> Reading
     requires { length word.old ≡ 16 }
     ensures { (ns name : List ℕ) → state_of result word.new ns name
-        ≡ step (in_word (take reading.letters word.old)) b }
+        ≡ step (in_word (take letters word.old)) b }
 {
-    let letters = reading.letters;
     if b == SPACE {
         return ends(word, letters);
     }
@@ -61,13 +50,7 @@ pub fn first(b: u8, word: &mut [u8]) -> Reading
     ensures { (ns name : List ℕ) → state_of result word.new ns name ≡ step spaces b }
 {
     if b == SPACE {
-        return Reading {
-            stage: SPACES,
-            kind: MALFORMED,
-            letters: 0,
-            count: 0,
-            named: 0,
-        };
+        return Reading::Spaces;
     }
     letter(0, b, word)
 }
@@ -78,13 +61,7 @@ pub fn at_start(b: u8, word: &mut [u8]) -> Reading
     ensures { (ns name : List ℕ) → state_of result word.new ns name ≡ step at_start b }
 {
     if b == b'#' {
-        return Reading {
-            stage: IN_COMMENT,
-            kind: MALFORMED,
-            letters: 0,
-            count: 0,
-            named: 0,
-        };
+        return Reading::InComment;
     }
     first(b, word)
 }

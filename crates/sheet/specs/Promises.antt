@@ -1,7 +1,7 @@
 -- Document 02, N6: what is promised of sheets and of the reader, beside what each call answers.
 use Rattle.std.specs.Prelude.{ℕ, ◌*◌, ◌≤◌, ◌≡◌, List, ◌++◌, ◌↔◌, length, drop}
 use Rattle.geom.specs.Lists.{numbers, any_has, Disjoint}
-use Rattle.geom.specs.declared.Listing.{Listing}
+use Rattle.geom.specs.Refusals.{Listing}
 use Rattle.sheet.specs.Sheet.{Sheet, has, rects, Valid}
 use Rattle.sheet.specs.Bytes.{encode}
 use Rattle.sheet.specs.Reader.{IsSheet, answered, Reads}

@@ -1,7 +1,7 @@
 -- Document 02, N6: what the reader of a sheet answers.
 use Rattle.std.specs.Prelude.{ℕ, ◌*◌, ◌≤◌, ◌<◌, ◌≡◌, List, ◌++◌, length, drop}
 use Rattle.geom.specs.Lists.{numbers}
-use Rattle.geom.specs.declared.Listing.{Listing}
+use Rattle.geom.specs.Refusals.{Listing}
 use Rattle.sheet.specs.Sheet.{Sheet, Valid, rects}
 use Rattle.sheet.specs.Bytes.{encode}
 

@@ -2,10 +2,10 @@
 // behind the session's call `sheet`.
 #![tactic(auto)]
 
+ghost use Rattle.geom.specs.Refusals.{listing_of};
 ghost use Rattle.sheet.specs.Reader.{Reads};
 
-use geom::Listing;
-use geom::inner::answers::{NO_SHEET, OK, SHEET_LENGTH};
+use geom::refusal::Refusal;
 use inner::read::write_rects;
 use inner::valid::check;
 
@@ -13,25 +13,15 @@ pub mod inner;
 
 // Document 02, N6: reads a sheet into a lent list of rectangles, four numbers for each: x, y, w, h. "19 … asked after 18",
 // and a refusal leaves the list as it is.
-pub fn read_sheet(bytes: &[u8], list: &mut [u32]) -> Listing
-    ensures { Reads bytes.now list.old result list.new }
+pub fn read_sheet(bytes: &[u8], list: &mut [u32]) -> Result<usize, Refusal>
+    ensures { Reads bytes.now list.old (listing_of result) list.new }
 {
-    let c = check(bytes);
-    if c.ok {
-        if list.len() / 4 < c.count {
-            return Listing {
-                answer: SHEET_LENGTH,
-                count: 0,
-            };
-        }
-        write_rects(bytes, list);
-        return Listing {
-            answer: OK,
-            count: c.count,
-        };
+    let Some(count) = check(bytes) else {
+        return Err(Refusal::NoSheet);
+    };
+    if list.len() / 4 < count {
+        return Err(Refusal::SheetLength);
     }
-    Listing {
-        answer: NO_SHEET,
-        count: 0,
-    }
+    write_rects(bytes, list);
+    Ok(count)
 }

@@ -1,11 +1,13 @@
-// Pixels with the stride of their rows: `StrideBuf` of video/mod.rs, with its names. The work is done over a slice and a number,
-// here by `rows` and in `winbuf` by `region`; the methods take the struct apart, and nothing else.
+// Pixels with the stride of their rows: `StrideBuf` of video/mod.rs, with its names. The work is done over a slice and
+// a number, here by `rows` and in `winbuf` by `region`; the methods take the struct apart, and nothing else.
 #![tactic(auto)]
 
 ghost use Rattle.std.specs.Prelude.{◌≡◌, length};
 ghost use Rattle.winbuf.specs.Pixels.{region};
 ghost use Rattle.winbuf.specs.Bare.{Hands, region_start};
 ghost use Rattle.stride.specs.Stride.{row_count, HandsRegion};
+
+use geom::refusal::Refusal;
 
 // The pixels are its maker's.
 #[derive(Clone, Copy)]
@@ -21,12 +23,7 @@ fn rows(total: usize, stride: usize) -> usize
     if stride == 0 {
         return 0;
     }
-    let whole = total / stride;
-    if whole * stride < total {
-        whole + 1
-    } else {
-        whole
-    }
+    total.div_ceil(stride)
 }
 
 impl<'a> StrideBuf<'a> {
@@ -50,10 +47,10 @@ impl<'a> StrideBuf<'a> {
     }
 
     // The Rust's `offset` and then `clip`, with questions 5 and 13 in the place of its assertions.
-    pub fn region(self, x: u32, y: u32, w: u32, h: u32, answer: &mut u32) -> &'a [u32]
-        ensures { HandsRegion self.entry x y w h answer.new result }
+    pub fn region(self, x: u32, y: u32, w: u32, h: u32) -> Result<&'a [u32], Refusal>
+        ensures { HandsRegion self.entry x y w h result }
     {
-        winbuf::region(self.pixels, self.stride, x, y, w, h, answer)
+        winbuf::region(self.pixels, self.stride, x, y, w, h)
     }
 }
 
@@ -65,9 +62,8 @@ pub fn region_of<'a>(
     y: u32,
     w: u32,
     h: u32,
-    answer: &mut u32,
-) -> &'a [u32]
-    ensures { Hands (region pixels.now stride x y w h) (region_start stride x y) pixels.entry answer.new result }
+) -> Result<&'a [u32], Refusal>
+    ensures { Hands (region pixels.now stride x y w h) (region_start stride x y) pixels.entry result }
 {
-    StrideBuf::new(pixels, stride).region(x, y, w, h, answer)
+    StrideBuf::new(pixels, stride).region(x, y, w, h)
 }

@@ -1,9 +1,11 @@
 // The topmost window at a point of the screen. Translated from WindowGroup::get_win_at_pos.
 #![tactic(auto)]
 
-ghost use Rattle.std.specs.Prelude.{◌≡◌};
+ghost use Rattle.std.specs.Prelude.{◌≡◌, length};
 ghost use Rattle.std.proofs.Math.Option.{none};
-ghost use Rattle.order.specs.Ids.{ids};
+ghost use Rattle.geom.specs.Geom.{contains};
+ghost use Rattle.geom.specs.Rect16.{rect_of};
+ghost use Rattle.order.specs.Ids.{nums};
 ghost use Rattle.order.specs.inner.Frames.{frame_at, Shown};
 ghost use Rattle.topmost.specs.inner.Topmost.{hit_of, topmost_at};
 
@@ -15,30 +17,22 @@ use geom::Pos;
 use geom::inner::rect16::Rect16;
 use window::ids::WinId;
 
-#[derive(Clone, Copy)]
-pub enum Hit {
-    Window(WinId),
-    Nobody,
+fn has(area: Rect16, x: u32, y: u32) -> bool
+    ensures { result ≡ contains (rect_of area) x y }
+{
+    area.rect().contains(Pos::new(x, y)) == Ok(true)
 }
 
 // The order is searched from its top down, as far as the first area that contains the point.
-pub fn topmost(areas: [Rect16; 16], order: [WinId; 16], shown: usize, x: u32, y: u32) -> Hit
-    requires { Shown areas order shown }
-    ensures { hit_of result ≡ topmost_at (frame_at areas) x y (ids shown order) none }
+// The areas and the windows shown stay two arguments: a struct of both would be made for one call and taken apart in it.
+pub fn topmost(areas: &[Rect16; 16], shown: &[WinId], x: u32, y: u32) -> Option<WinId>
+    requires { Shown areas.now shown.now (length shown.now) }
+    ensures { hit_of result ≡ topmost_at (frame_at areas.now) x y (nums shown.now) none }
 {
-    // how many windows are left to look at: the lowest ones
-    let mut left = shown;
-    while 0 < left {
-        let p = left - 1;
-        let id = order[p];
-        let at = id.0 as usize;
-        let area = areas[at];
-        let frame = area.rect();
-        let hit = frame.contains(Pos::new(x, y));
-        if hit.yes {
-            return Hit::Window(id);
+    for id in shown.iter().rev() {
+        if has(areas[id.0 as usize], x, y) {
+            return Some(*id);
         }
-        left -= 1;
     }
-    Hit::Nobody
+    None
 }

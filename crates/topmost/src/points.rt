@@ -8,25 +8,13 @@ use geom::inner::small::MOST;
 pub fn all_small(numbers: &[u32]) -> bool
     ensures { result ≡ all_small numbers.now }
 {
-    let mut i: usize = 0;
-    while i < numbers.len() {
-        if numbers[i] > MOST {
-            return false;
-        }
-        i += 1;
-    }
-    true
+    numbers.iter().all(|n| *n <= MOST)
 }
 
-// Question 25: of so many numbers, at most 32 points and no x without its y, and three numbers a point in an answer list of so many.
+// Question 25: of so many numbers, at most 32 points and no x without its y, and three numbers a point in an answer
+// list of so many.
 pub fn fit(given: usize, lent: usize) -> bool
     ensures { result ≡ fit given lent }
 {
-    if given > 64 {
-        return false;
-    }
-    if given % 2 == 0 {
-        return 3 * (given / 2) <= lent;
-    }
-    false
+    given <= 64 && given % 2 == 0 && 3 * (given / 2) <= lent
 }

@@ -1,18 +1,18 @@
--- The parts that a loop has left, and the rules part by part. Each file uses the ones before it.
+-- The parts that the walk has left, and the rules part by part. Each file uses the ones before it.
 pub mod Depth
 pub mod Parts
 pub mod Table
 pub mod Regions
-pub mod Turns
 pub mod Split
-pub mod Piece
 pub mod Cuts
-pub mod Whole
+pub mod Walks
+pub mod Lists
 pub mod Shown
 pub mod Pixels
 pub mod Reach
 pub mod Outside
 pub mod Once
+pub mod Drawing
 pub mod Extents
 pub mod Joining
 pub mod Entries

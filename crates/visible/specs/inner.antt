@@ -2,4 +2,5 @@
 pub mod Seen
 pub mod Outside
 pub mod Extents
-pub mod Held
+pub mod Walk
+pub mod Visits

@@ -11,25 +11,10 @@ pub fn overlap(a: Rect, b: Rect) -> bool
     requires { Fits a × Fits b }
     ensures { result ≡ meets a b }
 {
-    if inner::right(a) <= b.pos.x {
-        return false;
-    }
-    if inner::right(b) <= a.pos.x {
-        return false;
-    }
-    if inner::bottom(a) <= b.pos.y {
-        return false;
-    }
-    if inner::bottom(b) <= a.pos.y {
-        return false;
-    }
-    if inner::is_empty(a) {
-        return false;
-    }
-    if inner::is_empty(b) {
-        return false;
-    }
-    true
+    b.pos.x < inner::right(a)
+        && (a.pos.x < inner::right(b)
+            && (b.pos.y < inner::bottom(a)
+                && (a.pos.y < inner::bottom(b) && (!inner::is_empty(a) && !inner::is_empty(b)))))
 }
 
 // The rectangle as seen from the corner of `to`.

@@ -1,9 +1,8 @@
 // One region of a window, copied from the store to the screen.
-ghost use Rattle.std.specs.Prelude.{◌≡◌, cond, ◌≤◌};
+ghost use Rattle.std.specs.Prelude.{◌≡◌};
 ghost use Rattle.geom.specs.inner.Fits.{Within};
-ghost use Rattle.geom.specs.Rect16.{Small};
 ghost use Rattle.rules.specs.Redraw.{draw_region};
-ghost use Rattle.visible.specs.inner.Seen.{Drawable, view_of, own};
+ghost use Rattle.visible.specs.inner.Seen.{Drawable, own};
 
 use geom::{Rect, inner};
 use paint::area::draw_area;
@@ -18,50 +17,10 @@ pub struct View {
     pub dim: bool,
 }
 
-fn flag(b: bool) -> usize
-    ensures { result ≡ cond b 1 0 }
-{
-    if b { 1 } else { 0 }
-}
-
-impl View {
-    // The eight numbers of a view: lent, they are handed on without a copy.
-    pub fn numbers(self) -> [usize; 8]
-        ensures { view_of result ≡ self }
-    {
-        let at = self.at;
-        [
-            at.pos.x as usize,
-            at.pos.y as usize,
-            at.dims.w as usize,
-            at.dims.h as usize,
-            self.base,
-            self.sw as usize,
-            self.sh as usize,
-            flag(self.dim),
-        ]
-    }
-
-    // The view of eight numbers.
-    pub fn of(l: &[usize; 8]) -> View
-        requires { Small (view_of l.now).at × ((view_of l.now).sw ≤ 32767) × ((view_of l.now).sh ≤ 32767) }
-        ensures { result ≡ view_of l.now }
-    {
-        let at = Rect::new(l[0] as u32, l[1] as u32, l[2] as u32, l[3] as u32);
-        View {
-            at,
-            base: l[4],
-            sw: l[5] as u32,
-            sh: l[6] as u32,
-            dim: l[7] == 1,
-        }
-    }
-}
-
 // Draws a region, relative to the window; what lies off the screen is cut away first.
-pub fn draw_region(view: View, r: Rect, store: &[u32], screen: &mut [u32])
-    requires { Drawable view store.now screen.old × Within (own view) r }
-    ensures { screen.new ≡ draw_region view.dim view.at view.base store.now view.sw view.sh r screen.old }
+pub fn draw_region(view: &View, r: Rect, store: &[u32], screen: &mut [u32])
+    requires { Drawable view.now store.now screen.old × Within (own view.now) r }
+    ensures { screen.new ≡ draw_region view.now.dim view.now.at view.now.base store.now view.now.sw view.now.sh r screen.old }
 {
     let at = view.at;
     let on = Rect::new(at.pos.x + r.pos.x, at.pos.y + r.pos.y, r.dims.w, r.dims.h);

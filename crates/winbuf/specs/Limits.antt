@@ -1,9 +1,8 @@
 -- The limits of the bare calls on pixels, as one table with one theorem.
 use Rattle.std.specs.Prelude.{ℕ, ◌≡◌, refl, List, [], ◌∷◌, map, replicate}
-use Rattle.winbuf.specs.declared.ScanlineRange.{ScanlineRange}
 use Rattle.winbuf.specs.Pixels as Pixels
 use Rattle.scanline.specs.Altered as Altered
-use Rattle.winbuf.specs.Pixels.{Part, Write, scanline_range, scanline, fill_scanline, set_scanline, region}
+use Rattle.winbuf.specs.Pixels.{Part, Write, ScanlineRange, scanline_range, scanline, fill_scanline, set_scanline, region}
 
 -- what a call gives, and what document 01 says
 pub record Limit : Type 0 where

@@ -4,7 +4,6 @@ use Rattle.std.proofs.lemmas.List.Edits.{sets}
 use Rattle.geom.specs.Questions.{◌is◌, asked, small}
 use Rattle.scanline.specs.Altered.{altered}
 use Rattle.scanline.specs.Pixels.{part}
-use Rattle.winbuf.specs.declared.ScanlineRange.{ScanlineRange}
 
 -- what a call that hands back a part leaves: its answer and the part
 pub record Part : Type 0 where
@@ -16,6 +15,12 @@ pub record Write : Type 0 where
   pub answer : ℕ
   pub pixels : List ℕ
   pub altered : ℕ
+
+-- where a scanline lies in lent pixels, with the answer: `count` of them from `start` on
+pub record ScanlineRange : Type 0 where
+  pub answer : ℕ
+  pub start : ℕ
+  pub count : ℕ
 
 -- where "a scanline (line, ofs, len)" begins, and how long it is, "cut to width − ofs"
 abbrev pub line_start : ℕ → ℕ → ℕ → ℕ

@@ -5,13 +5,6 @@ ghost use Rattle.window.specs.Represents.{RepCursor};
 
 use crate::{CursorPos, Event};
 
-// The unread move, and the cursor once it is read.
-#[derive(Clone, Copy)]
-pub struct Moved {
-    pub cursor: CursorPos,
-    pub event: Event,
-}
-
 impl CursorPos {
     pub fn new() -> CursorPos
         ensures { result ≡ cursor_at_origin }
@@ -26,20 +19,19 @@ impl CursorPos {
     }
 
     #[tactic(auto, unfolding(crate::specs::Window::cursor_to))]
-    pub fn update(mut self, x: u32, y: u32) -> CursorPos
-        requires { RepCursor self × (x ≤ 32767) × (y ≤ 32767) }
-        ensures { (result ≡ cursor_to self x y) × RepCursor result }
+    pub fn update(&mut self, x: u32, y: u32)
+        requires { RepCursor self.old × (x ≤ 32767) × (y ≤ 32767) }
+        ensures { (self.new ≡ cursor_to self.old x y) × RepCursor self.new }
     {
         self.new_x = x as u16;
         self.new_y = y as u16;
         self.is_dirty = true;
-        self
     }
 
-    // The caller has seen that the cursor is dirty.
-    pub fn take(mut self) -> Moved
-        requires { RepCursor self }
-        ensures { (result.event ≡ move_of self) × (result.cursor ≡ cursor_read self) × RepCursor result.cursor }
+    // The unread move, which is read by this. The caller has seen that the cursor is dirty.
+    pub fn take(&mut self) -> Event
+        requires { RepCursor self.old }
+        ensures { (result ≡ move_of self.old) × (self.new ≡ cursor_read self.old) × RepCursor self.new }
     {
         let x = self.new_x;
         let y = self.new_y;
@@ -48,14 +40,11 @@ impl CursorPos {
         self.old_x = x;
         self.old_y = y;
         self.is_dirty = false;
-        Moved {
-            cursor: self,
-            event: Event::MouseMove {
-                x: x as u32,
-                y: y as u32,
-                dx,
-                dy,
-            },
+        Event::MouseMove {
+            x: u32::from(x),
+            y: u32::from(y),
+            dx,
+            dy,
         }
     }
 }

@@ -1,16 +1,17 @@
 // Damage: the areas of a window that changed since it was last drawn.
-ghost use Rattle.std.specs.Prelude.{◌≡◌, ◌&&◌, [], ◌∷◌, ◌≤◌, leb, ltb, eqb};
-ghost use Rattle.geom.specs.Geom.{rect, left, top, right, bottom, union};
-ghost use Rattle.geom.specs.inner.Fits.{Fits};
+ghost use Rattle.std.specs.Prelude.{◌≡◌, [], ◌∷◌, ◌≤◌, eqb, take};
+ghost use Rattle.geom.specs.Geom.{rect, union, contains_rect};
 ghost use Rattle.geom.specs.Rect16.{Small, rect_of};
 ghost use Rattle.window.specs.Window as rule;
 ghost use Rattle.window.specs.Represents.{Low, rects, RepDamage};
-ghost use Rattle.window.specs.inner.Changes.{MergedInto, JoinedTo, Dirtied};
+ghost use Rattle.window.specs.inner.Changes.{MergesAt, JoinedTo, Dirtied};
 
 use geom::inner::rect16::Rect16;
 use geom::{Rect, inner};
 
 // The dirty entries: the first `len` areas. The right and bottom sides of a merged one are at most 65,534.
+// It is an array with its length beside it, and `RepDamage` a clause and no invariant, since C owns the session that
+// holds it. `Small` stays a clause too: a type for small areas would be turned into a Rect for each function of geom.
 #[repr(C)]
 #[derive(Clone, Copy)]
 pub struct Damage {
@@ -18,27 +19,15 @@ pub struct Damage {
     pub len: u8,
 }
 
-// Damage after the search for an entry to merge with, and whether one was found.
-#[repr(C)]
-#[derive(Clone, Copy)]
-pub struct Merged {
-    pub damage: Damage,
-    pub done: bool,
-}
-
 impl Damage {
     // No entry.
     pub fn none() -> Damage
         ensures { (rects result ≡ []) × RepDamage result }
     {
-        let blank = Rect16 {
-            x: 0,
-            y: 0,
-            w: 0,
-            h: 0,
-        };
-        let areas = [blank; 16];
-        Damage { areas, len: 0 }
+        Damage {
+            areas: [Rect16::new(0, 0, 0, 0); 16],
+            len: 0,
+        }
     }
 
     // The one entry (0,0,w,h).
@@ -46,157 +35,117 @@ impl Damage {
         requires { (w ≤ 32767) × (h ≤ 32767) }
         ensures { (rects result ≡ rect 0 0 w h ∷ []) × RepDamage result }
     {
-        let all = Rect16::new(0, 0, w, h);
-        let areas = [all; 16];
-        Damage { areas, len: 1 }
+        Damage {
+            areas: [Rect16::new(0, 0, w, h); 16],
+            len: 1,
+        }
     }
-}
 
-// low < x ≤ high
-fn between(low: u32, x: u32, high: u32) -> bool
-    ensures { result ≡ ltb low x && leb x high }
-{
-    if low < x {
-        return x <= high;
+    pub fn is_empty(&self) -> bool
+        ensures { result ≡ eqb self.now.len 0 }
+    {
+        self.len == 0
     }
-    false
+
+    pub fn entries(&self) -> &[Rect16]
+        requires { RepDamage self.now }
+        ensures { result.now ≡ take self.now.len self.now.areas }
+    {
+        &self.areas[..self.len as usize]
+    }
+
+    // Does an entry contain the area?
+    fn contains(&self, area: Rect) -> bool
+        requires { RepDamage self.now × Small area }
+        ensures { result ≡ rule.any_contains (rects self.now) area }
+    {
+        self.entries().iter().any(|e| contains(*e, area))
+    }
+
+    // The first entry that merges with the area. Document 01 names the form of this search, a loop with a label that is left from inside.
+    fn merging(&self, area: Rect) -> Option<usize>
+        requires { RepDamage self.now × Small area }
+        ensures { MergesAt self.now area result }
+    {
+        let entries = self.entries();
+        let mut found = None;
+        'entries: for i in 0..entries.len() {
+            if merges(entries[i], area) {
+                found = Some(i);
+                break 'entries;
+            }
+        }
+        found
+    }
+
+    // The area joins the end; a 17th entry makes the list (0,0,w,h). Past the last entry the array stays as it was.
+    fn append(&mut self, w: u32, h: u32, area: Rect)
+        requires { RepDamage self.old × Small area × (w ≤ 32767) × (h ≤ 32767) }
+        ensures { JoinedTo w h self.old area self.new }
+    {
+        if self.len < 16 {
+            let last = Rect16::new(area.pos.x, area.pos.y, area.dims.w, area.dims.h);
+            self.areas[self.len as usize] = last;
+            self.len += 1;
+        } else {
+            let all = Rect16::new(0, 0, w, h);
+            self.areas[0] = all;
+            self.len = 1;
+        }
+    }
+
+    // A window of w by h was changed in the area.
+    pub fn add(&mut self, w: u32, h: u32, area: Rect)
+        requires { RepDamage self.old × Small area × (w ≤ 32767) × (h ≤ 32767) }
+        ensures { Dirtied w h self.old area self.new }
+    {
+        if inner::is_empty(area) || self.contains(area) {
+            return;
+        }
+        match self.merging(area) {
+            Some(i) => {
+                let both = joined(self.areas[i], area);
+                self.areas[i] = both;
+            }
+            None => self.append(w, h, area),
+        }
+    }
 }
 
 // Does a side of the area lie in the entry, past the entry's own low side?
 fn touches(elow: u32, ehigh: u32, alow: u32, ahigh: u32) -> bool
     ensures { result ≡ rule.touches elow ehigh alow ahigh }
 {
-    if between(elow, alow, ehigh) {
-        return true;
-    }
-    between(elow, ahigh, ehigh)
+    elow < alow && alow <= ehigh || elow < ahigh && ahigh <= ehigh
 }
 
-// Same top and bottom, and touching from left to right.
-fn merges_across(e: Rect, a: Rect) -> bool
-    requires { Fits e × Fits a }
-    ensures { result ≡ eqb (top e) (top a) && eqb (bottom e) (bottom a) && rule.touches (left e) (right e) (left a) (right a) }
+// Does the entry contain the area?
+fn contains(entry: Rect16, area: Rect) -> bool
+    requires { Small area }
+    ensures { result ≡ contains_rect (rect_of entry) area }
 {
-    if e.pos.y == a.pos.y {
-        if inner::bottom(e) == inner::bottom(a) {
-            return touches(e.pos.x, inner::right(e), a.pos.x, inner::right(a));
-        }
-    }
-    false
+    entry.rect().contains_rect(area) == Ok(true)
 }
 
-// Same left and right, and touching from top to bottom.
-fn merges_down(e: Rect, a: Rect) -> bool
-    requires { Fits e × Fits a }
-    ensures { result ≡ eqb (left e) (left a) && eqb (right e) (right a) && rule.touches (top e) (bottom e) (top a) (bottom a) }
-{
-    if e.pos.x == a.pos.x {
-        if inner::right(e) == inner::right(a) {
-            return touches(e.pos.y, inner::bottom(e), a.pos.y, inner::bottom(a));
-        }
-    }
-    false
-}
-
+// Same top and bottom, and touching from left to right; or same left and right, and touching from top to bottom.
 #[tactic(auto, unfolding(crate::specs::Window::merges))]
-fn merges(e: Rect, a: Rect) -> bool
-    requires { Fits e × Fits a }
-    ensures { result ≡ rule.merges e a }
+fn merges(entry: Rect16, a: Rect) -> bool
+    requires { Small a }
+    ensures { result ≡ rule.merges (rect_of entry) a }
 {
-    if merges_across(e, a) {
-        return true;
-    }
-    merges_down(e, a)
+    let e = entry.rect();
+    let (eright, ebottom) = (inner::right(e), inner::bottom(e));
+    let (aright, abottom) = (inner::right(a), inner::bottom(a));
+    e.pos.y == a.pos.y && ebottom == abottom && touches(e.pos.x, eright, a.pos.x, aright)
+        || e.pos.x == a.pos.x && eright == aright && touches(e.pos.y, ebottom, a.pos.y, abottom)
 }
 
 // The entry and the area as one.
-fn joined(e: Rect, area: Rect) -> Rect16
-    requires { Low e × Small area }
-    ensures { rect_of result ≡ union e area }
+fn joined(entry: Rect16, area: Rect) -> Rect16
+    requires { Low (rect_of entry) × Small area }
+    ensures { rect_of result ≡ union (rect_of entry) area }
 {
     // question 14 holds of both
-    let u = e.union(area).rect;
+    let u = entry.rect().union(area).unwrap();
     Rect16::new(u.pos.x, u.pos.y, u.dims.w, u.dims.h)
-}
-
-// Does an entry contain the area?
-fn any_contains(d: Damage, area: Rect) -> bool
-    requires { RepDamage d × Small area }
-    ensures { result ≡ rule.any_contains (rects d) area }
-{
-    let n = d.len as usize;
-    let mut i: usize = 0;
-    while i < n {
-        let entry = d.areas[i];
-        // question 14 holds of both
-        let inside = entry.rect().contains_rect(area);
-        if inside.yes {
-            return true;
-        }
-        i += 1;
-    }
-    false
-}
-
-// The first entry that merges with the area becomes their union.
-fn merge(mut d: Damage, area: Rect) -> Merged
-    requires { RepDamage d × Small area }
-    ensures { MergedInto d area result }
-{
-    let n = d.len as usize;
-    let mut done = false;
-    let mut i: usize = 0;
-    'search: while i < n {
-        let entry = d.areas[i];
-        let e = entry.rect();
-        if merges(e, area) {
-            let both = joined(e, area);
-            d.areas[i] = both;
-            done = true;
-            break 'search;
-        }
-        i += 1;
-    }
-    Merged { damage: d, done }
-}
-
-// The area joins the end; a 17th entry makes the list (0,0,w,h). Past the last entry the array stays as it was.
-fn append(mut d: Damage, w: u32, h: u32, area: Rect) -> Damage
-    requires { RepDamage d × Small area × (w ≤ 32767) × (h ≤ 32767) }
-    ensures { JoinedTo w h d area result }
-{
-    let n = d.len;
-    if n < 16 {
-        let last = Rect16::new(area.pos.x, area.pos.y, area.dims.w, area.dims.h);
-        let at = n as usize;
-        d.areas[at] = last;
-        d.len = n + 1;
-        return d;
-    }
-    let all = Rect16::new(0, 0, w, h);
-    let mut only = d.areas;
-    only[0] = all;
-    Damage {
-        areas: only,
-        len: 1,
-    }
-}
-
-// A window of w by h was changed in the area.
-pub fn add_dirty(d: Damage, w: u32, h: u32, area: Rect) -> Damage
-    requires { RepDamage d × Small area × (w ≤ 32767) × (h ≤ 32767) }
-    ensures { Dirtied w h d area result }
-{
-    if inner::is_empty(area) {
-        return d;
-    }
-    if any_contains(d, area) {
-        return d;
-    }
-    let m = merge(d, area);
-    let r = m.damage;
-    if m.done {
-        return r;
-    }
-    append(r, w, h, area)
 }

@@ -3,22 +3,19 @@ ghost use Rattle.std.specs.Prelude.{◌≡◌, ◌&&◌, ◌+◌, ◌-◌, ◌<�
 
 // The number of a window, 0 to 15. Any other number is answered by 3.
 #[repr(C)]
-#[derive(Clone, Copy)]
+#[derive(Clone, Copy, Debug, PartialEq, Eq, PartialOrd, Ord)]
 pub struct WinId(pub u32);
 
 // Question 3, of an id and whether the window of that number is in use.
 pub fn in_use(id: WinId, used: bool) -> bool
     ensures { result ≡ ltb id.0 16 && used }
 {
-    if id.0 < 16 {
-        return used;
-    }
-    false
+    id.0 < 16 && used
 }
 
 // A place in the render order, 0 for the lowest window.
 #[repr(C)]
-#[derive(Clone, Copy)]
+#[derive(Clone, Copy, Debug, PartialEq, Eq, PartialOrd, Ord)]
 pub struct Place(pub usize);
 
 impl Place {
@@ -40,9 +37,6 @@ impl Place {
     pub fn prev(self) -> Place
         ensures { result.0 ≡ self.0 - 1 }
     {
-        if self.0 == 0 {
-            return self;
-        }
-        Place(self.0 - 1)
+        Place(self.0.saturating_sub(1))
     }
 }

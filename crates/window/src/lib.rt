@@ -1,6 +1,8 @@
-// One window by value: its place, its damage, its queue of events and its cursor. Translated from window.rs and, for `CursorPos`, mod.rs.
+// One window: its place, its damage, its queue of events and its cursor. Translated from window.rs and, for
+// `CursorPos`, mod.rs.
 //
-// The functions here are called by our own crates. Each `requires` is part of what a session keeps of its windows (specs/Represents.antt).
+// The functions here are called by our own crates. Each `requires` is part of what a session keeps of its windows
+// (specs/Represents.antt).
 #![tactic(auto)]
 
 ghost use Rattle.std.specs.Prelude.{◌≡◌, false};
@@ -50,6 +52,7 @@ pub enum Event {
 }
 
 // The last point popped, the newest point, and whether that is still to be popped. A point is at most 32,767 each way.
+// The newest point is no Option, since C owns the session that holds it.
 #[repr(C)]
 #[derive(Clone, Copy)]
 pub struct CursorPos {
@@ -73,25 +76,16 @@ pub struct Window {
 }
 
 impl Window {
-    // The window of an id that is not in use: at (0,0), of no size, unmarked, with no damage and no events, its cursor at
-    // (0,0).
+    // The window of an id that is not in use: at (0,0), of no size, unmarked, with no damage and no events, its cursor
+    // at (0,0).
     pub fn unused() -> Window
         ensures { (result.used ≡ false) × (win_of result ≡ new_win) × RepWindow result }
     {
-        let queue = Queue::new();
-        let damage = Damage::none();
-        let cursor = CursorPos::new();
-        let at = Rect16 {
-            x: 0,
-            y: 0,
-            w: 0,
-            h: 0,
-        };
         Window {
-            queue,
-            damage,
-            at,
-            cursor,
+            queue: Queue::new(),
+            damage: Damage::none(),
+            at: Rect16::new(0, 0, 0, 0),
+            cursor: CursorPos::new(),
             used: false,
             marked: false,
         }

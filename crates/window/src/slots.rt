@@ -5,7 +5,24 @@ ghost use Rattle.window.specs.inner.Changes.{Queued, slot, slot_of};
 
 use crate::Event;
 
-// An event as plain numbers: a queue holds no enum, so that C and Rust can own the session that holds the queue.
+// The kinds of events that are queued, as the byte of a slot says them; every other number is a Resize. They are no
+// enum: it would need these numbers once more, in a match that reads a byte back.
+const RESIZE: u8 = 0;
+
+const KEY_DOWN: u8 = 1;
+
+const KEY_UP: u8 = 2;
+
+const TEXT: u8 = 3;
+
+const MOUSE_DOWN: u8 = 4;
+
+const MOUSE_CLICK: u8 = 5;
+
+const MOUSE_UP: u8 = 6;
+
+// An event as plain numbers. C owns the session that holds the queue, and no byte that C may write is a wrong value of
+// these: so a slot holds no enum, and its kind is a number.
 #[repr(C)]
 #[derive(Clone, Copy)]
 pub struct Slot {
@@ -45,56 +62,57 @@ fn press(kind: u8, x: u32, y: u32, button: u8, count: u8) -> Slot
     }
 }
 
-// A move and a KeyFire are never queued, so their slots are never read.
+// This is no `From`, which takes every event: a slot has no room for a point beyond 32,767. A move and a KeyFire are
+// never queued, so their slots are never read.
 #[tactic(auto, unfolding(crate::specs::inner::Changes::slot_of))]
 pub fn slot_of(e: Event) -> Slot
     requires { Queued e }
     ensures { result ≡ slot_of e }
 {
     match e {
-        Event::Resize => plain(0, 0),
-        Event::KeyDown(v) => plain(1, v),
-        Event::KeyUp(v) => plain(2, v),
-        Event::Text(v) => plain(3, v),
-        Event::MouseDown { x, y, button } => press(4, x, y, button, 0),
+        Event::KeyDown(v) => plain(KEY_DOWN, v),
+        Event::KeyUp(v) => plain(KEY_UP, v),
+        Event::Text(v) => plain(TEXT, v),
+        Event::MouseDown { x, y, button } => press(MOUSE_DOWN, x, y, button, 0),
         Event::MouseClick {
             x,
             y,
             button,
             count,
-        } => press(5, x, y, button, count),
-        Event::MouseUp { x, y, button } => press(6, x, y, button, 0),
-        Event::KeyFire(_) => plain(0, 0),
-        Event::MouseMove {
-            x: _,
-            y: _,
-            dx: _,
-            dy: _,
-        } => plain(0, 0),
+        } => press(MOUSE_CLICK, x, y, button, count),
+        Event::MouseUp { x, y, button } => press(MOUSE_UP, x, y, button, 0),
+        Event::Resize | Event::KeyFire(_) | Event::MouseMove { .. } => plain(RESIZE, 0),
     }
 }
 
 #[tactic(auto, unfolding(crate::specs::Represents::event_of))]
-pub fn event_of(s: Slot) -> Event
-    ensures { result ≡ event_of s }
-{
-    let kind = s.kind;
-    let v = s.value;
-    let x = s.x as u32;
-    let y = s.y as u32;
-    let button = s.button;
-    match kind {
-        1 => Event::KeyDown(v),
-        2 => Event::KeyUp(v),
-        3 => Event::Text(v),
-        4 => Event::MouseDown { x, y, button },
-        5 => Event::MouseClick {
-            x,
-            y,
-            button,
-            count: s.count,
-        },
-        6 => Event::MouseUp { x, y, button },
-        _ => Event::Resize,
+impl From<Slot> for Event {
+    ghost from_gives = { λ s e. e ≡ event_of s };
+
+    fn from(s: Slot) -> Event {
+        let x = u32::from(s.x);
+        let y = u32::from(s.y);
+        match s.kind {
+            KEY_DOWN => Event::KeyDown(s.value),
+            KEY_UP => Event::KeyUp(s.value),
+            TEXT => Event::Text(s.value),
+            MOUSE_DOWN => Event::MouseDown {
+                x,
+                y,
+                button: s.button,
+            },
+            MOUSE_CLICK => Event::MouseClick {
+                x,
+                y,
+                button: s.button,
+                count: s.count,
+            },
+            MOUSE_UP => Event::MouseUp {
+                x,
+                y,
+                button: s.button,
+            },
+            _ => Event::Resize,
+        }
     }
 }

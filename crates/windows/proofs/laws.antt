@@ -1,14 +1,15 @@
 -- The view, the two ends of a call, and what each call does to the session.
 pub mod Asked
+pub mod Refused
 pub mod Session
 pub mod Shared
 pub mod Dimmed
 pub mod One
 pub mod Places
 pub mod Frames
-pub mod Framed
 pub mod Above
 pub mod Find
+pub mod Under
 pub mod Created
 pub mod Shown
 pub mod Raised
@@ -20,8 +21,6 @@ pub mod Pixels
 pub mod Maximised
 pub mod Planned
 pub mod Updated
-pub mod Turns
-pub mod DragPlan
 pub mod Dragged
 pub mod Listed
 pub mod InView
@@ -32,7 +31,6 @@ pub mod Full
 pub mod Cleaned
 pub mod Drawn
 pub mod Portions
-pub mod Course
 pub mod Stale
 pub mod Parts
 pub mod Popping

@@ -2,11 +2,11 @@
 -- question of document 01; a refused call changes no session, store, list or screen." Of the calls that a caller made,
 -- and of the next one, by their contracts. The questions are the tables of `rules/specs/Demand1.antt`.
 use Rattle.std.specs.Prelude.{ℕ, ◌≡◌, ◌≢◌, List, [], ◌∷◌, ◌++◌}
-use Rattle.std.proofs.Math.Option.{some}
+use Rattle.std.proofs.Math.Option.{none, some}
 use Rattle.geom.specs.Questions.{◌is◌, asked}
+use Rattle.geom.specs.Refusals.{Listing}
 use Rattle.geom.specs.Lists.{numbers}
 use Rattle.geom.specs.declared.Rect.{Rect}
-use Rattle.geom.specs.declared.Listing.{Listing}
 use Rattle.window.specs.declared.ids.WinId.{WinId}
 use Rattle.look.specs.declared.Look as View
 use Rattle.rules.specs.Group.{Group, allowed_c, fresh}
@@ -20,20 +20,8 @@ use Rattle.rules.specs.Demand1 as Rule
 use Rattle.rules.specs.Demand1.{questions, Query, query_questions, Reply, reply, refusal, bit, located_numbers}
 use Rattle.display.specs.Represents.{located_of}
 use Rattle.windows.specs.declared.Session.{Session}
-use Rattle.windows.specs.declared.Done.{Done}
-use Rattle.windows.specs.declared.Written.{Written}
-use Rattle.windows.specs.declared.NewId.TheVariants as NewId
-use Rattle.windows.specs.declared.Created.{Created}
-use Rattle.windows.specs.declared.NextEvent.TheVariants as NextEvent
-use Rattle.windows.specs.declared.Popped.{Popped}
-use Rattle.windows.specs.declared.Placed.{Placed}
-use Rattle.geom.specs.declared.Listing.{Listing}
-use Rattle.windows.specs.declared.InView.{InView}
-use Rattle.windows.specs.declared.ForPos.{ForPos}
-use Rattle.windows.specs.declared.Stale.{Stale}
-use Rattle.windows.specs.declared.WindowState.{WindowState}
 use Rattle.windows.specs.declared.SessionState.{SessionState}
-use Rattle.windows.specs.View.{group, Meets, MeetsStore, MeetsAltered, MeetsMark, MeetsScreen, MeetsId, MeetsEvent, Starts, Lists, Shares, Prints, Hits, Looks, Locates, placed, stale_of, window_of, state_of}
+use Rattle.windows.specs.View.{Done, Written, Created, Popped, Placed, InView, ForPos, Stale, WindowState, group, Meets, MeetsStore, MeetsAltered, MeetsMark, MeetsScreen, MeetsId, MeetsEvent, Starts, Lists, Shares, Prints, Hits, Looks, Locates, placed, stale_of, window_of, state_of}
 use Rattle.windows.specs.Run.{calls, Run}
 
 -- The calls that were made ------------------------------------------------------------------------------------------
@@ -86,9 +74,9 @@ pub record NextCall (s : Session) : Type 0 where
   pub drawn : (k : Call) (r : Done) (lent left : List ℕ) → lent_screen k ≡ some lent → MeetsScreen k s r left
       → Answered s k r.answer r.session × (r.answer ≢ 0 → left ≡ lent)
   pub created : (k : Call) (r : Created) → MeetsId k s r
-      → Answered s k r.answer r.session × (r.answer ≢ 0 → r.id ≡ NewId.Absent)
+      → Answered s k r.answer r.session × (r.answer ≢ 0 → r.id ≡ none)
   pub popped : (k : Call) (r : Popped) → MeetsEvent k s r
-      → Answered s k r.answer r.session × (r.answer ≢ 0 → r.event ≡ NextEvent.Absent)
+      → Answered s k r.answer r.session × (r.answer ≢ 0 → r.event ≡ none)
   -- the calls that change nothing
   pub visible : (id : ℕ) (lent left : List ℕ) (r : Listing) → Lists (group s) id lent r left
       → Replied s (Rule.Visible id lent) (reply r.answer left (r.count ∷ []))

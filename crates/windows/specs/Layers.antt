@@ -6,8 +6,7 @@ use Rattle.rules.specs.Ledger.{ledger_of}
 use Rattle.rules.specs.Demand.{Press, press_at, Two}
 use Rattle.rules.specs.Layers.{InLayers, Panel, Reached, Seen}
 use Rattle.windows.specs.declared.Session.{Session}
-use Rattle.windows.specs.declared.Done.{Done}
-use Rattle.windows.specs.View.{group, Meets}
+use Rattle.windows.specs.View.{group, Done, Meets}
 use Rattle.windows.specs.Run.{calls, Run}
 
 -- the presses: r is what a call of `route` then gives

@@ -4,9 +4,7 @@ use Rattle.geom.specs.declared.Rect.{Rect}
 use Rattle.rules.specs.Calls.{Made, Redraw}
 use Rattle.rules.specs.Panels.{Write, fill, blit, mark, Act, on, Interleaves}
 use Rattle.windows.specs.declared.Session.{Session}
-use Rattle.windows.specs.declared.Done.{Done}
-use Rattle.windows.specs.declared.Written.{Written}
-use Rattle.windows.specs.View.{group, MeetsAltered, MeetsMark}
+use Rattle.windows.specs.View.{group, Done, Written, MeetsAltered, MeetsMark}
 use Rattle.windows.specs.Run.{Kept, Run}
 
 -- The calls that were made ----------------------------------------------------------------------------------------------

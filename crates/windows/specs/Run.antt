@@ -10,9 +10,8 @@ use Rattle.rules.specs.Ledger.{ledger_of}
 use Rattle.rules.specs.Conditions.{lent_store, lent_screen, before_last}
 use Rattle.rules.specs.Demand.{pixel_at, pixel_of, Ended, Two, Repainted, Press, press_at, Pressed, Released, ListShows}
 use Rattle.windows.specs.declared.Session.{Session}
-use Rattle.windows.specs.declared.Done.{Done}
-use Rattle.geom.specs.declared.Listing.{Listing}
-use Rattle.windows.specs.View.{group, Meets, done, Starts, Lists}
+use Rattle.geom.specs.Refusals.{Listing}
+use Rattle.windows.specs.View.{group, Done, Meets, done, Starts, Lists}
 
 -- The calls that were made ----------------------------------------------------------------------------------------------
 

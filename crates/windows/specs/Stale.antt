@@ -9,9 +9,7 @@ use Rattle.rules.specs.Demand.{pixel_at}
 use Rattle.rules.specs.Stale as Rule
 use Rattle.rules.specs.Stale.{is_stale, IsSmallest, meant, holds}
 use Rattle.windows.specs.declared.Session.{Session}
-use Rattle.windows.specs.declared.Done.{Done}
-use Rattle.windows.specs.declared.Stale.{Stale}
-use Rattle.windows.specs.View.{group, MeetsScreen, stale_of}
+use Rattle.windows.specs.View.{group, Done, Stale, MeetsScreen, stale_of}
 use Rattle.windows.specs.Run.{Run}
 
 -- the rectangle that was handed back, if one is due

@@ -1,11 +1,12 @@
 -- How a session holds a group, which sessions there are, and what a call promises of its answer.
-use Rattle.std.specs.Prelude.{ℕ, ◌≤◌, ◌<◌, Bool, true, false, cond, ◌≡◌, List, [], ◌∷◌, map, length, set, get_or}
+use Rattle.std.specs.Prelude.{ℕ, ◌≤◌, ◌<◌, Bool, true, false, cond, ◌≡◌, List, [], ◌∷◌, map, length, set, get_or, Result, Ok, Err, Some, None}
+use Rattle.std.specs.Prelude as Std
 use Rattle.std.proofs.Math.Option.{Option, none, some}
 use Rattle.geom.specs.Questions.{◌is◌, asked}
+use Rattle.geom.specs.Refusals.{Listing, number, answer_of, value_or}
+use Rattle.geom.specs.declared.refusal.Refusal.{Refusal}
 use Rattle.geom.specs.declared.Rect.{Rect}
 use Rattle.geom.specs.Geom.{rect, is_empty, meets, common}
-use Rattle.winbuf.specs.declared.Altered.{Altered}
-use Rattle.geom.specs.declared.Listing.{Listing}
 use Rattle.look.specs.declared.Look.{Look}
 use Rattle.window.specs.declared.Window.{Window}
 use Rattle.window.specs.declared.Event.{Event}
@@ -20,7 +21,7 @@ use Rattle.rules.specs.Look.{look}
 use Rattle.rules.specs.DisplayAt.{display_at}
 use Rattle.rules.specs.Stale.{StaleRect}
 use Rattle.rules.specs.State as Standing
-use Rattle.rules.specs.Taker as Taken
+use Rattle.rules.specs.Taker as Taking
 use Rattle.rules.specs.Visible.{visible_list}
 use Rattle.rules.specs.Sheets.{sheet}
 use Rattle.rules.specs.Store.{dirtied, bounds}
@@ -28,22 +29,13 @@ use Rattle.rules.specs.Calls.{Call, Mark, does, after, Route}
 use Rattle.rules.specs.Panels.{Write, fill, blit, mark, call_of}
 use Rattle.due.specs.declared.Walk.{Walk}
 use Rattle.order.specs.Ids.{ids, grab_of}
+use Rattle.display.specs.declared.Located.{Located}
+use Rattle.display.specs.declared.Located.TheVariants.{Closest}
 use Rattle.display.specs.Represents.{regions, RepDisplays, located_of}
 use Rattle.windows.specs.declared.Session.{Session}
-use Rattle.windows.specs.declared.Done.{Done}
-use Rattle.windows.specs.declared.Written.{Written}
-use Rattle.windows.specs.declared.NewId.{NewId}
-use Rattle.windows.specs.declared.NewId.TheVariants.{Id, Absent}
-use Rattle.windows.specs.declared.Created.{Created}
-use Rattle.windows.specs.declared.NextEvent.{NextEvent}
-use Rattle.windows.specs.declared.Taker.{Taker}
-use Rattle.windows.specs.declared.Popped.{Popped}
-use Rattle.windows.specs.declared.Placed.{Placed}
-use Rattle.geom.specs.declared.Listing.{Listing}
-use Rattle.windows.specs.declared.InView.{InView}
-use Rattle.windows.specs.declared.ForPos.{ForPos}
-use Rattle.windows.specs.declared.Stale.{Stale}
-use Rattle.windows.specs.declared.WindowState.{WindowState}
+use Rattle.windows.specs.declared.Taken.{Taken}
+use Rattle.windows.specs.declared.InView as InViewOf
+use Rattle.windows.specs.declared.WindowState as WindowStateOf
 use Rattle.windows.specs.declared.SessionState.{SessionState}
 
 -- The view --------------------------------------------------------------------------------------------------------------
@@ -142,6 +134,131 @@ rewritten id u s =
       displays = s.displays;
     }
 
+-- What a call hands back, with its answer --------------------------------------------------------------------------------
+
+-- the session, and the answer
+pub record Done : Type 0 where
+  pub session : Session
+  pub answer : ℕ
+
+abbrev pub done : Session → ℕ → Done
+done s a = record { session = s; answer = a }
+
+-- of a fill or a blit also how many pixels of the store differ, none where the call was refused
+pub record Written : Type 0 where
+  pub session : Session
+  pub answer : ℕ
+  pub altered : ℕ
+
+abbrev pub written : Session → Result ℕ Refusal → Written
+written s r = record { session = s; answer = answer_of r; altered = value_or 0 r }
+
+-- "an id or event asked for is then absent"
+pub record Created : Type 0 where
+  pub session : Session
+  pub answer : ℕ
+  pub id : Option ℕ
+
+abbrev pub id_of : Result WinId Refusal → Option ℕ
+id_of (Ok i) = some i.0
+id_of (Err _) = none
+
+abbrev pub created : Session → Result WinId Refusal → Created
+created s r = record { session = s; answer = answer_of r; id = id_of r }
+
+pub record Popped : Type 0 where
+  pub session : Session
+  pub answer : ℕ
+  pub event : Option Event
+
+abbrev pub event_in : Result Event Refusal → Option Event
+event_in (Ok e) = some e
+event_in (Err _) = none
+
+abbrev pub popped : Session → Result Event Refusal → Popped
+popped s r = record { session = s; answer = answer_of r; event = event_in r }
+
+-- who took an event: nobody a refused one or a Resize
+abbrev pub taker_in : Result (Std.Option Taken) Refusal → Taking.Taker
+taker_in (Ok (Some t)) = record { id = some t.id.0; x = t.x; y = t.y }
+taker_in (Ok None) = Taking.nobody
+taker_in (Err _) = Taking.nobody
+
+-- the share of a window in view: both numbers are 0 where the call was refused
+pub record InView : Type 0 where
+  pub answer : ℕ
+  pub percent : ℕ
+  pub remainder : ℕ
+
+abbrev pub in_view : Result InViewOf.InView Refusal → InView
+in_view (Ok v) = record { answer = 0; percent = v.percent; remainder = v.remainder }
+in_view (Err refusal) = record { answer = number refusal; percent = 0; remainder = 0 }
+
+-- the display that a position is on, or the closest one, which is (0,0,0,0) where the call was refused
+pub record ForPos : Type 0 where
+  pub answer : ℕ
+  pub located : Located
+
+abbrev pub for_pos : Result Located Refusal → ForPos
+for_pos r = record { answer = answer_of r; located = value_or (Closest (rect 0 0 0 0)) r }
+
+-- the position and size of a window: (0,0,0,0) where the call was refused
+pub record Placed : Type 0 where
+  pub answer : ℕ
+  pub rect : Rect
+
+abbrev pub placed_of : Result Rect Refusal → Placed
+placed_of r = record { answer = answer_of r; rect = value_or (rect 0 0 0 0) r }
+
+-- where a call would write: the smallest rectangle, if one is due, else (0,0,0,0)
+pub record Stale : Type 0 where
+  pub answer : ℕ
+  pub due : Bool
+  pub rect : Rect
+
+abbrev pub stale_in : Result (Std.Option Rect) Refusal → Stale
+stale_in (Ok (Some r)) = record { answer = 0; due = true; rect = r }
+stale_in (Ok None) = record { answer = 0; due = false; rect = rect 0 0 0 0 }
+stale_in (Err refusal) = record { answer = number refusal; due = false; rect = rect 0 0 0 0 }
+
+-- how a window stands: all are 0 where the call was refused
+pub record WindowState : Type 0 where
+  pub answer : ℕ
+  pub rect : Rect
+  pub shown : Bool
+  pub place : ℕ
+  pub layer : ℕ
+  pub maximised : Bool
+  pub marked : Bool
+  pub queued : ℕ
+  pub moved : Bool
+
+abbrev pub window_in : Result WindowStateOf.WindowState Refusal → WindowState
+window_in (Ok w) =
+    record {
+      answer = 0;
+      rect = w.rect;
+      shown = w.shown;
+      place = w.place;
+      layer = w.layer;
+      maximised = w.maximised;
+      marked = w.marked;
+      queued = w.queued;
+      moved = w.moved;
+    }
+window_in (Err refusal) =
+    record {
+      answer = number refusal;
+      rect = rect 0 0 0 0;
+      shown = false;
+      place = 0;
+      layer = 0;
+      maximised = false;
+      marked = false;
+      queued = 0;
+      moved = false;
+    }
+
 -- What a call promises --------------------------------------------------------------------------------------------------
 
 -- answer and group are the rule's; a refused call hands back the very session; and the session can be given to the next call
@@ -168,17 +285,6 @@ pub record MeetsMark (id : ℕ) (s : Session) (r : Done) : Type 0 where
   pub meets : Meets (Mark id) s r
   pub whole : r.answer ≡ 0 → r.session ≡ rewritten id mark s
 
-abbrev pub written : Session → Altered → Written
-written s a = record { session = s; answer = a.answer; altered = a.altered }
-
-abbrev pub done : Session → ℕ → Done
-done s a = record { session = s; answer = a }
-
--- "an id … asked for is then absent"
-abbrev pub id_of : NewId → Option ℕ
-id_of (Id i) = some i.0
-id_of Absent = none
-
 -- the same of a call that is lent store and screen: it leaves the screen as `screen`, and never writes the store
 pub record MeetsScreen (k : Call) (s : Session) (r : Done) (screen : List ℕ) : Type 0 where
   pub meets : Meets k s r
@@ -187,27 +293,17 @@ pub record MeetsScreen (k : Call) (s : Session) (r : Done) (screen : List ℕ) :
 -- the same of a call that gives an id
 pub record MeetsId (k : Call) (s : Session) (r : Created) : Type 0 where
   pub meets : Meets k s (done r.session r.answer)
-  pub id : id_of r.id ≡ (does (group s) k).id
-
--- "an … event asked for is then absent"
-abbrev pub event_in : NextEvent → Option Event
-event_in (NextEvent.Event e) = some e
-event_in NextEvent.Absent = none
+  pub id : r.id ≡ (does (group s) k).id
 
 -- the same of a call that gives an event
 pub record MeetsEvent (k : Call) (s : Session) (r : Popped) : Type 0 where
   pub meets : Meets k s (done r.session r.answer)
-  pub event : event_in r.event ≡ (does (group s) k).event
-
--- who took an event
-abbrev pub taker_in : Taker → Taken.Taker
-taker_in (Taker.Window id x y) = record { id = some id.0; x = x; y = y }
-taker_in Taker.Nobody = Taken.nobody
+  pub event : r.event ≡ (does (group s) k).event
 
 -- the same of a route that tells who took the event: t, which is the rule's
-pub record MeetsTaker (e : Event) (s : Session) (r : Done) (t : Taken.Taker) : Type 0 where
+pub record MeetsTaker (e : Event) (s : Session) (r : Done) (t : Taking.Taker) : Type 0 where
   pub meets : Meets (Route e) s r
-  pub taker : t ≡ Taken.taker (group s) e
+  pub taker : t ≡ Taking.taker (group s) e
 
 -- a start
 pub record Starts (c : ℕ) (r : Done) : Type 0 where

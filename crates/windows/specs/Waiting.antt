@@ -3,8 +3,7 @@ use Rattle.std.specs.Prelude.{ℕ, ◌≡◌, cond, List, eqb}
 use Rattle.rules.specs.Calls.{Made, Pop}
 use Rattle.rules.specs.Waiting.{waiting, bit_of}
 use Rattle.windows.specs.declared.Session.{Session}
-use Rattle.windows.specs.declared.Popped.{Popped}
-use Rattle.windows.specs.View.{group, MeetsEvent}
+use Rattle.windows.specs.View.{group, Popped, MeetsEvent}
 use Rattle.windows.specs.Run.{Run}
 
 -- after every run: n is what a call of `waiting` then gives, and r what a call of `pop` gives in its place. Bit i of n

@@ -4,10 +4,10 @@ pub mod Frames
 pub mod Find
 pub mod Drawing
 pub mod Sharing
+pub mod Lent
 pub mod Pixels
 pub mod Maximise
 pub mod Drag
 pub mod Events
 pub mod Aimed
 pub mod Stale
-pub mod State

@@ -1,11 +1,10 @@
-// What our own crates call: the calls as functions of one window, or in halves, and what they share. Most functions have a `requires`: what
-// they need of their arguments is for the caller to know.
+// The calls as functions of one window and of what the windows share, and what they share. Most functions have a `requires`: what they need of
+// their arguments is for the caller to know.
 pub mod dimming;
 pub mod drag;
 pub mod events;
 pub mod find;
 pub mod frames;
-pub mod maximise;
 pub mod one;
 pub mod portion;
 pub mod redraw;

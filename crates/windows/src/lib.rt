@@ -1,7 +1,7 @@
 // A session: sixteen windows and what they share. Document 01, "The group". Translated from windows/mod.rs.
 //
-// Each call takes the session by value and hands it back, first in its answer. A refused call hands back the session that it got. A call that
-// touches one window is a function of that window and of what is shared, in `one`, `store` or `events`.
+// A call changes the session where it lies, and its answer is a value or the refusal: the first question of documents 01 and 02 that does not hold.
+// A refused call changes nothing. A call that touches one window is a function of that window and of what is shared, in `one` or `store`.
 //
 //     windows: [Window; 16]      0     1     2     3     4  …  15     by number; a window that is not `used` is free
 //     shared: the order          3     0     1     -     -  …   -     the first `shown` places, lowest first: window 1 is on top
@@ -13,16 +13,21 @@
 //     the lent screen            what a redraw writes, window by window in the order, each under those above it
 #![tactic(auto)]
 
-use display::{Displays, Located};
+ghost use Rattle.std.specs.Prelude.{◌≡◌, ◌≤◌, take};
+ghost use Rattle.order.specs.Ids.{ids};
+ghost use Rattle.order.specs.inner.Order.{idx_of, render_idx};
+
+use display::Displays;
 use due::Due;
 use geom::Rect;
-use winbuf::Altered;
-use window::ids::WinId;
-use window::{Event, Window};
+use order::get_render_idx;
+use window::Window;
+use window::ids::{Place, WinId};
 
 mod calls;
 mod hits;
 pub mod inner;
+mod input;
 mod looks;
 mod share;
 mod sheets;
@@ -31,6 +36,7 @@ mod start;
 mod state;
 mod visible_list;
 mod waiting;
+mod writes;
 
 // What the windows share: the render order, which holds the shown ones in its first `shown` places, lowest first; C; the
 // focus; whether dimming is on; `grab`, the window that took the last MouseDown, while it is remembered, else `NOBODY`;
@@ -50,6 +56,24 @@ pub struct Shared {
     pub maximised: [bool; 16],
 }
 
+impl Shared {
+    // The windows that are shown, lowest first.
+    pub(crate) fn in_order(&self) -> &[WinId]
+        requires { self.now.shown ≤ 16 }
+        ensures { result.now ≡ take self.now.shown self.now.order }
+    {
+        &self.order[..self.shown]
+    }
+
+    // The place of a window in the render order, if it is shown.
+    pub(crate) fn place_of(&self, id: WinId) -> Option<Place>
+        requires { self.now.shown ≤ 16 }
+        ensures { idx_of result ≡ render_idx id.0 (ids self.now.shown self.now.order) }
+    {
+        get_render_idx(self.in_order(), id)
+    }
+}
+
 #[repr(C)]
 #[derive(Clone, Copy)]
 pub struct Session {
@@ -58,140 +82,25 @@ pub struct Session {
     pub displays: Displays,
 }
 
-// What a call makes of one window and of what the windows share, and the answer.
-#[repr(C)]
+// Who took an event, and the point that it was given there, (0,0) for keys and Text.
 #[derive(Clone, Copy)]
-pub struct Changed {
-    pub window: Window,
-    pub shared: Shared,
-    pub answer: u32,
-}
-
-// What a call makes of what the windows share, and the answer.
-#[repr(C)]
-#[derive(Clone, Copy)]
-pub struct SharedDone {
-    pub shared: Shared,
-    pub answer: u32,
-}
-
-// What a call hands back: the session and the answer.
-#[repr(C)]
-#[derive(Clone, Copy)]
-pub struct Done {
-    pub session: Session,
-    pub answer: u32,
-}
-
-// What a fill or a blit hands back: the session, the answer, and how many pixels of the store differ, none where the call was refused.
-#[repr(C)]
-#[derive(Clone, Copy)]
-pub struct Written {
-    pub session: Session,
-    pub answer: u32,
-    pub altered: usize,
-}
-
-// An id asked for, which is absent where the call was refused.
-#[derive(Clone, Copy)]
-pub enum NewId {
-    Id(WinId),
-    Absent,
-}
-
-// A place for the next window, and the number that it would have.
-#[repr(C)]
-#[derive(Clone, Copy)]
-pub struct FreeSlot {
-    pub at: usize,
+pub struct Taken {
     pub id: WinId,
+    pub x: u32,
+    pub y: u32,
 }
 
-// What a create makes of one window, and the id.
-#[derive(Clone, Copy)]
-pub struct CreatedOne {
-    pub window: Window,
-    pub shared: Shared,
-    pub answer: u32,
-    pub id: NewId,
-}
-
-#[derive(Clone, Copy)]
-pub struct Created {
-    pub session: Session,
-    pub answer: u32,
-    pub id: NewId,
-}
-
-// An event asked for, which is absent where the call was refused.
-#[derive(Clone, Copy)]
-pub enum NextEvent {
-    Event(Event),
-    Absent,
-}
-
-#[derive(Clone, Copy)]
-pub struct Popped {
-    pub session: Session,
-    pub answer: u32,
-    pub event: NextEvent,
-}
-
-// Who took an event, and the point that it was given there, (0,0) for keys and Text. Nobody took a refused event or a
-// Resize.
-#[derive(Clone, Copy)]
-pub enum Taker {
-    Window { id: WinId, x: u32, y: u32 },
-    Nobody,
-}
-
-// What a route that tells who took the event hands back.
-#[derive(Clone, Copy)]
-pub struct Routed {
-    pub session: Session,
-    pub answer: u32,
-    pub taker: Taker,
-}
-
-// The share of a window that is in view, as whole percent and what is left over of w × h; both are 0 where the answer is 3 or 24.
-#[repr(C)]
+// The share of a window that is in view, as whole percent and what is left over of w × h.
 #[derive(Clone, Copy)]
 pub struct InView {
-    pub answer: u32,
     pub percent: u32,
     pub remainder: u32,
 }
 
-// The display that a position is on, or the closest one, which is (0,0,0,0) where the answer is 5.
-#[derive(Clone, Copy)]
-pub struct ForPos {
-    pub answer: u32,
-    pub located: Located,
-}
-
-// The position and size of a window: (0,0,0,0) where the answer is 3.
-#[repr(C)]
-#[derive(Clone, Copy)]
-pub struct Placed {
-    pub answer: u32,
-    pub rect: Rect,
-}
-
-// Where a call would write: the smallest rectangle, if one is due, else (0,0,0,0).
-#[repr(C)]
-#[derive(Clone, Copy)]
-pub struct Stale {
-    pub answer: u32,
-    pub due: bool,
-    pub rect: Rect,
-}
-
-// How a window stands: where it lies, whether it is shown and at which place of the render order, its layer, whether it
-// is maximised and marked, how many events are queued, and whether a move is unread. All are 0 where the answer is 3.
-#[repr(C)]
+// How a window stands: where it lies, whether it is shown and at which place of the render order, 0 where it is not, its layer,
+// whether it is maximised and marked, how many events are queued, and whether a move is unread.
 #[derive(Clone, Copy)]
 pub struct WindowState {
-    pub answer: u32,
     pub rect: Rect,
     pub shown: bool,
     pub place: u32,

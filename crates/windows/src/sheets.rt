@@ -1,31 +1,23 @@
 // The region sheet of a window. Document 02, N6.
+ghost use Rattle.geom.specs.Refusals.{listing_of};
 ghost use Rattle.windows.specs.View.{group, Given, Prints};
 
 use crate::Session;
 use crate::inner::find::find;
-use crate::inner::frames::frames;
-use geom::Listing;
-use geom::inner::answers::UNKNOWN_ID;
+use geom::refusal::Refusal;
 use window::ids::WinId;
 
 impl Session {
     // The sheet of a window's visible part, from the front of the buffer; its rest is untouched. A hidden window has
     // the sheet without bands, "one zero byte".
-    pub fn sheet(self, id: WinId, bytes: &mut [u8]) -> Listing
-        requires { Given self }
-        ensures { Prints (group self) id.0 bytes.old result bytes.new }
+    pub fn sheet(&self, id: WinId, bytes: &mut [u8]) -> Result<usize, Refusal>
+        requires { Given self.now }
+        ensures { Prints (group self.now) id.0 bytes.old (listing_of result) bytes.new }
     {
-        let order = self.shared.order;
-        let found = find(frames(self), order, self.shared.shown, id);
-        if !found.used {
-            return Listing {
-                answer: UNKNOWN_ID,
-                count: 0,
-            };
-        }
-        if !found.shown {
-            return sheet::inner::write::write(&found.above.numbers, 0, 0, bytes);
-        }
-        bands::write(found.at, &found.above.numbers, found.above.len, bytes)
+        let found = find(self, id)?;
+        let Some(above) = found.above else {
+            return sheet::inner::write::write(&[], 0, bytes);
+        };
+        bands::write(found.at, above.as_slice(), bytes)
     }
 }

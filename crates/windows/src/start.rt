@@ -1,21 +1,35 @@
 // The calls that start a session and make a window, and what a station may ask of a session.
-ghost use Rattle.std.specs.Prelude.{◌≡◌};
-ghost use Rattle.rules.specs.Group.{fresh};
+ghost use Rattle.std.specs.Prelude.{◌≡◌, not, position};
+ghost use Rattle.rules.specs.Group.{allowed_c, fresh};
 ghost use Rattle.rules.specs.Calls.{Call};
-ghost use Rattle.windows.specs.View.{Rep, Given, MeetsId, Starts, Locates, group, placed};
+ghost use Rattle.geom.specs.Refusals.{answer_of};
+ghost use Rattle.windows.specs.View.{Rep, Given, MeetsId, Starts, Locates, group, placed, placed_of, for_pos, created, done};
 
-use crate::inner::frames::frames;
 use crate::inner::one;
-use crate::inner::one::{free_slot, slot};
-use crate::{Created, Done, ForPos, Placed, Session, Shared};
+use crate::inner::one::slot;
+use crate::{Session, Shared};
 use display::{Displays, Located};
 use due::{Due, Walk};
-use geom::inner::answers::{CAPACITY, OK, TOO_LARGE, UNKNOWN_ID};
 use geom::inner::small::small_point;
+use geom::refusal::Refusal;
 use geom::{Pos, Rect};
 use topmost::release::NOBODY;
 use window::Window;
 use window::ids::{WinId, in_use};
+
+// Question 2.
+fn allowed_c(c: u32) -> bool
+    ensures { result ≡ allowed_c c }
+{
+    1 <= c && c <= 1048576
+}
+
+// The smallest unused id.
+fn first_free(windows: &[Window; 16]) -> Option<usize>
+    ensures { result ≡ position (λ w. not w.used) windows.now }
+{
+    windows.iter().position(|w| !w.used)
+}
 
 impl Session {
     // A session with no window, for any C.
@@ -47,85 +61,57 @@ impl Session {
         }
     }
 
-    pub fn start(c: u32) -> Done
-        ensures { Starts c result }
+    // A refused start also gives a session, a fresh one with C = 1.
+    pub fn start(c: u32) -> (Session, Result<(), Refusal>)
+        ensures { Starts c (done result.0 (answer_of result.1)) }
     {
-        if c < 1 || 1048576 < c {
-            return Done {
-                session: Session::fresh(1),
-                answer: CAPACITY,
-            };
+        if !allowed_c(c) {
+            return (Session::fresh(1), Err(Refusal::Capacity));
         }
-        Done {
-            session: Session::fresh(c),
-            answer: OK,
-        }
+        (Session::fresh(c), Ok(()))
     }
 
     // A window that is not shown and has no pixels, with the smallest unused id.
-    pub fn create(mut self) -> Created
-        requires { Given self }
-        ensures { MeetsId Call.Create self result }
+    pub fn create(&mut self) -> Result<WinId, Refusal>
+        requires { Given self.old }
+        ensures { MeetsId Call.Create self.old (created self.new result) }
     {
-        let free = free_slot(self);
-        let at = free.at;
-        let d = one::create(self.windows[at], self.shared, free.id);
-        let window = d.window;
-        self.windows[at] = window;
-        let shared = d.shared;
-        self.shared = shared;
-        let id = d.id;
-        Created {
-            session: self,
-            answer: d.answer,
-            id,
-        }
+        let Some(at) = first_free(&self.windows) else {
+            return Err(Refusal::NoFreeId);
+        };
+        one::renew(&mut self.windows[at]);
+        self.shared.layers[at] = 0;
+        self.shared.maximised[at] = false;
+        Ok(WinId(at as u32))
     }
 
     // The window that has the focus; with none shown it is 0.
-    pub fn focus(self) -> WinId
-        ensures { result.0 ≡ (group self).focus }
+    #[tactic(auto, unfolding(crate::specs::View::group))]
+    pub fn focus(&self) -> WinId
+        ensures { result.0 ≡ (group self.now).focus }
     {
         self.shared.focus
     }
 
     // Where a window is and how large.
-    pub fn rect_of(self, id: WinId) -> Placed
-        requires { Given self }
-        ensures { result ≡ placed (group self) id.0 }
+    pub fn rect_of(&self, id: WinId) -> Result<Rect, Refusal>
+        requires { Given self.now }
+        ensures { placed_of result ≡ placed (group self.now) id.0 }
     {
-        let frames = frames(self);
-        let used = frames.used;
-        let at = slot(id);
-        if !in_use(id, used[at]) {
-            return Placed {
-                answer: UNKNOWN_ID,
-                rect: Rect::new(0, 0, 0, 0),
-            };
+        let win = &self.windows[slot(id)];
+        if !in_use(id, win.used) {
+            return Err(Refusal::UnknownId);
         }
-        let areas = frames.areas;
-        let area = areas[at];
-        Placed {
-            answer: OK,
-            rect: area.rect(),
-        }
+        Ok(win.at.rect())
     }
 
-    pub fn get_display_for_pos(self, pos: Pos) -> ForPos
-        requires { Given self }
-        ensures { Locates (group self) pos.x pos.y result }
+    pub fn get_display_for_pos(&self, pos: Pos) -> Result<Located, Refusal>
+        requires { Given self.now }
+        ensures { Locates (group self.now) pos.x pos.y (for_pos result) }
     {
         if !small_point(pos.x, pos.y) {
-            return ForPos {
-                answer: TOO_LARGE,
-                located: Located::Closest(Rect::new(0, 0, 0, 0)),
-            };
+            return Err(Refusal::TooLarge);
         }
-        let displays = self.displays;
-        let located = displays.get_display_for_pos(pos);
-        ForPos {
-            answer: OK,
-            located,
-        }
+        Ok(self.displays.get_display_for_pos(pos))
     }
 }

@@ -6,8 +6,7 @@ use native.Mathlib.Omega.{arith}
 use lib.ListN.{length, take, drop, length-append, length-drop}
 use lib.Seq.{length-take-le, drop-append-le, drop-drop, drop-length}
 use Rattle.answer_text.specs.Text.{Piece, spelled, said}
-use Rattle.answer_text.specs.Added.{counted, handed_over, Adds}
-use Rattle.answer_text.specs.declared.Waiting.{Waiting}
+use Rattle.answer_text.specs.Added.{counted, handed_over, Waiting, Adds, Output, waits, Says}
 
 pub said_append : (ps qs : List Piece) → said (ps ++ qs) ≡ said ps ++ said qs
 said_append [] qs = refl
@@ -77,5 +76,22 @@ flushes w b h =
       inside = rw append-nil (omega arith);
       waits = rw append-nil (sym (ap (λ (n : ℕ). drop n (take w.at b)) (sym e) ∙ drop-length (take w.at b)));
       count = refl;
+      room = omega arith;
+    }
+
+-- the same text of what is equal
+pub told : {A : Type 0} (text : A → List Piece) {x y : A} {w r : Waiting} {b c : List ℕ} → x ≡ y → Adds (text x) w b r c → Adds (text y) w b r c
+told text {w = w} {r} {b} {c} e p = subst (λ (z : _). Adds (text z) w b r c) e p
+
+-- an output that was flushed
+pub flush_says : {o r : Output} → waits r ≡ handed_over (waits o) → Says [] o r
+flush_says {o} {r} e =
+    let none : length r.bytes ≡ 0 = ap (λ (w : Waiting). w.at) e in
+    let all = flushes (waits o) o.bytes (omega arith) in
+    record {
+      handed = all.handed;
+      inside = all.inside;
+      waits = ap (λ (n : ℕ). take n r.bytes) none ∙ all.waits;
+      count = ap (λ (w : Waiting). w.sent) e ∙ all.count;
       room = omega arith;
     }

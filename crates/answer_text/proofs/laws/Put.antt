@@ -5,32 +5,35 @@ use mathlib.Core.List.{List, [], ◌∷◌, ◌++◌, map, append-nil}
 use native.Mathlib.Omega.{arith}
 use native.Mathlib.Numerals.{add-one}
 use lib.ListN.{length, take, get_or}
-use lib.Seq.{take-suc, take_all}
+use lib.Seq.{take-suc}
+use Rattle.std.proofs.lemmas.List.{take_all, map-append}
 use borrow.Author.Tests.{lt-ltb, le-ltb}
 use Rattle.io.specs.Digits.{hex_digit_ascii, last_digits, IsDigitCount}
-use Rattle.answer_text.specs.Text.{Piece, number, sign, word, decimal_in, decimal, spelled, said, numbers}
-use Rattle.answer_text.specs.Added.{Adds}
-use Rattle.answer_text.specs.declared.Waiting.{Waiting}
+use Rattle.answer_text.specs.Text.{Piece, sign, word, decimal_in, decimal, spelled, said}
+use Rattle.answer_text.specs.Added.{counted, Waiting, Adds, Output, waits}
 use Rattle.answer_text.proofs.laws.Added.{then, respelled}
 
 -- Behind what waits ---------------------------------------------------------------------------------------------------
 
--- a text was put behind what waits, after room was made
-pub placed : {ps : List Piece} {w v : Waiting} {b c : List ℕ} (n : ℕ) → Adds [] w b v b → n ≤ 65536 → take n c ≡ take v.at b ++ said ps
-    → Adds ps w b (record { at = n; sent = v.sent }) c
-placed {ps} {w} {v} {b} {c} n a h e =
+-- after room was made, a piece was put behind what waited then
+pub placed : {p : Piece} {w : Waiting} {b d : List ℕ} {n : ℕ} {v : Output} (u : Output) → u ≡ v → Adds [] w b (waits v) v.bytes × (length v.bytes + 32 ≤ 65536) → d ≡ u.bytes ++ spelled p
+    → n ≡ u.sent → length d ≤ length u.bytes + 32 → Adds (p ∷ []) w b (record { at = length d; sent = n }) d
+placed {p} {w} {b} {d} {n} {v} u q m e f h =
+    let a = m.0 in
+    let c : n ≡ counted (v.sent + 0) = omega (arith, a.count, ap (λ (o : Output). o.sent) q) in
+    let r : length d ≤ 65536 = omega (arith, m.1, ap (λ (o : Output). length o.bytes) q) in
     then a
     (record {
       handed = 0;
       inside = omega arith;
-      waits = e;
-      count = omega (arith, a.count);
-      room = h;
+      waits =
+          take_all (length d) d (omega arith)
+          ∙ e
+          ∙ ap (λ (l : List ℕ). l ++ spelled p) (ap (λ (o : Output). o.bytes) q ∙ sym (take_all (length v.bytes) v.bytes (omega arith)))
+          ∙ ap (λ (l : List ℕ). take (length v.bytes) v.bytes ++ l) (sym (append-nil (spelled p)));
+      count = c;
+      room = r;
     })
-
--- a list that is a and b behind it
-pub grows : {l m : List ℕ} (a b : List ℕ) → l ≡ a → m ≡ l ++ b → m ≡ a ++ b
-grows a b e f = f ∙ ap (λ (l : List ℕ). l ++ b) e
 
 -- Digits --------------------------------------------------------------------------------------------------------------
 
@@ -63,46 +66,28 @@ decimal_is n k f h = fewest 20 k n f.0 h f.1 f.2
 
 -- One more ------------------------------------------------------------------------------------------------------------
 
-next : (l : List ℕ) (i : ℕ) → i < length l → take (i + 1) l ≡ take i l ++ (get_or l i 0 ∷ [])
-next l i h = rw add-one (take-suc l i 0 h)
+next : {A : Type 0} (l : List A) (i : ℕ) (x : A) → i < length l → take (i + 1) l ≡ take i l ++ (get_or l i x ∷ [])
+next l i x h = rw add-one (take-suc l i x h)
 
-numbers_append : (a b : List ℕ) → numbers (a ++ b) ≡ numbers a ++ numbers b
-numbers_append [] b = refl
-numbers_append (x ∷ a) b = ap (λ (l : List Piece). number x ∷ l) (numbers_append a b)
-
--- the numbers of a list up to its entry i, and that one
-pub one_more : (l : List ℕ) (i : ℕ) {w v x : Waiting} {b c d : List ℕ} → i < length l
-    → Adds (numbers (take i l)) w b v c → Adds (number (get_or l i 0) ∷ []) v c x d → Adds (numbers (take (i + 1) l)) w b x d
-one_more l i {w} {v} {x} {b} {c} {d} h p q =
-    subst (λ (ps : List Piece). Adds ps w b x d) (sym (ap numbers (next l i h) ∙ numbers_append (take i l) (get_or l i 0 ∷ []))) (then p q)
+-- the pieces of a list up to its entry i, and that of the entry x
+pub one_more : {A : Type 0} (piece : A → Piece) (l : List A) (i : ℕ) (d x : A) {w v r : Waiting} {b c e : List ℕ} → i < length l → x ≡ get_or l i d
+    → Adds (map piece (take i l)) w b v c → Adds (piece x ∷ []) v c r e → Adds (map piece (take (i + 1) l)) w b r e
+one_more piece l i d x {w} {v} {r} {b} {c} {e} h f p q =
+    subst (λ (ps : List Piece). Adds ps w b r e)
+    (sym (ap (map piece) (next l i d h ∙ ap (λ (y : _). take i l ++ (y ∷ [])) (sym f)) ∙ map-append piece (take i l) (x ∷ []))) (then p q)
 
 -- all of them
-pub no_more : (l : List ℕ) (i : ℕ) {w x : Waiting} {b d : List ℕ} → length l ≤ i → Adds (numbers (take i l)) w b x d → Adds (numbers l) w b x d
-no_more l i {w} {x} {b} {d} h p = subst (λ (m : List ℕ). Adds (numbers m) w b x d) (take_all i l h) p
+pub no_more : {A : Type 0} (piece : A → Piece) (l : List A) (i : ℕ) {w r : Waiting} {b d : List ℕ} → length l ≤ i → Adds (map piece (take i l)) w b r d
+    → Adds (map piece l) w b r d
+no_more piece l i {w} {r} {b} {d} h p = subst (λ (m : List _). Adds (map piece m) w b r d) (take_all i l h) p
 
--- bytes, each as a sign
-abbrev pub signs : List ℕ → List Piece
-signs bs = map sign bs
-
-signs_append : (a b : List ℕ) → signs (a ++ b) ≡ signs a ++ signs b
-signs_append [] b = refl
-signs_append (x ∷ a) b = ap (λ (l : List Piece). sign x ∷ l) (signs_append a b)
-
-signs_said : (l : List ℕ) → said (signs l) ≡ l
+signs_said : (l : List ℕ) → said (map sign l) ≡ l
 unfolding spelled
 signs_said [] = refl
 signs_said (x ∷ l) = ap (λ (m : List ℕ). x ∷ m) (signs_said l)
 
--- the bytes of a word up to byte i, and that one
-pub one_sign_more : (l : List ℕ) (i : ℕ) {w v x : Waiting} {b c d : List ℕ} → i < length l
-    → Adds (signs (take i l)) w b v c → Adds (sign (get_or l i 0) ∷ []) v c x d → Adds (signs (take (i + 1) l)) w b x d
-one_sign_more l i {w} {v} {x} {b} {c} {d} h p q =
-    subst (λ (ps : List Piece). Adds ps w b x d) (sym (ap signs (next l i h) ∙ signs_append (take i l) (get_or l i 0 ∷ []))) (then p q)
-
--- a space and all of them
-pub whole_word : (l : List ℕ) (i : ℕ) {w v x : Waiting} {b c d : List ℕ} → length l ≤ i
-    → Adds (sign 32 ∷ []) w b v c → Adds (signs (take i l)) v c x d → Adds (word l ∷ []) w b x d
+-- a space and the bytes of a word
+pub whole_word : (l : List ℕ) {w v x : Waiting} {b c d : List ℕ} → Adds (sign 32 ∷ []) w b v c → Adds (map sign l) v c x d → Adds (word l ∷ []) w b x d
 unfolding spelled
-whole_word l i {v = v} {x} {c = c} {d} h p q =
-    respelled (ap (λ (m : List ℕ). 32 ∷ m) (signs_said l ∙ sym (append-nil l)))
-    (then p (subst (λ (m : List ℕ). Adds (signs m) v c x d) (take_all i l h) q))
+whole_word l p q =
+    respelled (ap (λ (m : List ℕ). 32 ∷ m) (signs_said l ∙ sym (append-nil l))) (then p q)

@@ -1,11 +1,5 @@
 -- How far down the rows are seen as the first is.
-use Prim.Native.Nat.{ℕ, ◌+◌, ◌-◌, ◌*◌, ◌≤◌, ◌<◌}
-use mathlib.Core.Path.{◌≡◌, refl, ap, sym, ◌∙◌}
-use mathlib.Core.Bool.{Bool, true, false, not}
-use mathlib.Core.List.{List}
-use mathlib.Core.Logic.{⊎_elim}
-use native.Mathlib.Omega.{arith}
-use borrow.Author.Tests.{lt-ltb, le-ltb}
+use Rattle.std.proofs.Common.{ℕ, ◌+◌, ◌-◌, ◌*◌, ◌≤◌, ◌<◌, ◌≡◌, refl, ap, sym, ◌∙◌, Bool, true, false, not, List, ⊎_elim, arith, lt-ltb, le-ltb}
 use Rattle.geom.specs.declared.Rect.{Rect}
 use Rattle.geom.specs.Geom.{left, right, bottom, width}
 use Rattle.geom.specs.Lists.{any_has}
@@ -40,9 +34,6 @@ alike_seen at bs z y h c a b =
     not_same (any_has bs c z) (any_has bs c y) k
 
 -- A row's intervals --------------------------------------------------------------------------------------------------
-
-pub kept_none : (e : ℕ) (nums : List ℕ) → Kept e nums nums
-kept_none e nums = record { size = refl; kept = λ i h. refl }
 
 pub kept_both : (e : ℕ) (a b c : List ℕ) → Kept e a b → Kept e b c → Kept e a c
 kept_both e a b c p q = record { size = q.size ∙ p.size; kept = λ i h. q.kept i h ∙ p.kept i h }
@@ -91,9 +82,6 @@ pub record Rowing (at : Rect) (bs : List Rect) (y r : ℕ) : Type 0 where
   pub same : (z : ℕ) → y ≤ z → z < r → Alike bs (left at) (right at) z y
 
 module _ (at : Rect) (bs : List Rect) (y limit : ℕ) (el : limit ≡ bottom at) (r : ℕ) where
-  pub rowing_first : NextRow bs y limit r → Rowing at bs y r
-  rowing_first n = record { beyond = n.beyond; near = omega (arith, n.near); same = λ z a b c h k. n.steady c z a b }
-
   module _ (w : Rowing at bs y r) where
     module _ {t : Bool} (d : Decides t (Alike bs (left at) (right at) r y)) where
       pub rows_turn : t ≡ false → RunRows at bs y r

@@ -1,28 +1,19 @@
 -- One row's intervals: from a column up to the next left side of sorted rectangles nothing is covered.
-use Prim.Native.Nat.{ℕ, ◌+◌, ◌-◌, ◌*◌, ◌≤◌, ◌<◌, min, max}
-use mathlib.Core.Path.{◌≡◌, refl, ap, ap₂, sym, ◌∙◌}
-use mathlib.Core.Bool.{Bool, true, false, not, ◌&&◌, ◌||◌, or-false, and-true, and-false}
-use mathlib.Core.List.{List, [], ◌∷◌, ◌++◌}
-use mathlib.Core.Logic.{◌⊎◌, inl, inr}
-use native.Mathlib.Omega.{arith}
-use lib.Dec.{leb, ltb}
-use lib.ListN.{length, drop, get_or, set, length-set}
-use lib.Seq.{get_or-set_same, get_or-set_other}
-use borrow.Author.Tests.{lt-ltb, le-ltb, le-leb, lt-leb}
+use Rattle.std.proofs.Common.{ℕ, ◌+◌, ◌-◌, ◌*◌, ◌≤◌, ◌<◌, min, max, ◌≡◌, refl, ap, ap₂, sym, ◌∙◌, Bool, true, false, not, ◌&&◌, ◌||◌, List, [], ◌∷◌, ◌++◌, ◌⊎◌, inl, inr, arith, leb, ltb, length, drop, drop_of_length-le, get_or, set, length-set, get_or-set_same, get_or-set_other, lt-ltb, le-ltb, le-leb}
+use mathlib.Core.Bool.{or-false, and-true, and-false}
+use borrow.Author.Tests.{lt-leb}
 use Rattle.geom.specs.declared.Rect.{Rect}
-use Rattle.geom.specs.Geom.{left, width, right, contains}
-use Rattle.geom.specs.Lists.{rect_at, any_has}
+use Rattle.geom.specs.Geom.{rect, left, width, right, contains}
+use Rattle.geom.specs.Lists.{any_has}
 use Rattle.geom.proofs.basics.Tests.{nor, or_left, lt_or_le, clash}
 use Rattle.geom.proofs.geometry.Facts.{In, says_in, not_in}
 use Rattle.sheet.specs.Sheet.{Span, in_spans, Apart}
 use Rattle.sheet.specs.inner.Numbers.{spans_in}
 use Rattle.sheet.proofs.laws.Numbers.{spans_in_ext, spans_in_more}
 use Rattle.sheet.proofs.laws.Snoc.{after, after_more, apart_more, in_more}
-use Rattle.rules.specs.Visible.{rects_of}
-use Rattle.rules.proofs.Lent.{length_rects, rects_next}
 use Rattle.bands.specs.inner.Sort.{NoneBefore, Sorted}
 use Rattle.bands.specs.inner.Scan.{seen_in, RowMade}
-use Rattle.bands.proofs.laws.Lent.{rects_end}
+use Rattle.bands.proofs.laws.Rows.{next_at}
 use Rattle.bands.proofs.laws.Sorts.{sorted_drop, none_has}
 
 -- Intervals ----------------------------------------------------------------------------------------------------------
@@ -141,29 +132,26 @@ spanned_all at {limit} {bs} {y} {x} q el h few = record {
 -- Rectangles ---------------------------------------------------------------------------------------------------------
 
 -- i rectangles are passed: from x on those behind them cover what all cover
-pub record Passing (west limit n : ℕ) (l : List ℕ) (y e : ℕ) (nums₀ nums : List ℕ) (x k i : ℕ) : Type 0 where
-  pub few : i ≤ n
+pub record Passing (west limit : ℕ) (bs : List Rect) (y e : ℕ) (nums₀ nums : List ℕ) (x k i : ℕ) : Type 0 where
+  pub few : i ≤ length bs
   pub most : k ≤ i
-  pub spans : Spanned west limit (rects_of n l) y e nums₀ nums x k
-  pub rest : (c : ℕ) → x ≤ c → any_has (drop i (rects_of n l)) c y ≡ any_has (rects_of n l) c y
+  pub spans : Spanned west limit bs y e nums₀ nums x k
+  pub rest : (c : ℕ) → x ≤ c → any_has (drop i bs) c y ≡ any_has bs c y
 
-pub passing_none : (west limit n : ℕ) (l : List ℕ) (y e : ℕ) (nums : List ℕ) → Passing west limit n l y e nums nums west 0 0
-passing_none west limit n l y e nums = record { few = omega arith; most = omega arith; spans = spanned_none west limit (rects_of n l) y e nums; rest = λ c h. refl }
+pub passing_none : (west limit : ℕ) (bs : List Rect) (y e : ℕ) (nums : List ℕ) → Passing west limit bs y e nums nums west 0 0
+passing_none west limit bs y e nums = record { few = omega arith; most = omega arith; spans = spanned_none west limit bs y e nums; rest = λ c h. refl }
 
-module _ {west limit n : ℕ} {l : List ℕ} {y e : ℕ} {nums₀ nums : List ℕ} {x k i : ℕ} (q : Passing west limit n l y e nums₀ nums x k i) where
-  abbrev bs : List Rect
-  bs = rects_of n l
-
-  module _ (h : i < n) (r : Rect) (er : r ≡ rect_at l i) where
+module _ {west limit : ℕ} {bs : List Rect} {y e : ℕ} {nums₀ nums : List ℕ} {x k i : ℕ} (q : Passing west limit bs y e nums₀ nums x k i) where
+  module _ (h : i < length bs) (r : Rect) (er : r ≡ get_or bs i (rect 0 0 0 0)) where
     next : (c : ℕ) → any_has (drop i bs) c y ≡ contains r c y || any_has (drop (i + 1) bs) c y
-    next c = ap (λ (rs : List Rect). any_has rs c y) (rects_next n l i h) ∙ ap (λ (s : Rect). contains s c y || any_has (drop (i + 1) bs) c y) (sym er)
+    next c = ap (λ (rs : List Rect). any_has rs c y) (next_at bs i h) ∙ ap (λ (s : Rect). contains s c y || any_has (drop (i + 1) bs) c y) (sym er)
 
     -- behind a rectangle that has not the pixel
     not_here : (c : ℕ) → contains r c y ≡ false → any_has (drop (i + 1) bs) c y ≡ any_has (drop i bs) c y
     not_here c o = sym (next c ∙ ap (λ (t : Bool). t || any_has (drop (i + 1) bs) c y) o)
 
     -- one without a column, or without the row
-    pub passing_over : contains r (left r) y ≡ false → Passing west limit n l y e nums₀ nums x k (i + 1)
+    pub passing_over : contains r (left r) y ≡ false → Passing west limit bs y e nums₀ nums x k (i + 1)
     passing_over o = record {
       few = omega arith;
       most = omega (arith, q.most);
@@ -180,7 +168,7 @@ module _ {west limit n : ℕ} {l : List ℕ} {y e : ℕ} {nums₀ nums : List �
 
       behind : NoneBefore (left r) (drop (i + 1) bs)
       unfolding Sorted
-      behind = rw er (rw (rects_next n l i h) at (sorted_drop i bs s)).0
+      behind = rw er (rw (next_at bs i h) at (sorted_drop i bs s)).0
 
       open_before : (c : ℕ) → x ≤ c → c < left r → any_has bs c y ≡ false
       open_before c a b =
@@ -205,7 +193,7 @@ module _ {west limit n : ℕ} {l : List ℕ} {y e : ℕ} {nums₀ nums : List �
       behind_z c a = not_here c (not_in r c y (λ j. omega (arith, j.east))) ∙ q.rest c (omega arith)
 
       -- no column is seen before it
-      pub passing_on : stop ≤ x → Passing west limit n l y e nums₀ nums z k (i + 1)
+      pub passing_on : stop ≤ x → Passing west limit bs y e nums₀ nums z k (i + 1)
       passing_on g = record {
         few = omega arith;
         most = omega (arith, q.most);
@@ -215,7 +203,7 @@ module _ {west limit n : ℕ} {l : List ℕ} {y e : ℕ} {nums₀ nums : List �
 
       -- an interval ends at it
       pub passing_span : x < stop → e + 2 * k + 1 < length nums → (m : List ℕ) → m ≡ set (set nums (e + 2 * k) (x - west)) (e + 2 * k + 1) (stop - west)
-          → Passing west limit n l y e nums₀ m z (k + 1) (i + 1)
+          → Passing west limit bs y e nums₀ m z (k + 1) (i + 1)
       passing_span g room m em = record {
         few = omega arith;
         most = omega (arith, q.most);
@@ -224,21 +212,21 @@ module _ {west limit n : ℕ} {l : List ℕ} {y e : ℕ} {nums₀ nums : List �
       }
 
   -- from x on nothing is covered
-  free_on : n ≤ i → (d : ℕ) → x ≤ d → d < limit + 1 → seen_at limit bs y d ≡ ltb d limit
+  free_on : length bs ≤ i → (d : ℕ) → x ≤ d → d < limit + 1 → seen_at limit bs y d ≡ ltb d limit
   unfolding seen_at
   free_on h d a b = ap (λ (t : Bool). ltb d limit && not t) free ∙ and-true (ltb d limit)
     where
       free : any_has bs d y ≡ false
-      free = sym (q.rest d a) ∙ ap (λ (rs : List Rect). any_has rs d y) (rects_end n l i q.few h)
+      free = sym (q.rest d a) ∙ ap (λ (rs : List Rect). any_has rs d y) (drop_of_length-le bs {i = i} h)
 
-module _ (at : Rect) {limit n : ℕ} {l : List ℕ} {y e : ℕ} {nums₀ nums : List ℕ} {x k i : ℕ} (q : Passing (left at) limit n l y e nums₀ nums x k i) (h : n ≤ i) (el : limit ≡ right at) where
-  pub row_done : limit ≤ x → RowMade at (rects_of n l) y nums₀ e k nums
-  row_done g = spanned_all at q.spans el g (omega (arith, q.most, q.few, length_rects n l))
+module _ (at : Rect) {limit : ℕ} {bs : List Rect} {y e : ℕ} {nums₀ nums : List ℕ} {x k i : ℕ} (q : Passing (left at) limit bs y e nums₀ nums x k i) (h : length bs ≤ i) (el : limit ≡ right at) where
+  pub row_done : limit ≤ x → RowMade at bs y nums₀ e k nums
+  row_done g = spanned_all at q.spans el g (omega (arith, q.most, q.few))
 
   -- the last interval
   pub row_last : x < limit → e + 2 * k + 1 < length nums → (m : List ℕ) → m ≡ set (set nums (e + 2 * k) (x - left at)) (e + 2 * k + 1) (limit - left at)
-      → RowMade at (rects_of n l) y nums₀ e (k + 1) m
+      → RowMade at bs y nums₀ e (k + 1) m
   row_last g room m em =
       spanned_all at
       (spanned_more q.spans limit (limit + 1) (free_on q h) g room (omega arith) m em)
-      el (omega arith) (omega (arith, q.most, q.few, length_rects n l))
+      el (omega arith) (omega (arith, q.most, q.few))

@@ -1,21 +1,16 @@
 -- Intervals are compared number by number; those of a row are told by its columns.
-use Prim.Native.Nat.{ℕ, zero, suc, ◌+◌, ◌*◌, ◌≤◌, ◌<◌}
-use mathlib.Core.Path.{◌≡◌, refl, ap, sym, ◌∙◌}
-use mathlib.Core.Bool.{true, false}
-use mathlib.Core.List.{List, [], ◌∷◌}
-use mathlib.Core.Logic.{⊎_elim}
-use native.Mathlib.Omega.{arith}
-use lib.ListN.{length, get_or}
+use Rattle.std.proofs.Common.{ℕ, zero, suc, ◌+◌, ◌-◌, ◌*◌, ◌≤◌, ◌<◌, Bool, eqb, take, drop, get_or-take, get_or-drop, length-take-le, length-drop, ext_get_or, ◌≡◌, refl, ap, sym, ◌∙◌, false, List, [], ◌∷◌, arith, length, get_or}
+use lib.Pointwise.{pointwise}
+use Rattle.std.specs.Cmp.Lexicographic.{same_text, other_text}
 use Rattle.geom.specs.declared.Rect.{Rect}
-use Rattle.geom.proofs.basics.Tests.{lt_or_le}
 use Rattle.sheet.specs.Sheet.{Span, in_spans, Apart}
 use Rattle.sheet.specs.inner.Numbers.{spans_in}
 use Rattle.sheet.specs.inner.Checks.{Decides}
 use Rattle.sheet.proofs.laws.Numbers.{length_spans_in, spans_in_ext}
 use Rattle.sheet.proofs.laws.Pixels.{says_cols}
-use Rattle.sheet.proofs.laws.Reading.{says_yes, says_no}
+use Rattle.sheet.proofs.laws.Reading.{says_no}
 use Rattle.sheet.proofs.laws.Unique.{spans_unique}
-use Rattle.bands.specs.inner.Scan.{RowMade, IsRow, Kept}
+use Rattle.bands.specs.inner.Scan.{RowMade, IsRow}
 
 -- Number by number ---------------------------------------------------------------------------------------------------
 
@@ -51,26 +46,26 @@ same_numbers l p q (suc n) e (suc zero) h = at_place l (p + suc zero) (p + 1) (o
 same_numbers l p q (suc n) e (suc (suc i)) h =
     at_place l (p + suc (suc i)) (p + 2 + i) (omega arith) ∙ same_numbers l (p + 2) (q + 2) n (ap rest e) i (omega arith) ∙ at_place l (q + 2 + i) (q + suc (suc i)) (omega arith)
 
--- the first i numbers are the same
-pub record Matched (l : List ℕ) (p q n i : ℕ) : Type 0 where
-  pub few : i ≤ 2 * n
-  pub same : (j : ℕ) → j < i → get_or l (p + j) 0 ≡ get_or l (q + j) 0
+-- the numbers of n intervals, as a slice
+abbrev slice : List ℕ → ℕ → ℕ → List ℕ
+slice l p n = take (p + 2 * n - p) (drop p l)
 
-pub matched_none : (l : List ℕ) (p q n : ℕ) → Matched l p q n 0
-matched_none l p q n = record { few = omega arith; same = λ j h. absurd (omega arith) }
+slice_at : (l : List ℕ) (p n i : ℕ) → i < 2 * n → get_or (slice l p n) i 0 ≡ get_or l (p + i) 0
+slice_at l p n i h = get_or-take (p + 2 * n - p) (drop p l) i 0 (omega arith) ∙ get_or-drop p l i 0
 
-module _ (l : List ℕ) (p q n i : ℕ) (m : Matched l p q n i) where
-  pub matched_next : i < 2 * n → get_or l (p + i) 0 ≡ get_or l (q + i) 0 → Matched l p q n (i + 1)
-  matched_next h e = record {
-    few = omega arith;
-    same = λ j k. ⊎_elim (λ a. m.same j a) (λ a. let f : j ≡ i = omega arith in at_place l (p + j) (p + i) (omega arith) ∙ e ∙ at_place l (q + i) (q + j) (omega arith)) (lt_or_le j i);
-  }
+slice_size : (l : List ℕ) (p n : ℕ) → p + 2 * n ≤ length l → length (slice l p n) ≡ 2 * n
+slice_size l p n h = omega (arith, length-take-le (p + 2 * n - p) (drop p l) (omega (arith, length-drop p l)))
 
-  pub unmatched : i < 2 * n → (get_or l (p + i) 0 ≡ get_or l (q + i) 0 → ⊥) → Decides false (spans_in l p n ≡ spans_in l q n)
-  unmatched h u = says_no (λ e. u (same_numbers l p q n e i h))
-
-  pub matched_all : 2 * n ≤ i → Decides true (spans_in l p n ≡ spans_in l q n)
-  matched_all h = says_yes (same_spans_lem l p q n (λ j k. m.same j (omega arith)))
+-- two slices are equal where the intervals are
+pub slices_same : (l : List ℕ) (p q n : ℕ) {t : Bool} → p + 2 * n ≤ length l → q + 2 * n ≤ length l → t ≡ pointwise eqb (slice l p n) (slice l q n)
+    → Decides t (spans_in l p n ≡ spans_in l q n)
+slices_same l p q n hp hq e = record {
+  yes = λ h. same_spans_lem l p q n (λ i k.
+      sym (slice_at l p n i k) ∙ ap (λ (xs : List ℕ). get_or xs i 0) (same_text (slice l p n) (slice l q n) (sym h ∙ e)) ∙ slice_at l q n i k);
+  no = λ h s. other_text (slice l p n) (slice l q n) (sym h ∙ e)
+      (ext_get_or 0 (slice l p n) (slice l q n) (slice_size l p n hp ∙ sym (slice_size l q n hq))
+      (λ i k. let m : i < 2 * n = omega (arith, slice_size l p n hp) in slice_at l p n i m ∙ same_numbers l p q n s i m ∙ sym (slice_at l q n i m)));
+}
 
 -- A row's ------------------------------------------------------------------------------------------------------------
 
@@ -97,6 +92,3 @@ module _ (at : Rect) (bs : List Rect) (z : ℕ) (nums : List ℕ) (e k : ℕ) (a
     yes = λ t c. ap (λ (is : List Span). in_spans is c) (sym stands ∙ d.yes t ∙ sym (ap (spans_in after (e + 2 * k)) q)) ∙ r.cover c;
     no = λ t f. d.no t (is_row_equal f ∙ ap (spans_in after (e + 2 * k)) q);
   }
-
-  pub kept_row : Kept (e + 2 * k) nums after
-  kept_row = record { size = r.size; kept = r.kept }

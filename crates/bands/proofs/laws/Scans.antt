@@ -1,14 +1,7 @@
 -- The bands of a window: a run of rows that are covered alike, with an interval at least, is a band.
-use Prim.Native.Nat.{ℕ, ◌+◌, ◌-◌, ◌*◌, ◌≤◌, ◌<◌}
-use mathlib.Core.Path.{◌≡◌, refl, ap, ap₂, sym, ◌∙◌}
-use mathlib.Core.Bool.{Bool, true, false, not, ◌&&◌, ◌||◌, or-false}
-use mathlib.Core.List.{List, [], ◌∷◌, ◌++◌}
-use mathlib.Core.Logic.{⊎_elim}
-use native.Mathlib.Omega.{arith}
-use lib.Dec.{leb, ltb}
-use lib.ListN.{length, get_or, set, length-set}
-use lib.Seq.{get_or-set_same, get_or-set_other}
-use borrow.Author.Tests.{lt-ltb, le-ltb, le-leb, lt-leb, ltb-true}
+use Rattle.std.proofs.Common.{ℕ, ◌+◌, ◌-◌, ◌*◌, ◌≤◌, ◌<◌, ◌≡◌, refl, ap, ap₂, sym, ◌∙◌, Bool, true, false, not, ◌&&◌, ◌||◌, List, [], ◌∷◌, ◌++◌, ⊎_elim, arith, leb, ltb, length, get_or, set, length-set, get_or-set_same, get_or-set_other, lt-ltb, le-ltb, le-leb, ltb-true}
+use mathlib.Core.Bool.{or-false}
+use borrow.Author.Tests.{lt-leb}
 use Rattle.geom.specs.declared.Rect.{Rect}
 use Rattle.geom.specs.Geom.{left, top, width, height, bottom}
 use Rattle.geom.specs.Lists.{any_has}
@@ -243,9 +236,6 @@ scan_all at bs nums₀ nums y bands end q n h l r e =
 
 -- they take what the writer of the bits asks for, and are those of the one sheet
 module _ (at : Rect) (bs : List Rect) (m : Made) (nums : List ℕ) (s : Scanned at bs m nums) where
-  pub scanned_small : (m.bands ≤ 63) × (m.end ≡ end_in nums 0 m.bands) × (m.end ≤ length nums) × (m.end ≤ 5000)
-  scanned_small = (omega (arith, s.few), s.end, omega (arith, s.few, s.room, s.size), omega (arith, s.few, s.room))
-
   pub scanned_sheet : bands_in nums 0 m.bands ≡ seen_under at bs
   unfolding seen_under
   scanned_sheet = depicts_is (uncovered at bs) (width at) (height at) (bands_in nums 0 m.bands) s.depicts

@@ -1,39 +1,13 @@
--- A line by its answer: behind a 0 comes what was found, and any other number stands alone.
-use Prim.Native.Nat.{ℕ, ◌+◌, ◌-◌, ◌<◌}
-use mathlib.Core.Path.{◌≡◌, refl, sym, ap, subst, ◌∙◌}
-use mathlib.Core.List.{List, [], ◌∷◌, ◌++◌}
-use native.Mathlib.Numerals.{add-one}
-use lib.ListN.{length, take, get_or, replicate}
+-- A list of rectangles, and what the struct of four holds.
+use Rattle.std.proofs.Common.{ℕ, ◌+◌, ◌-◌, ◌<◌, ◌≡◌, refl, sym, ap, ◌∙◌, List, [], ◌∷◌, ◌++◌, add-one, length, take, get_or, replicate}
 use lib.Seq.{take-suc, take-append_seam}
-use borrow.Author.Tests.{ne_eqb}
 use Rattle.geom.specs.declared.Rect.{Rect}
 use Rattle.geom.specs.declared.Pieces.{Pieces}
-use Rattle.geom.specs.declared.Intersection.{Intersection}
 use Rattle.geom.specs.Geom.{rect}
-use Rattle.geom.specs.Bare.{Holds, Met, met}
-use Rattle.answer_text.specs.Text.{Piece, number, line, answered, rectangle, rectangles}
-use Rattle.answer_text.specs.Added.{Adds}
-use Rattle.answer_text.specs.declared.Waiting.{Waiting}
-use Rattle.answer_text.proofs.laws.Added.{then}
-use Rattle.bare_lines.specs.Told.{met_line}
-
--- The answer ----------------------------------------------------------------------------------------------------------
-
-pub accepted : {a : ℕ} (ps : List Piece) {w r : Waiting} {b c : List ℕ} → a ≡ 0 → Adds (line 0 ps) w b r c → Adds (answered a ps) w b r c
-accepted ps e p = rw e p
-
-pub refused : {a : ℕ} (ps : List Piece) {w r : Waiting} {b c : List ℕ} → (a ≡ 0 → ⊥) → Adds (line a []) w b r c → Adds (answered a ps) w b r c
-refused {a} ps h p = rw (ne_eqb a 0 h) p
-
--- the same text of what is equal
-pub told : {A : Type 0} (text : A → List Piece) {x y : A} {w r : Waiting} {b c : List ℕ} → x ≡ y → Adds (text x) w b r c → Adds (text y) w b r c
-told text {w = w} {r} {b} {c} e p = subst (λ (z : _). Adds (text z) w b r c) e p
-
--- Rectangles ----------------------------------------------------------------------------------------------------------
-
--- an intersection, by its cases
-pub met_told : {i j : Intersection} {m : Met} {w r : Waiting} {b c : List ℕ} → met i ≡ m → i ≡ j → Adds (met_line (met j)) w b r c → Adds (met_line m) w b r c
-met_told e k p = told met_line e (told (λ (i : Intersection). met_line (met i)) (sym k) p)
+use Rattle.geom.specs.Bare.{Holds}
+use Rattle.answer_text.specs.Text.{Piece, number, line, rectangle, rectangles}
+use Rattle.answer_text.specs.Added.{Adds, Waiting}
+use Rattle.answer_text.proofs.laws.Added.{then, told}
 
 rectangles_append : (a b : List Rect) → rectangles (a ++ b) ≡ rectangles a ++ rectangles b
 rectangles_append [] b = refl

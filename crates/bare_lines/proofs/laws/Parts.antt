@@ -1,51 +1,81 @@
--- A line by its rule; a part that was copied number by number, and one that was lent and came back.
-use Prim.Native.Nat.{ℕ, ◌+◌, ◌-◌, ◌≤◌, ◌<◌}
-use mathlib.Core.Path.{◌≡◌, sym, ap, subst, ◌∙◌}
-use mathlib.Core.List.{List, [], ◌∷◌, ◌++◌}
-use native.Mathlib.Omega.{arith}
-use native.Mathlib.Numerals.{add-one}
-use lib.ListN.{length, take, drop, get_or, set, length-drop}
-use lib.Seq.{length-take-le, take-suc, take-suc-set, get_or-drop, take_at, drop_at}
-use borrow.Rule.Slice.PartMut.{mid_of, post_of, put_mid, mid_len}
-use Rattle.winbuf.specs.declared.Altered.{Altered}
-use Rattle.winbuf.specs.Pixels.{Part, Write}
-use Rattle.winbuf.specs.Bare.{Gives}
-use Rattle.answer_text.specs.Added.{Adds}
-use Rattle.answer_text.specs.declared.Waiting.{Waiting}
-use Rattle.bare_lines.specs.Told.{part_line, handed_line, altered_line, written_line}
+-- The numbers of a line are the front of the array that they lie in, and what a rule makes of them is the same.
+use Rattle.std.proofs.Common.{ℕ, ◌+◌, ◌-◌, ◌≤◌, ◌<◌, ◌≡◌, sym, ap, subst, ◌∙◌, arith, List, length, take, drop}
+use Rattle.std.specs.Prelude.{Result}
+use Rattle.std.proofs.lemmas.List.{take_all, drop-take, get_or-take, length-take-le, length-drop}
+use lib.Seq.{take-take}
+use Rattle.geom.specs.declared.refusal.Refusal.{Refusal}
+use Rattle.geom.specs.Refusals.{answer_of, value_or}
+use Rattle.winbuf.specs.Pixels.{Write, scanline, fill_scanline, set_scanline, region}
+use Rattle.winbuf.specs.Bare.{Gives, altered_of}
+use Rattle.answer_text.specs.Added.{Waiting, Adds}
+use Rattle.bare_lines.specs.Numbers.{num}
+use Rattle.bare_lines.specs.Told.{from, handed_line, altered_line, written_line, scanline_line, fill_line, set_line, region_line}
 
--- Lines ---------------------------------------------------------------------------------------------------------------
+-- the line of what the rule writes
+pub written : {w r : Waiting} {b c : List ℕ} {rule : Write} (altered : Result ℕ Refusal) {ps : List ℕ} → Gives rule (altered_of altered) ps
+    → Adds (altered_line (answer_of altered) (value_or 0 altered) ps) w b r c → Adds (written_line rule) w b r c
+written {w} {r} {b} {c} altered g p =
+    subst (λ (x : Write). Adds (altered_line x.answer x.altered x.pixels) w b r c)
+    (λ i. record { answer = g.answer i; altered = g.altered i; pixels = g.pixels i }) p
 
--- the line of a part that is the rule's
-pub handed : {w r : Waiting} {b c : List ℕ} {rule : Part} {a : ℕ} {ps : List ℕ} → a ≡ rule.answer → ps ≡ rule.pixels → Adds (part_line a ps) w b r c
-    → Adds (handed_line rule) w b r c
-handed {w} {r} {b} {c} {rule} {a} {ps} e f p =
-    subst (λ (l : List ℕ). Adds (part_line rule.answer l) w b r c) f (subst (λ (n : ℕ). Adds (part_line n ps) w b r c) e p)
+-- a list behind its first i numbers, up to number n
+behind : (i n : ℕ) (ns : List ℕ) → i ≤ n → drop i (take n ns) ≡ take (n - i) (drop i ns)
+behind i n ns h =
+    let e : i + (n - i) ≡ n = omega arith in
+    ap (λ (m : ℕ). drop i (take m ns)) (sym e) ∙ drop-take i (n - i) ns
 
--- the line of pixels qs that are those that the rule leaves
-pub written : {w r : Waiting} {b c : List ℕ} {rule : Write} {v : Altered} {ps qs : List ℕ} → qs ≡ ps → Gives rule v ps
-    → Adds (altered_line v.answer v.altered qs) w b r c → Adds (written_line rule) w b r c
-written {w} {r} {b} {c} {rule} {v} {ps} {qs} e g p =
-    subst (λ (l : List ℕ). Adds (altered_line rule.answer rule.altered l) w b r c) (e ∙ g.pixels)
-    (subst (λ (n : ℕ). Adds (altered_line rule.answer n qs) w b r c) g.altered
-    (subst (λ (a : ℕ). Adds (altered_line a v.altered qs) w b r c) g.answer p))
+module _ (n : ℕ) (ns : List ℕ) (f : n ≤ length ns) where
+  front : (i : ℕ) → i < n → num (take n ns) i ≡ num ns i
+  front i h = get_or-take n ns i 0 h
 
--- Parts ---------------------------------------------------------------------------------------------------------------
+  rest : (i : ℕ) → i ≤ n → from i (length (take n ns)) (take n ns) ≡ from i n ns
+  rest i h =
+      let m : length (take n ns) ≡ n = length-take-le n ns f in
+      ap (λ (k : ℕ). take (k - i) (drop i (take n ns))) m
+      ∙ ap (take (n - i)) (behind i n ns h)
+      ∙ take-take (n - i) (n - i) (drop i ns) (omega arith)
 
--- one more number was copied from place a on
-pub copied_more : (l d : List ℕ) (a i : ℕ) → i < length d → a + i < length l → take i d ≡ take i (drop a l)
-    → take (i + 1) (set d i (get_or l (a + i) 0)) ≡ take (i + 1) (drop a l)
-copied_more l d a i h k e =
-    let v : ℕ = get_or l (a + i) 0 in
-    let s : i < length (drop a l) = rw length-drop (omega arith) in
-    rw (add-one i)
-    (take-suc-set d i v h
-    ∙ (λ j. e j ++ (sym (get_or-drop a l i 0) j ∷ []))
-    ∙ sym (take-suc (drop a l) i 0 s))
+  pub scanline_front : 5 ≤ n → scanline_line (length (take n ns)) (take n ns) ≡ scanline_line n ns
+  scanline_front h =
+      (λ j. handed_line
+      (scanline (rest 5 h j) (front 0 (omega arith) j) (front 1 (omega arith) j) (front 2 (omega arith) j) (front 3 (omega arith) j)
+      (front 4 (omega arith) j)))
 
--- the part that came back is what was put there
-pub part_put : (a e : ℕ) (xs ys : List ℕ) → a ≤ e → e ≤ length xs → length ys ≡ length (mid_of a (e - a) xs)
-    → take (e - a) (drop a (put_mid a (e - a) xs ys)) ≡ ys
-part_put a e xs ys h k n =
-    ap (take (e - a)) (drop_at (take a xs) (ys ++ post_of a (e - a) xs) a (length-take-le a xs (omega arith)))
-    ∙ take_at ys (post_of a (e - a) xs) (e - a) (n ∙ mid_len a e xs k)
+  pub region_front : 5 ≤ n → region_line (length (take n ns)) (take n ns) ≡ region_line n ns
+  region_front h =
+      (λ j. handed_line
+      (region (rest 5 h j) (front 4 (omega arith) j) (front 0 (omega arith) j) (front 1 (omega arith) j) (front 2 (omega arith) j)
+      (front 3 (omega arith) j)))
+
+  pub fill_front : 6 ≤ n → fill_line (length (take n ns)) (take n ns) ≡ fill_line n ns
+  fill_front h =
+      (λ j. written_line
+      (fill_scanline (rest 6 h j) (front 0 (omega arith) j) (front 1 (omega arith) j) (front 2 (omega arith) j) (front 3 (omega arith) j)
+      (front 4 (omega arith) j) (front 5 (omega arith) j)))
+
+  pub set_front : 6 + num ns 5 ≤ n → set_line (length (take n ns)) (take n ns) ≡ set_line n ns
+  set_front h =
+      let k = num ns 5 in
+      let five : num (take n ns) 5 ≡ k = front 5 (omega arith) in
+      let pixels : from (6 + num (take n ns) 5) (length (take n ns)) (take n ns) ≡ from (6 + k) n ns =
+      ap (λ (m : ℕ). from (6 + m) (length (take n ns)) (take n ns)) five ∙ rest (6 + k) h in
+      let values : take (num (take n ns) 5) (drop 6 (take n ns)) ≡ take k (drop 6 ns) =
+      ap (λ (m : ℕ). take m (drop 6 (take n ns))) five
+      ∙ ap (take k) (behind 6 n ns (omega arith))
+      ∙ take-take k (n - 6) (drop 6 ns) (omega arith) in
+      (λ j. written_line
+      (set_scanline (pixels j) (front 0 (omega arith) j) (front 1 (omega arith) j) (front 2 (omega arith) j) (front 3 (omega arith) j)
+      (front 4 (omega arith) j) (values j)))
+
+-- a list split behind 6 numbers and k more: those k, and the rest
+pub split_values : (ns head : List ℕ) (k : ℕ) → 6 + k ≤ length ns → head ≡ take (6 + k) ns → take (length head - 6) (drop 6 head) ≡ take k (drop 6 ns)
+split_values ns head k h e =
+    let m : length head ≡ 6 + k = ap length e ∙ length-take-le (6 + k) ns h in
+    let t : length head - 6 ≡ k = omega arith in
+    ap (λ (i : ℕ). take i (drop 6 head)) t
+    ∙ ap (λ (l : List ℕ). take k (drop 6 l)) e
+    ∙ ap (take k) (drop-take 6 k ns)
+    ∙ take-take k k (drop 6 ns) (omega arith)
+
+pub split_rest : (ns rest : List ℕ) (k : ℕ) → rest ≡ drop k ns → rest ≡ from k (length ns) ns
+split_rest ns rest k e = e ∙ sym (take_all (length ns - k) (drop k ns) (omega (arith, length-drop k ns)))

@@ -1,13 +1,12 @@
 -- Each turn keeps `Search`: the next event is taken in, or the first is let go. So the two places together go forward by one.
-use mathlib.Core.Path.{◌∙◌}
-use native.Mathlib.Omega.{arith}
+use Rattle.std.proofs.Common.{arith}
 use Rattle.busiest.proofs.laws.Search.{falls, not_later, more, no_more, let_go, not_ordered, ends}
 use Rattle.busiest.proofs.busiest.Goals as goal
 
 pub returns-then-time-before : goal.returns-then-time-before
 returns-then-time-before c =
     let q = c.loop-next.invariant in
-    c.refused-then-time-before.ensures ∙ not_ordered c.args.times.now q.1 (falls q.0 c.loop-next-test.true c.if-time-before.true)
+    not_ordered c.args.times.now q.1 (falls q.0 c.loop-next-test.true c.if-time-before.true)
 
 pub loop-next-preserved-then-next-first : goal.loop-next-preserved-then-next-first
 loop-next-preserved-then-next-first c =

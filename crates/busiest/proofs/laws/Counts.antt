@@ -1,13 +1,6 @@
 -- How many events are in a span, told by the places that they have in the run; the greatest of some counts, and the first place that has it.
-use Prim.Native.Nat.{ℕ, zero, suc, ◌+◌, ◌-◌, ◌≤◌, ◌<◌}
-use mathlib.Core.Path.{◌≡◌, refl}
-use mathlib.Core.Bool.{Bool, true, false, cond}
-use mathlib.Core.List.{List, [], ◌∷◌, map}
-use native.Mathlib.Omega.{arith}
-use native.Mathlib.Nat.{le_antisymm, max-le, le-max_left, le-max_right, le_trans}
-use borrow.Author.Tests.{eqb-true, eq-eqb}
-use lib.Dec.{eqb}
-use lib.ListN.{length, get_or}
+use Rattle.std.proofs.Common.{ℕ, zero, suc, ◌+◌, ◌-◌, ◌≤◌, ◌<◌, ◌≡◌, refl, Bool, true, false, cond, List, [], ◌∷◌, map, arith, le_antisymm, le_trans, eqb-true, eq-eqb, eqb, length, get_or}
+use Rattle.std.proofs.Math.Nat.{max-le, le-max_left, le-max_right}
 use Rattle.geom.proofs.basics.Tests.{is_false}
 use Rattle.busiest.specs.Busiest.{in_span, events, greatest, first}
 

@@ -1,12 +1,5 @@
 -- A run in order: the question asked of neighbours says that of two events the later one has no smaller time.
-use Prim.Native.Nat.{ℕ, zero, suc, ◌≤◌, ◌<◌}
-use mathlib.Core.Path.{◌≡◌, refl}
-use mathlib.Core.Bool.{Bool, true, false, ◌&&◌}
-use mathlib.Core.List.{List, [], ◌∷◌}
-use native.Mathlib.Omega.{arith}
-use borrow.Author.Tests.{le-leb, leb-true}
-use lib.Dec.{leb}
-use lib.ListN.{length, get_or}
+use Rattle.std.proofs.Common.{ℕ, zero, suc, ◌≤◌, ◌<◌, ◌≡◌, refl, Bool, true, false, ◌&&◌, List, [], ◌∷◌, arith, le-leb, leb-true, leb, length, get_or}
 use Rattle.geom.proofs.basics.Tests.{both, is_false}
 use Rattle.busiest.specs.Busiest.{rises, ordered}
 

@@ -1,15 +1,8 @@
 -- The search with two places. In a run in order the events of a span stand together: so once the next event comes too late for the first, no later
 -- one is in its span either, and the first can be let go.
-use Prim.Native.Nat.{ℕ, zero, suc, ◌+◌, ◌-◌, ◌≤◌, ◌<◌}
-use mathlib.Core.Path.{◌≡◌, refl, sym, ◌∙◌, subst}
-use mathlib.Core.Bool.{true, false}
-use mathlib.Core.List.{List, [], ◌∷◌}
-use mathlib.Core.Logic.{⊎_elim}
-use native.Mathlib.Omega.{arith}
-use native.Mathlib.Nat.{le_trans, le_antisymm}
-use borrow.Author.Tests.{le-leb, lt-leb, leb-true, lt-ltb, ltb-true}
-use lib.Dec.{leb}
-use lib.ListN.{length, get_or, length-map}
+use Rattle.std.proofs.Common.{ℕ, zero, suc, ◌+◌, ◌-◌, ◌≤◌, ◌<◌, ◌≡◌, refl, sym, ◌∙◌, subst, true, false, List, [], ◌∷◌, ⊎_elim, arith, le_trans, le_antisymm, le-leb, leb-true, lt-ltb, ltb-true, leb, length, get_or}
+use borrow.Author.Tests.{lt-leb}
+use Rattle.std.proofs.Math.ListN.{length-map}
 use Rattle.geom.proofs.basics.Tests.{both, fst, snd, lt_or_le}
 use Rattle.busiest.specs.Busiest.{in_span, events, counts, greatest, first, ordered, refused, busiest}
 use Rattle.busiest.proofs.laws.Counts.{few, many, greatest_is, first_is, entry}

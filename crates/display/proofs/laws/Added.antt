@@ -1,13 +1,7 @@
 -- One display more: it is set behind the last.
-use Prim.Native.Nat.{ℕ, ◌+◌, ◌≤◌, ◌<◌}
-use mathlib.Core.Path.{◌≡◌, refl, ap, ◌∙◌}
-use mathlib.Core.Bool.{true, false, not}
-use mathlib.Core.List.{[], ◌∷◌, ◌++◌, map, map-append}
-use native.Mathlib.Omega.{arith}
-use native.Mathlib.Numerals.{add-one}
-use lib.ListN.{length, take, set, length-set}
-use lib.Seq.{take-suc-set}
-use borrow.Author.Tests.{leb-true, le-leb, lt-ltb, le-ltb, not-true}
+use Rattle.std.proofs.Common.{ℕ, ◌+◌, ◌≤◌, ◌<◌, ◌≡◌, refl, ap, ◌∙◌, true, false, not, [], ◌∷◌, ◌++◌, map, arith, add-one, length, take, set, length-set, take-suc-set, leb-true, le-leb, lt-ltb, le-ltb}
+use Rattle.std.proofs.lemmas.List.{map-append}
+use borrow.Author.Tests.{not-true}
 use Rattle.geom.specs.declared.Rect.{Rect}
 use Rattle.geom.specs.declared.inner.rect16.Rect16.{Rect16}
 use Rattle.geom.specs.Questions.{small}
@@ -18,8 +12,7 @@ use Rattle.geom.proofs.basics.Lists.{set_in}
 use Rattle.geom.proofs.geometry.Facts.{solid}
 use Rattle.rules.specs.Displays.{on_screen, room_for}
 use Rattle.display.specs.declared.Displays.{Displays}
-use Rattle.display.specs.declared.Added.{Added}
-use Rattle.display.specs.Represents.{regions, OnScreen, RepDisplays, Adds}
+use Rattle.display.specs.Represents.{Added, regions, OnScreen, RepDisplays, Adds}
 use Rattle.display.proofs.laws.Regions.{count, screen_solid}
 
 -- question 15

@@ -1,11 +1,6 @@
 -- The displays in their array: how many there are, and each at its place.
-use Prim.Native.Nat.{ℕ, suc, ◌<◌}
-use mathlib.Core.Path.{◌≡◌, ap, ◌∙◌}
-use mathlib.Core.Bool.{false}
-use mathlib.Core.List.{List, [], ◌∷◌, ◌++◌}
-use native.Mathlib.Omega.{arith}
-use lib.ListN.{length, take, drop, get_or, length-map, get_or-map}
-use lib.Seq.{length-take-le, get_or-take, drop-cons, drop-length, take-suc, take-length}
+use Rattle.std.proofs.Common.{ℕ, suc, ◌<◌, ◌≡◌, ap, ◌∙◌, false, List, [], ◌∷◌, length, take, get_or, arith, length-take-le, get_or-take}
+use Rattle.std.proofs.Math.ListN.{length-map, get_or-map}
 use Rattle.geom.specs.declared.Rect.{Rect}
 use Rattle.geom.specs.Geom.{is_empty}
 use Rattle.geom.specs.inner.Fits.{Fits}
@@ -42,21 +37,11 @@ module _ (d : Displays) (ok : RepDisplays d) where
   at : (i : ℕ) → i < d.len → get_or (regions d) i (rect_of no_rect16) ≡ region d i
   at i h = get_or-map rect_of (take d.len d.areas) i no_rect16 ∙ ap rect_of (get_or-take d.len d.areas i no_rect16 h)
 
-  pub next : (i : ℕ) → i < d.len → drop i (regions d) ≡ region d i ∷ drop (suc i) (regions d)
-  next i h = drop-cons (regions d) i (rect_of no_rect16) (omega (arith, count)) ∙ ap (λ (r : Rect). r ∷ drop (suc i) (regions d)) (at i h)
-
-  pub last : (i : ℕ) → i ≡ d.len → drop i (regions d) ≡ []
-  last i e =
-      let n : i ≡ length (regions d) = omega (arith, count) in
-      rw n (drop-length (regions d))
-
-  pub longer : (i : ℕ) → i < d.len → take (suc i) (regions d) ≡ take i (regions d) ++ (region d i ∷ [])
-  longer i h = take-suc (regions d) i (rect_of no_rect16) (omega (arith, count)) ∙ ap (λ (r : Rect). take i (regions d) ++ (r ∷ [])) (at i h)
-
-  pub all : (i : ℕ) → i ≡ d.len → take i (regions d) ≡ regions d
-  all i e =
-      let n : i ≡ length (regions d) = omega (arith, count) in
-      rw n (take-length (regions d))
+  -- each that is present has passed question 15
+  pub each_on : (i : ℕ) → i < length (take d.len d.areas) → OnScreen (rect_of (get_or (take d.len d.areas) i no_rect16))
+  each_on i h =
+      let l : i < d.len = omega (arith, length-take-le d.len d.areas (omega (arith, ok.areas, ok.len))) in
+      rw (get_or-take d.len d.areas i no_rect16 l) (ok.each i l)
 
   on_screen : All OnScreen (regions d)
   on_screen = all_places OnScreen (regions d) (λ i l. let h : i < d.len = omega (arith, l, count) in rw (at i h) (ok.each i h))

@@ -1,47 +1,35 @@
 -- The two searches: of the displays that are left the first says what the rule says of them all, the second of those passed.
-use Prim.Native.Nat.{ℕ, ◌+◌, ◌≤◌, ◌<◌}
-use mathlib.Core.Path.{◌≡◌, refl, sym, ap, ◌∙◌}
-use mathlib.Core.Bool.{true, false, cond}
-use mathlib.Core.List.{List, [], ◌∷◌, ◌++◌}
-use mathlib.Core.Option.{none, some}
-use native.Mathlib.Omega.{arith}
-use native.Mathlib.Nat.{mul-le-mul}
-use native.Mathlib.Numerals.{add-one}
-use lib.Dec.{ltb}
-use lib.ListN.{take, drop}
-use borrow.Author.Tests.{lt-ltb, le-ltb}
+use Rattle.std.proofs.Common.{ℕ, ◌+◌, ◌≤◌, ◌<◌, ◌≡◌, refl, sym, ap, ◌∙◌, true, false, cond, ltb, List, [], ◌∷◌, ◌++◌, map, length, get_or, take, drop, arith, add-one, lt-ltb, le-ltb, mul-le-mul, take-suc, take_all}
+use Rattle.std.proofs.lemmas.List.{map-append}
+use Rattle.std.proofs.Math.Option.{none, some}
+use Rattle.std.proofs.lemmas.List.{at_drop_more, at_drop_all}
 use Rattle.geom.specs.declared.Rect.{Rect}
+use Rattle.geom.specs.declared.inner.rect16.Rect16.{Rect16}
 use Rattle.geom.specs.Geom.{contains}
 use Rattle.geom.specs.Nearest.{nearest_x, nearest_y, apart}
 use Rattle.geom.specs.Displays.{first_on, away², closest_of, closest_to}
-use Rattle.display.specs.declared.Displays.{Displays}
-use Rattle.display.specs.Represents.{regions, OnScreen, RepDisplays}
-use Rattle.display.proofs.laws.Regions.{region, next, last, longer, all}
+use Rattle.geom.specs.Rect16.{rect_of, no_rect16}
+use Rattle.display.specs.Represents.{OnScreen}
 
 -- The first that contains the position ---------------------------------------------------------------------------------
 
 -- none of the first i does
-pub record Passed (d : Displays) (px py n i : ℕ) : Type 0 where
-  pub ok : RepDisplays d
-  pub count_is : n ≡ d.len
-  pub within : i ≤ n
-  pub so_far : first_on (regions d) px py ≡ first_on (drop i (regions d)) px py
+pub record Passed (l : List Rect16) (px py i : ℕ) : Type 0 where
+  pub so_far : first_on (map rect_of l) px py ≡ first_on (map rect_of (drop i l)) px py
 
-module _ {d : Displays} {px py n i : ℕ} (q : Passed d px py n i) where
-  pub hit : i < n → contains (region d i) px py ≡ true → some (region d i) ≡ first_on (regions d) px py
-  hit l e = sym (q.so_far ∙ rw (next d q.ok i (omega (arith, q.count_is)), e) refl)
+module _ {l : List Rect16} {px py i : ℕ} (q : Passed l px py i) where
+  next : i < length l → first_on (map rect_of l) px py
+      ≡ cond (contains (rect_of (get_or l i no_rect16)) px py) (some (rect_of (get_or l i no_rect16))) (first_on (map rect_of (drop (i + 1) l)) px py)
+  next h = q.so_far ∙ at_drop_more (λ m. first_on (map rect_of m) px py) l i no_rect16 h
 
-  pub miss : i < n → contains (region d i) px py ≡ false → Passed d px py n (i + 1)
-  miss l e =
-      record {
-        ok = q.ok;
-        count_is = q.count_is;
-        within = omega arith;
-        so_far = q.so_far ∙ rw (next d q.ok i (omega (arith, q.count_is)), e, add-one) refl;
-      }
+  pub hit : i < length l → contains (rect_of (get_or l i no_rect16)) px py ≡ true → some (rect_of (get_or l i no_rect16)) ≡ first_on (map rect_of l) px py
+  hit h e = sym (rw (next h, e) refl)
 
-  pub gone : n ≤ i → none ≡ first_on (regions d) px py
-  gone l = sym (q.so_far ∙ rw (last d q.ok i (omega (arith, q.count_is, q.within))) refl)
+  pub miss : i < length l → contains (rect_of (get_or l i no_rect16)) px py ≡ false → Passed l px py (i + 1)
+  miss h e = record { so_far = rw (next h, e) refl }
+
+  pub gone : length l ≤ i → none ≡ first_on (map rect_of l) px py
+  gone h = sym (q.so_far ∙ at_drop_all (λ m. first_on (map rect_of m) px py) l i h)
 
 -- The closest ---------------------------------------------------------------------------------------------------------
 
@@ -83,39 +71,24 @@ module _ (px py : ℕ) where
       (same, ap (λ (r : Rect). away² r px py) same)
 
 -- the closest of the first i displays, and how far it is
-pub record Nearing (d : Displays) (px py n dist : ℕ) (near : Rect) (i : ℕ) : Type 0 where
-  pub count_is : n ≡ d.len
-  pub within : i ≤ n
-  pub dist_is : dist ≡ far (take i (regions d)) px py
-  pub near_is : near ≡ closest_to (take i (regions d)) px py
+pub record Nearing (l : List Rect16) (px py dist : ℕ) (near : Rect) (i : ℕ) : Type 0 where
+  pub dist_is : dist ≡ far (map rect_of (take i l)) px py
+  pub near_is : near ≡ closest_to (map rect_of (take i l)) px py
 
-module _ {d : Displays} {px py n dist i : ℕ} {near : Rect} (ok : RepDisplays d)
-    (q : Nearing d px py n dist near i) where
-  module _ (l : i < n) (m : ℕ) (m_is : m ≡ away² (region d i) px py) where
-    seen : take (i + 1) (regions d) ≡ take i (regions d) ++ (region d i ∷ [])
-    seen = rw add-one (longer d ok i (omega (arith, q.count_is)))
+module _ {l : List Rect16} {px py dist i : ℕ} {near : Rect} (q : Nearing l px py dist near i) where
+  module _ (h : i < length l) (m : ℕ) (m_is : m ≡ away² (rect_of (get_or l i no_rect16)) px py) where
+    seen : map rect_of (take (i + 1) l) ≡ map rect_of (take i l) ++ (rect_of (get_or l i no_rect16) ∷ [])
+    seen = rw add-one (ap (map rect_of) (take-suc l i no_rect16 h) ∙ map-append rect_of (take i l) (get_or l i no_rect16 ∷ []))
 
-    pub is_nearer : m < dist → Nearing d px py n m (region d i) (i + 1)
+    pub is_nearer : m < dist → Nearing l px py m (rect_of (get_or l i no_rect16)) (i + 1)
     is_nearer k =
-        let (a, b) = closer px py (take i (regions d)) (region d i) (omega (arith, m_is, q.dist_is, k)) in
-        record {
-          count_is = q.count_is;
-          within = omega arith;
-          dist_is = rw seen (m_is ∙ sym b);
-          near_is = rw seen (sym a);
-        }
+        let (a, b) = closer px py (map rect_of (take i l)) (rect_of (get_or l i no_rect16)) (omega (arith, m_is, q.dist_is, k)) in
+        record { dist_is = rw seen (m_is ∙ sym b); near_is = rw seen (sym a) }
 
-    pub not_nearer : away² (region d i) px py < 18446744073709551615 → dist ≤ m → Nearing d px py n dist near (i + 1)
+    pub not_nearer : away² (rect_of (get_or l i no_rect16)) px py < 18446744073709551615 → dist ≤ m → Nearing l px py dist near (i + 1)
     not_nearer fits k =
-        let (a, b) = farther px py (take i (regions d)) (region d i) fits (omega (arith, m_is, q.dist_is, k)) in
-        record {
-          count_is = q.count_is;
-          within = omega arith;
-          dist_is = rw seen (q.dist_is ∙ sym b);
-          near_is = rw seen (q.near_is ∙ sym a);
-        }
+        let (a, b) = farther px py (map rect_of (take i l)) (rect_of (get_or l i no_rect16)) fits (omega (arith, m_is, q.dist_is, k)) in
+        record { dist_is = rw seen (q.dist_is ∙ sym b); near_is = rw seen (q.near_is ∙ sym a) }
 
-  pub at_end : n ≤ i → near ≡ closest_to (regions d) px py
-  at_end l =
-      let e = all d ok i (omega (arith, q.count_is, q.within)) in
-      q.near_is ∙ ap (λ (ds : List Rect). closest_to ds px py) e
+  pub at_end : length l ≤ i → near ≡ closest_to (map rect_of l) px py
+  at_end h = q.near_is ∙ ap (λ (m : List Rect16). closest_to (map rect_of m) px py) (take_all i l h)

@@ -1,21 +1,17 @@
 -- Sixteen windows, one after the other: of those passed it is known where they go; of those that are left the rule says what it says of all.
-use Prim.Native.Nat.{ℕ, suc, ◌+◌, ◌*◌, ◌≤◌, ◌<◌}
-use mathlib.Core.Path.{◌≡◌, refl, sym, ap, subst, ◌∙◌}
-use mathlib.Core.Bool.{Bool, true, false, not, ◌&&◌, ◌||◌}
-use mathlib.Core.List.{List, [], ◌∷◌}
-use native.Mathlib.Omega.{arith}
-use native.Mathlib.Nat.{mul-le-mul_right}
-use native.Mathlib.Numerals.{add-one}
-use lib.ListN.{length, drop, get_or, set, length-set}
-use lib.Seq.{drop-cons, drop-length}
+use Rattle.std.proofs.Common.{ℕ, suc, ◌+◌, ◌*◌, ◌≤◌, ◌<◌, ◌≡◌, refl, sym, ap, ◌∙◌, Bool, true, false, not, ◌&&◌, ◌||◌, List, [], ◌∷◌, map, length, drop, get_or, set, arith, add-one, add-zero, zero-add, mul-le-mul_right, length-set, drop-cons}
+use Rattle.std.proofs.Math.ListN.{get_or-map}
+use Rattle.std.proofs.Math.Seq.{drop-length}
 use Rattle.geom.specs.declared.Rect.{Rect}
 use Rattle.geom.specs.declared.inner.rect16.Rect16.{Rect16}
 use Rattle.geom.specs.Rect16.{Small, rect_of, no_rect16}
 use Rattle.geom.proofs.basics.Lists.{set_in}
 use Rattle.rules.specs.Displays.{updated_at, resized_store, fits, every_by_id}
 use Rattle.rules.proofs.store.Resize.{length_resized}
-use Rattle.display.specs.declared.update.Moves.{Moves}
-use Rattle.display.specs.inner.Update.{place, resizes, MovesTo, all_fit, resized_one, all_resized}
+use Rattle.std.specs.List.{list_all}
+use Rattle.geom.proofs.basics.Lists.{map_set}
+use Rattle.display.specs.declared.update.Move.{Move}
+use Rattle.display.specs.inner.Update.{Moves, moves_of, place, resizes, MovesTo, all_fit, resized_one, all_resized}
 
 -- Where each goes ------------------------------------------------------------------------------------------------------
 
@@ -23,10 +19,6 @@ abbrev moves : List Rect16 → List Bool → Moves
 moves to flags = record { areas = to; resizes = flags }
 
 module _ {ds : List Rect} {areas : List Rect16} {used maximised : List Bool} where
-  pub moves_none : (to : List Rect16) (flags : List Bool) → length to ≡ 16 → length flags ≡ 16 → MovesTo ds areas used maximised 0 (moves to flags)
-  moves_none to flags n k =
-      record { all = n; flags = k; resized = λ i l. absurd (omega (arith, l)); at = λ i l. absurd (omega (arith, l)); small = λ i l. absurd (omega (arith, l)) }
-
   -- one window more
   pub moves_more : {to : List Rect16} {flags : List Bool} {n : ℕ} → MovesTo ds areas used maximised n (moves to flags) → n < 16 → (a : Rect16) (b : Bool)
       → b ≡ get_or used n false && get_or maximised n false → (rect_of a ≡ updated_at ds b (place areas n)) × Small (rect_of a)
@@ -45,48 +37,38 @@ module _ {ds : List Rect} {areas : List Rect16} {used maximised : List Bool} whe
       flag_at : (i : ℕ) (P : Bool → Type 0) → (i ≡ n → P b) → ((i ≡ n → ⊥) → P (get_or flags i false)) → P (get_or (set flags n b) i false)
       flag_at i P = set_in P flags n i b false (λ _. omega (arith, q.flags))
 
-  -- all sixteen
-  pub moves_all : {m : Moves} {n : ℕ} → n ≤ 16 → 16 ≤ n → MovesTo ds areas used maximised n m → MovesTo ds areas used maximised 16 m
-  moves_all {m} {n} l h q =
-      let e : n ≡ 16 = omega arith in
-      subst (λ (k : ℕ). MovesTo ds areas used maximised k m) e q
-
 none_left : (l : List Rect16) (i : ℕ) → i ≡ length l → drop i l ≡ []
 none_left l i e = rw e (drop-length l)
 
+-- one window more, of those that are held together
+pub moves_set : (ms : List Move) (n : ℕ) (m : Move) → moves_of (set ms n m) ≡ moves (set (map (λ m. m.to) ms) n m.to) (set (map (λ m. m.resizes) ms) n m.resizes)
+moves_set ms n m = λ i. record { areas = map_set (λ m. m.to) ms n m i; resizes = map_set (λ m. m.resizes) ms n m i }
+
+-- what is held of one window
+abbrev pub no_move : Move
+no_move = record { to = no_rect16; resizes = false }
+
+pub to_at : (ms : List Move) (i : ℕ) → place (moves_of ms).areas i ≡ rect_of (get_or ms i no_move).to
+to_at ms i = ap rect_of (get_or-map (λ m. m.to) ms i no_move)
+
+pub flag_at : (ms : List Move) (i : ℕ) → resizes (moves_of ms) i ≡ (get_or ms i no_move).resizes
+flag_at ms i = get_or-map (λ m. m.resizes) ms i no_move
+
 -- Question 6 of all ----------------------------------------------------------------------------------------------------
 
-abbrev passes : ℕ → Moves → ℕ → Rect16 → Bool
-passes c m i a = not (resizes m i) || fits c (rect_of a)
+-- the windows from number k on, whose flags f has by number
+every_is : (c : ℕ) (f : ℕ → Bool) (k : ℕ) (ms : List Move) → ((i : ℕ) → i < length ms → f (k + i) ≡ (get_or ms i no_move).resizes)
+    → list_all (λ m. not m.resizes || fits c (rect_of m.to)) ms ≡ every_by_id (λ i a. not (f i) || fits c (rect_of a)) k (map (λ m. m.to) ms)
+every_is c f k [] h = refl
+every_is c f k (m ∷ ms) h =
+    let here : f k ≡ m.resizes = ap f (sym (add-zero k)) ∙ h 0 (omega arith) in
+    rw here
+    (ap (λ (b : Bool). (not m.resizes || fits c (rect_of m.to)) && b)
+    (every_is c f (suc k) ms (λ i l. let e : suc k + i ≡ k + suc i = omega arith in ap f e ∙ h (suc i) (omega arith))))
 
--- the first i pass
-pub record Passing (c : ℕ) (m : Moves) (i : ℕ) : Type 0 where
-  pub size : length m.areas ≡ 16
-  pub within : i ≤ 16
-  pub so_far : all_fit c m ≡ every_by_id (passes c m) i (drop i m.areas)
-
-pub passing : (c : ℕ) (m : Moves) → length m.areas ≡ 16 → Passing c m 0
+pub fit_is : (c : ℕ) (ms : List Move) → list_all (λ m. not m.resizes || fits c (rect_of m.to)) ms ≡ all_fit c (moves_of ms)
 unfolding all_fit
-passing c m n = record { size = n; within = omega arith; so_far = refl }
-
-module _ {c : ℕ} {m : Moves} {i : ℕ} (q : Passing c m i) where
-  module _ (l : i < 16) where
-    next : drop i m.areas ≡ get_or m.areas i no_rect16 ∷ drop (suc i) m.areas
-    next = drop-cons m.areas i no_rect16 (omega (arith, q.size))
-
-    step : all_fit c m ≡ passes c m i (get_or m.areas i no_rect16) && every_by_id (passes c m) (suc i) (drop (suc i) m.areas)
-    step = q.so_far ∙ ap (every_by_id (passes c m) i) next
-
-    pub passes_on : passes c m i (get_or m.areas i no_rect16) ≡ true → Passing c m (i + 1)
-    passes_on e = record { size = q.size; within = omega arith; so_far = step ∙ rw (e, add-one) refl }
-
-    pub fails : passes c m i (get_or m.areas i no_rect16) ≡ false → false ≡ all_fit c m
-    fails e = sym (step ∙ rw e refl)
-
-  pub passed : 16 ≤ i → true ≡ all_fit c m
-  passed l =
-      let n : i ≡ length m.areas = omega (arith, q.size, q.within) in
-      sym (q.so_far ∙ ap (every_by_id (passes c m) i) (none_left m.areas i n))
+fit_is c ms = every_is c (resizes (moves_of ms)) 0 ms (λ i _. ap (resizes (moves_of ms)) (zero-add i) ∙ flag_at ms i)
 
 -- The pixels -----------------------------------------------------------------------------------------------------------
 
@@ -96,9 +78,6 @@ pub record Resizing (c : ℕ) (old : List Rect16) (m : Moves) (s t : List ℕ) (
   pub within : i ≤ 16
   pub same : length t ≡ length s
   pub so_far : all_resized c old m.resizes 0 m.areas s ≡ all_resized c old m.resizes i (drop i m.areas) t
-
-pub resizing : (c : ℕ) (old : List Rect16) (m : Moves) (s : List ℕ) → length m.areas ≡ 16 → Resizing c old m s s 0
-resizing c old m s n = record { size = n; within = omega arith; same = refl; so_far = refl }
 
 module _ {c : ℕ} {old : List Rect16} {m : Moves} {s t : List ℕ} {i : ℕ} (q : Resizing c old m s t i) where
   module _ (l : i < 16) where

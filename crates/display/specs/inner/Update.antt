@@ -1,11 +1,19 @@
 -- What the functions say that put sixteen windows in their places, with the rule of one window for each.
-use Rattle.std.specs.Prelude.{ℕ, suc, ◌*◌, ◌≤◌, ◌<◌, ◌≡◌, Bool, true, false, cond, not, ◌&&◌, ◌||◌, List, [], ◌∷◌, length, get_or}
+use Rattle.std.specs.Prelude.{ℕ, suc, ◌*◌, ◌≤◌, ◌<◌, ◌≡◌, Bool, true, false, cond, not, ◌&&◌, ◌||◌, List, [], ◌∷◌, map, length, get_or}
 use Rattle.geom.specs.declared.Rect.{Rect}
 use Rattle.geom.specs.declared.inner.rect16.Rect16.{Rect16}
 use Rattle.geom.specs.Geom.{width, height}
 use Rattle.geom.specs.Rect16.{Small, rect_of, no_rect16}
 use Rattle.rules.specs.Displays.{updated_at, resized_store, fits, every_by_id}
-use Rattle.display.specs.declared.update.Moves.{Moves}
+use Rattle.display.specs.declared.update.Move.{Move}
+
+-- where sixteen windows go, by their numbers, and which of them take a display there
+pub record Moves : Type 0 where
+  pub areas : List Rect16
+  pub resizes : List Bool
+
+abbrev pub moves_of : List Move → Moves
+moves_of ms = record { areas = map (λ m. m.to) ms; resizes = map (λ m. m.resizes) ms }
 
 -- the rectangle of window i
 abbrev pub place : List Rect16 → ℕ → Rect

@@ -1,9 +1,6 @@
 -- The questions of a call come to one test: they are all answered yes if each is.
-use Prim.Native.Nat.{ℕ, suc}
-use mathlib.Core.Path.{◌≡◌, refl}
-use mathlib.Core.Bool.{Bool, true, false, cond, ◌&&◌}
-use mathlib.Core.List.{[], ◌∷◌}
-use lib.Dec.{eqb, eqb-suc-zero}
+use Rattle.std.proofs.Common.{ℕ, suc, ◌≡◌, refl, Bool, true, false, cond, ◌&&◌, [], ◌∷◌, eqb}
+use Rattle.std.proofs.Math.Dec.{eqb-suc-zero}
 use Rattle.geom.specs.Questions.{◌is◌, asked}
 use Rattle.geom.proofs.basics.Tests.{clash}
 

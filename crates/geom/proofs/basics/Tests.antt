@@ -1,11 +1,7 @@
 -- Tests and what they tell. A test that passed is the equation `p ≡ true`, one that failed is `p ≡ false`: so `rw`, `cc` and `omega` read it.
 -- `Says p P` reads the test p as the fact P, and `same` makes tests equal whose facts follow from each other.
-use Prim.Native.Nat.{ℕ, ◌≤◌, ◌<◌}
-use mathlib.Core.Path.{◌≡◌, refl, sym, ◌∙◌, subst}
-use mathlib.Core.Bool.{Bool, true, false, cond, not, ◌&&◌, ◌||◌}
-use mathlib.Core.Logic.{◌⊎◌, inl, inr}
-use lib.Dec.{T, leb, ltb, eqb}
-use borrow.Author.Tests.{ltb-true, ltb-false, leb-true, le-leb, eqb-true, eq-eqb, not-true}
+use Rattle.std.proofs.Common.{ℕ, ◌≤◌, ◌<◌, ◌≡◌, refl, sym, ◌∙◌, subst, Bool, true, false, cond, not, ◌&&◌, ◌||◌, ◌⊎◌, inl, inr, T, leb, ltb, eqb, ltb-true, ltb-false, leb-true, le-leb, eqb-true, eq-eqb}
+use Rattle.std.proofs.lemmas.Bool.{not-true}
 
 -- One test -----------------------------------------------------------------------------------------------------------
 

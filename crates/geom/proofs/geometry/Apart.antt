@@ -1,9 +1,5 @@
 -- Lists of rectangles without common pixels: `outside_all` keeps them so.
-use Prim.Native.Nat.{ℕ}
-use mathlib.Core.Bool.{true, not}
-use mathlib.Core.Path.{◌≡◌, sym, ◌∙◌}
-use mathlib.Core.List.{List, [], ◌∷◌, ◌++◌}
-use native.Mathlib.Omega.{arith}
+use Rattle.std.proofs.Common.{ℕ, true, not, ◌≡◌, sym, ◌∙◌, List, [], ◌∷◌, ◌++◌, arith}
 use Rattle.geom.specs.declared.Rect.{Rect}
 use Rattle.geom.specs.Geom.{contains, common, if_any, piece_above, piece_left, piece_right, piece_below, around, pieces}
 use Rattle.geom.specs.Lists.{outside, outside_all, any_has, Disjoint}

@@ -1,14 +1,6 @@
 -- How many rectangles `outside_all` leaves of one: in each row at most one more than there are rectangles taken away,
 -- and each begins in the row of a's top or of an edge of one taken away.
-use Prim.Native.Nat.{ℕ, suc, ◌+◌, ◌*◌, ◌≤◌, ◌<◌}
-use mathlib.Core.Bool.{Bool, true, ◌&&◌}
-use mathlib.Core.Path.{◌≡◌, refl, sym, subst}
-use mathlib.Core.List.{List, [], ◌∷◌}
-use mathlib.Core.Logic.{◌⊎◌, inl, inr, ⊎_elim}
-use native.Mathlib.Omega.{arith}
-use native.Mathlib.Nat.{eq-zero-or-pos}
-use lib.Dec.{leb, ltb}
-use lib.ListN.{length}
+use Rattle.std.proofs.Common.{ℕ, suc, ◌+◌, ◌*◌, ◌≤◌, ◌<◌, Bool, true, ◌&&◌, ◌≡◌, refl, sym, subst, List, [], ◌∷◌, ◌⊎◌, inl, inr, ⊎_elim, arith, eq-zero-or-pos, leb, ltb, length}
 use Rattle.geom.specs.declared.Rect.{Rect}
 use Rattle.geom.specs.Geom.{left, top, height, bottom, contains, meets, common, if_any, piece_above, piece_left, piece_right, piece_below, around, pieces}
 use Rattle.geom.specs.Lists.{outside, outside_all, any_has, Disjoint, most}

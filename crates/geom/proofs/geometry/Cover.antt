@@ -1,10 +1,6 @@
 -- Which pixels the lists of Geom.antt have: the test for a pixel of each list comes to a Boolean expression.
-use Prim.Native.Nat.{ℕ, ◌≤◌, ◌<◌}
-use mathlib.Core.Bool.{not, ◌&&◌, ◌||◌, or_assoc, or-false, and-true, and-false, and-or_distrib_left, and-or_distrib_right}
-use mathlib.Core.Path.{◌≡◌, refl, sym, ap, ◌∙◌}
-use mathlib.Core.List.{List, [], ◌∷◌, ◌++◌}
-use mathlib.Core.Logic.{◌⊎◌, inl, inr}
-use native.Mathlib.Omega.{arith}
+use Rattle.std.proofs.Common.{ℕ, ◌≤◌, ◌<◌, not, ◌&&◌, ◌||◌, ◌≡◌, refl, sym, ap, ◌∙◌, List, [], ◌∷◌, ◌++◌, ◌⊎◌, inl, inr, arith}
+use Rattle.std.proofs.Math.Bool.{or_assoc, or-false, and-true, and-false, and-or_distrib_left, and-or_distrib_right}
 use Rattle.geom.specs.declared.Rect.{Rect}
 use Rattle.geom.specs.Geom.{left, top, right, bottom, contains, common, if_any, piece_above, piece_left, piece_right, piece_below, around, pieces}
 use Rattle.geom.specs.Lists.{outside, outside_all, meets_of, list_intersect, any_has}

@@ -1,16 +1,10 @@
 -- The search for the nearest display keeps the first of those with the least distance so far; the nearest pixel of that display is then the nearest
 -- of all, since no display is nearer than its own nearest pixel.
-use Prim.Native.Nat.{ℕ, zero, suc, ◌≤◌, ◌<◌}
-use mathlib.Core.Path.{◌≡◌, refl, sym, ap, ◌∙◌}
-use mathlib.Core.Bool.{Bool, true, false, cond, not, ◌||◌}
-use mathlib.Core.List.{List, [], ◌∷◌, ◌++◌, append-nil, append_assoc}
-use mathlib.Core.Option.{Option, none, some, none-ne-some, some-ne-none, some-injective}
-use mathlib.Core.Logic.{⊎_elim}
-use native.Mathlib.Omega.{arith}
-use native.Mathlib.Nat.{le_refl}
-use lib.ListN.{length, take, length-append, get_or-append}
-use lib.Seq.{take-append_seam, take-append-le, get_or-append_seam}
-use borrow.Author.Tests.{ltb-true, ltb-false, not-true}
+use Rattle.std.proofs.Common.{ℕ, zero, suc, ◌≤◌, ◌<◌, ◌≡◌, refl, sym, ap, ◌∙◌, Bool, true, false, cond, not, ◌||◌, List, [], ◌∷◌, ◌++◌, append-nil, append_assoc, ⊎_elim, arith, le_refl, length, take, length-append, ltb-true, ltb-false}
+use Rattle.std.proofs.Math.Option.{Option, none, some, none-ne-some, some-ne-none, some-injective}
+use Rattle.std.proofs.Math.ListN.{get_or-append}
+use Rattle.std.proofs.Math.Seq.{take-append_seam, take-append-le, get_or-append_seam}
+use Rattle.std.proofs.lemmas.Bool.{not-true}
 use Rattle.geom.specs.declared.Rect.{Rect}
 use Rattle.geom.specs.Geom.{rect, is_empty, contains}
 use Rattle.geom.specs.Lists.{any_has}

@@ -1,20 +1,13 @@
 -- The tests on rectangles as facts on numbers, from which `omega` proves the rest.
-use Prim.Native.Nat.{ℕ, ◌-◌, ◌≤◌, ◌<◌, min, max}
-use mathlib.Core.Bool.{false, not, ◌&&◌}
-use mathlib.Core.Path.{◌≡◌, refl}
-use mathlib.Core.List.{List, [], ◌∷◌}
-use mathlib.Core.Logic.{◌⊎◌, inl, inr, ⊎_elim, ◌↔◌}
-use native.Mathlib.Omega.{arith}
-use native.Mathlib.Nat.{eq-zero-or-pos}
-use lib.Dec.{eqb}
-use borrow.Author.Tests.{leb-true, le-leb, eqb-false}
+use Rattle.std.proofs.Common.{ℕ, ◌≤◌, ◌<◌, min, max, false, ◌&&◌, ◌≡◌, refl, List, [], ◌∷◌, ◌⊎◌, inl, inr, ⊎_elim, ◌↔◌, arith, eq-zero-or-pos, eqb, leb-true, le-leb}
+use Rattle.std.proofs.lemmas.Bool.{eqb-false}
 use Rattle.geom.specs.declared.Rect.{Rect}
 use Rattle.geom.specs.Geom.{left, top, width, height, right, bottom, is_empty, contains, within, meets, common}
 use Rattle.geom.specs.inner.Fits.{Fits, Within}
 use Rattle.geom.specs.Bare.{edges_fit}
 use Rattle.geom.specs.Lists.{any_has}
 use Rattle.geom.specs.Rect16.{Small}
-use Rattle.geom.proofs.basics.Tests.{Says, says_and, says_or, says_not, says_eq, same, is_false, clash, both, fst, snd, nor_fst, nor_snd, lt_or_le}
+use Rattle.geom.proofs.basics.Tests.{Says, says_and, says_or, says_eq, same, is_false, clash, both, fst, snd, nor_fst, nor_snd, lt_or_le}
 
 -- the pixel (x, y) is one of r's
 pub record In (r : Rect) (x y : ℕ) : Type 0 where
@@ -98,19 +91,6 @@ common_within a b h = omega arith
 -- rectangles that do not meet have no pixel in common
 pub unmet_has : (a b : Rect) (x y : ℕ) → (Meet a b → ⊥) → contains a x y && contains b x y ≡ false
 unmet_has a b x y n = is_false (λ h. let k = (says_and (says_in a x y) (says_in b x y)).fact h in n (omega arith))
-
--- two rectangles meet if their common part, cut as the code cuts it, has a pixel
-both_some : (p q u v : ℕ) → p < q → u < v → min (q - p) (v - u) ≡ 0 → ⊥
-both_some p q u v h k e = omega arith
-
-some_both : (p q u v : ℕ) → (min (q - p) (v - u) ≡ 0 → ⊥) → (p < q) × (u < v)
-some_both p q u v n = omega arith
-
-pub meets_common : (a b : Rect) → meets a b ≡ not (is_empty (common a b))
-unfolding common
-meets_common a b =
-    same (says_meet a b) (says_not (says_empty (common a b))) (λ h. both_some _ _ _ _ h.wide h.high)
-    (λ n. let m = some_both _ _ _ _ n in record { wide = m.0; high = m.1 })
 
 -- Lists --------------------------------------------------------------------------------------------------------------
 

@@ -1,10 +1,5 @@
 -- The nearest pixel: nearest along each axis by itself, and squares grow with what is squared.
-use Prim.Native.Nat.{ℕ, ◌+◌, ◌*◌, ◌≤◌, ◌<◌}
-use mathlib.Core.Path.{◌≡◌}
-use mathlib.Core.Logic.{◌⊎◌, inl, inr, ⊎_elim}
-use native.Mathlib.Omega.{arith}
-use native.Mathlib.Nat.{mul-le-mul, add-le-add}
-use lib.Dec.{T}
+use Rattle.std.proofs.Common.{ℕ, ◌+◌, ◌*◌, ◌≤◌, ◌<◌, ◌≡◌, ◌⊎◌, inl, inr, ⊎_elim, arith, mul-le-mul, add-le-add, T}
 use Rattle.geom.specs.Geom.{left, top, width, height, right, bottom, contains}
 use Rattle.geom.proofs.basics.Tests.{is_true, holds, lt_or_le}
 use Rattle.geom.proofs.geometry.Facts.{Solid, solid, says_in}

@@ -1,11 +1,6 @@
 -- Rectangles written as numbers: one is a run of four, and lists follow one another.
-use Prim.Native.Nat.{ℕ, suc, ◌+◌, ◌*◌}
-use mathlib.Core.Path.{◌≡◌, refl, ap, ◌∙◌}
-use mathlib.Core.List.{List, [], ◌∷◌, ◌++◌}
-use native.Mathlib.Omega.{arith}
-use native.Mathlib.Nat.{add-zero, add-suc, suc-add}
-use lib.ListN.{length, set}
-use lib.Seq.{sets}
+use Rattle.std.proofs.Common.{ℕ, suc, ◌+◌, ◌*◌, ◌≡◌, refl, ap, ◌∙◌, List, [], ◌∷◌, ◌++◌, arith, add-zero, add-suc, suc-add, length, set}
+use Rattle.std.proofs.Math.Seq.{sets}
 use Rattle.geom.specs.declared.Rect.{Rect}
 use Rattle.geom.specs.Lists.{numbers}
 
@@ -20,15 +15,6 @@ numbers_append (x ∷ xs) ys = rw (numbers_append xs ys) refl
 pub length_numbers : (rs : List Rect) → length (numbers rs) ≡ 4 * length rs
 length_numbers [] = refl
 length_numbers (r ∷ rs) = rw (length_numbers rs) (omega arith)
-
--- the four numbers of one rectangle
-pub four_set : (l : List ℕ) (i : ℕ) (r : Rect)
-    → set (set (set (set l i r.pos.x) (i + 1) r.pos.y) (i + 2) r.dims.w) (i + 3) r.dims.h ≡ sets l i (numbers (r ∷ []))
-four_set l i r =
-    let e1 : i + 1 ≡ suc i = omega arith in
-    let e2 : i + 2 ≡ suc (suc i) = omega arith in
-    let e3 : i + 3 ≡ suc (suc (suc i)) = omega arith in
-    rw (e1, e2, e3) refl
 
 -- the numbers of rectangles from the k-th on, and then of more
 pub written_append : (xs ys : List Rect) (l : List ℕ) (k : ℕ)

@@ -1,9 +1,5 @@
 -- What each entry of `pieces`, `outside` and `outside_all` is: where it lies and in which row it begins.
-use Prim.Native.Nat.{ℕ, ◌<◌, max}
-use mathlib.Core.Path.{◌≡◌, refl}
-use mathlib.Core.List.{List, [], ◌∷◌}
-use mathlib.Core.Logic.{◌⊎◌, inl, inr, ⊎_elim}
-use native.Mathlib.Omega.{arith}
+use Rattle.std.proofs.Common.{ℕ, ◌<◌, max, ◌≡◌, refl, List, [], ◌∷◌, ◌⊎◌, inl, inr, ⊎_elim, arith}
 use Rattle.geom.specs.declared.Rect.{Rect}
 use Rattle.geom.specs.Geom.{top, height, bottom, common, if_any, piece_above, piece_left, piece_right, around, pieces}
 use Rattle.geom.specs.Lists.{outside, outside_all}

@@ -1,11 +1,7 @@
 -- What is left of a rectangle outside others, seen from its corner: which pixels, none twice, and how many rectangles.
-use Prim.Native.Nat.{ℕ, suc, ◌+◌, ◌≤◌}
-use mathlib.Core.Bool.{not, ◌&&◌, ◌||◌, or-false}
-use mathlib.Core.Path.{◌≡◌, refl, ap₂}
-use mathlib.Core.List.{List, [], ◌∷◌, map}
-use native.Mathlib.Omega.{arith}
-use lib.Dec.{ltb}
-use lib.ListN.{length, length-map}
+use Rattle.std.proofs.Common.{ℕ, suc, ◌+◌, ◌≤◌, not, ◌&&◌, ◌||◌, ◌≡◌, refl, ap₂, List, [], ◌∷◌, map, arith, ltb, length}
+use Rattle.std.proofs.Math.Bool.{or-false}
+use Rattle.std.proofs.Math.ListN.{length-map}
 use Rattle.geom.specs.declared.Rect.{Rect}
 use Rattle.geom.specs.Geom.{left, top, width, height, contains}
 use Rattle.geom.specs.Lists.{outside_all, relative, any_has, Disjoint, most}

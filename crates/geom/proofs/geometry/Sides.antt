@@ -1,20 +1,11 @@
 -- A rectangle made of its sides, or of a position and a size: where each number is the rule's, so is the rectangle.
-use Prim.Native.Nat.{ℕ, ◌-◌, min, max}
-use mathlib.Core.Path.{◌≡◌, ◌∙◌}
-use Rattle.geom.specs.declared.Pos.{Pos}
-use Rattle.geom.specs.declared.Dims.{Dims}
+use Rattle.std.proofs.Common.{ℕ, ◌-◌, min, max, ◌≡◌}
 use Rattle.geom.specs.declared.Rect.{Rect}
 use Rattle.geom.specs.Geom.{rect, left, top, right, bottom, union, common}
 
 -- from its left, top, right and bottom
 abbrev pub from_sides : ℕ → ℕ → ℕ → ℕ → Rect
 from_sides x y r s = rect x y (r - x) (s - y)
-
--- as `Rect::new_pd` says of `Pos::new` and `Dims::new`
-pub placed_sized : {r : Rect} {p : Pos} {d : Dims} {x y w h : ℕ} → (r.pos ≡ p) × (r.dims ≡ d) → (p.x ≡ x) × (p.y ≡ y) → (d.w ≡ w) × (d.h ≡ h)
-    → r ≡ rect x y w h
-placed_sized e f g =
-    (λ i. record { pos = e.0 i; dims = e.1 i }) ∙ (λ i. rect (f.0 i) (f.1 i) (g.0 i) (g.1 i))
 
 module _ (a b : Rect) (x y r s : ℕ) where
   pub union_sides : x ≡ min (left a) (left b) → y ≡ min (top a) (top b) → r ≡ max (right a) (right b) → s ≡ max (bottom a) (bottom b)

@@ -15,17 +15,5 @@ pub fn store_fits(len: usize, c: u32) -> bool
 pub fn pixels_fit(w: u32, h: u32, len: usize) -> bool
     ensures { result ≡ leb 1 w && small w && (leb 1 h && small h) && eqb len (w * h) }
 {
-    if w < 1 {
-        return false;
-    }
-    if MOST < w {
-        return false;
-    }
-    if h < 1 {
-        return false;
-    }
-    if MOST < h {
-        return false;
-    }
-    len == w as usize * h as usize
+    1 <= w && (w <= MOST && (1 <= h && (h <= MOST && len == w as usize * h as usize)))
 }

@@ -6,29 +6,26 @@ ghost use Rattle.geom.specs.Bare.{Holds};
 
 use crate::{Pieces, Rect, inner};
 
-pub fn none() -> Pieces
-    ensures { Holds result [] }
-{
-    Pieces {
-        count: 0,
-        rects: [Rect::new(0, 0, 0, 0); 4],
+impl Pieces {
+    fn none() -> Pieces
+        ensures { Holds result [] }
+    {
+        Pieces {
+            count: 0,
+            rects: [Rect::new(0, 0, 0, 0); 4],
+        }
     }
-}
 
-// One more, if it has a pixel.
-fn with(p: Pieces, r: Rect) -> Pieces
-    requires { p.count < 4 }
-    ensures { Added p r result }
-{
-    if inner::is_empty(r) {
-        return p;
-    }
-    let n = p.count;
-    let mut rects = p.rects;
-    rects[n] = r;
-    Pieces {
-        count: n + 1,
-        rects,
+    // One more, if it has a pixel.
+    fn push(&mut self, r: Rect)
+        requires { self.old.count < 4 }
+        ensures { Added self.old r self.new }
+    {
+        if inner::is_empty(r) {
+            return;
+        }
+        self.rects[self.count] = r;
+        self.count += 1;
     }
 }
 
@@ -43,7 +40,12 @@ fn around(a: Rect, i: Rect) -> Pieces
     let right = Rect::new(r, i.pos.y, inner::right(a) - r, i.dims.h);
     let s = inner::bottom(i);
     let below = Rect::new(a.pos.x, s, a.dims.w, inner::bottom(a) - s);
-    with(with(with(with(none(), above), left), right), below)
+    let mut pieces = Pieces::none();
+    pieces.push(above);
+    pieces.push(left);
+    pieces.push(right);
+    pieces.push(below);
+    pieces
 }
 
 // The pieces of `a` outside `b`; where the two do not meet, `a` itself.

@@ -15,6 +15,7 @@ pub struct Rect16 {
 }
 
 impl Rect16 {
+    // No `TryFrom`: it would have an error that no caller can meet, since each proves that its numbers are small.
     pub fn new(x: u32, y: u32, w: u32, h: u32) -> Rect16
         requires { (x ≤ 65535) × (y ≤ 65535) × (w ≤ 65535) × (h ≤ 65535) }
         ensures { rect_of result ≡ rect x y w h }
@@ -27,6 +28,7 @@ impl Rect16 {
         }
     }
 
+    // No `From`: `area.rect().pos` says to what it is turned, and `Rect::from(area).pos` is no plainer.
     pub fn rect(self) -> Rect
         ensures { result ≡ rect_of self }
     {

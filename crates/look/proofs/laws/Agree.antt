@@ -1,6 +1,6 @@
 -- The floats agree with whole quarters, over both axes and all five factors together: of a factor one thing is used, that it and its step multiply to 16.
-use Rattle.std.proofs.Common.{◌≡◌, ℕ, ◌+◌, ◌*◌, ◌<◌, ◌≤◌, Bool, true, false, cond, ◌&&◌, pos, negsuc, sym, refl, ap, ◌∙◌, inl, inr, mul-le-mul_right, mul_assoc, mul_comm, eq-zero-or-pos, mul-le-mul_left, zero-mul, arith, lit≤}
-use lib.Ieee.{Float, binary64, add, mul, div, of_int}
+use Rattle.std.proofs.Common.{◌≡◌, ℕ, ◌+◌, ◌*◌, ◌<◌, ◌≤◌, Bool, true, false, cond, ◌&&◌, pos, negsuc, sym, refl, ap, ◌∙◌, inl, inr, mul-le-mul_right, mul_assoc, mul_comm, eq-zero-or-pos, mul-le-mul_left, zero-mul, arith, lit≤, Float}
+use lib.Ieee.{binary64, add, mul, div, of_int}
 use Rattle.geom.proofs.basics.Tests.{fst, snd}
 use Rattle.look.specs.declared.Sizes.{Sizes}
 use Rattle.look.specs.declared.Steps.{Steps}

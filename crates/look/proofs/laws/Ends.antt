@@ -1,33 +1,32 @@
 -- The ends of a look: what each answer says, and that the rows in whole quarters are the target that the rule says in f64.
-use Rattle.std.proofs.Common.{◌≡◌, ℕ, ◌*◌, ◌≤◌, Bool, true, false, ◌&&◌, eqb, leb, List, length, sym, refl, ap, ◌∙◌, inl, inr, mul-le-mul_right, mul_comm, eq-zero-or-pos, zero-mul, arith, eqb-true, leb-true}
+use Rattle.std.proofs.Common.{◌≡◌, ℕ, ◌*◌, ◌≤◌, Bool, true, false, cond, ◌&&◌, Some, None, eqb, leb, List, length, sym, refl, ap, ◌∙◌, inl, inr, mul-le-mul_right, mul_comm, eq-zero-or-pos, zero-mul, arith, eqb-true, leb-true}
 use Rattle.geom.proofs.basics.Tests.{fst, snd}
 use Rattle.look.specs.declared.Look.{Look}
 use Rattle.look.specs.declared.Sizes.{Sizes}
 use Rattle.look.specs.declared.Steps.{Steps}
-use Rattle.look.specs.declared.whole.Whole.{Whole}
 use Rattle.look.specs.Floats.{allowed}
 use Rattle.look.specs.View.{window_pixel, shown, lens_of, place, view, is_side, target_fits}
 use Rattle.look.specs.Quarters.{steps_of, place_quarters}
 use Rattle.look.specs.Agree.{Small, across, downward, EachPixel}
-use Rattle.look.specs.inner.Steps.{pick_whole, whole_of, Stepping, Looks}
+use Rattle.look.specs.inner.Steps.{whole_of, Stepping, Looks}
 use Rattle.look.proofs.laws.Agree.{same, agree}
 use Rattle.look.proofs.laws.Picture.{length_picture, get_d_picture, picture_ext}
 
 -- What the tests say ----------------------------------------------------------------------------------------------------
 
-pub stepped : (l : Look) (s : Sizes) (t : Steps) → whole_of l s ≡ Whole.Steps t → (allowed l ≡ true) × (steps_of l s ≡ t)
+pub stepped : (l : Look) (s : Sizes) (t : Steps) → whole_of l s ≡ Some t → (allowed l ≡ true) × (steps_of l s ≡ t)
 unfolding whole_of
 stepped l s t e = go (allowed l) e
   where
-    go : (z : Bool) → pick_whole z (Whole.Steps (steps_of l s)) Whole.Wrong ≡ Whole.Steps t → (z ≡ true) × (steps_of l s ≡ t)
+    go : (z : Bool) → cond z (Some (steps_of l s)) None ≡ Some t → (z ≡ true) × (steps_of l s ≡ t)
     go true e = (refl, (cc))
     go false e = let z : ◌≡◌ {A = ℕ} 0 1 = cc in absurd (omega arith)
 
-pub wrong : (l : Look) (s : Sizes) → whole_of l s ≡ Whole.Wrong → allowed l ≡ false
+pub wrong : (l : Look) (s : Sizes) → whole_of l s ≡ None → allowed l ≡ false
 unfolding whole_of
 wrong l s e = go (allowed l) e
   where
-    go : (z : Bool) → pick_whole z (Whole.Steps (steps_of l s)) Whole.Wrong ≡ Whole.Wrong → z ≡ false
+    go : (z : Bool) → cond z (Some (steps_of l s)) None ≡ None → z ≡ false
     go true e = let z : ◌≡◌ {A = ℕ} 0 1 = cc in absurd (omega arith)
     go false e = refl
 

@@ -1,7 +1,7 @@
 -- On floats that are whole quarters the operators are exact, and are those of the quarters.
-use Rattle.std.proofs.Common.{◌≡◌, ℕ, ◌+◌, ◌-◌, ◌*◌, ◌^◌, ◌<◌, ◌≤◌, Bool, true, false, cond, not, ◌&&◌, T, eqb, ltb, pos, sym, ap, ◌∙◌, subst, lt_of_lt_of_le, zero-lt-suc, mul_assoc, mul_comm, add-mul, mul-pos, zero-mul, mul-one, mul_right_comm, arith, lit≤, ltb→lt, nltb→le, shl_lt, ne_eqb}
+use Rattle.std.proofs.Common.{◌≡◌, ℕ, ◌+◌, ◌-◌, ◌*◌, ◌^◌, ◌<◌, ◌≤◌, Bool, true, false, cond, not, ◌&&◌, T, eqb, ltb, pos, sym, ap, ◌∙◌, subst, lt_of_lt_of_le, zero-lt-suc, mul_assoc, mul_comm, add-mul, mul-pos, zero-mul, mul-one, mul_right_comm, arith, lit≤, ltb→lt, nltb→le, shl_lt, ne_eqb, Float}
 use native.Mathlib.Nat.{mul-mul-mul_comm, eq_of_mul-eq-mul_right}
-use lib.Ieee.{Float, nan, inf, fin, binary64, up, down, unlike, round, sum, add, mul, div, of_int}
+use lib.Ieee.{nan, inf, fin, binary64, up, down, unlike, round, sum, add, mul, div, of_int}
 use lib.Ieee.Exact.{HasValue, round_exact}
 use lib.Ieee.Fits.{down_pos}
 use Rattle.look.specs.Quarters.{IsQuarters}

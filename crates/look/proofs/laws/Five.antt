@@ -1,7 +1,7 @@
 -- The five factors: what holds of 1, 2, 4, 8 and 16 quarters holds of each number of quarters that has a step, and those are the factors in f64.
-use Rattle.std.proofs.Common.{◌≡◌, ℕ, ◌*◌, ◌≤◌, Bool, true, false, cond, not, ◌||◌, eqb, ◌≢◌, List, [], ◌∷◌, ℤ, pos, negsuc, sym, refl, ◌∙◌, subst, arith, lit≤, eqb-true}
+use Rattle.std.proofs.Common.{◌≡◌, ℕ, ◌*◌, ◌≤◌, Bool, true, false, cond, not, ◌||◌, eqb, ◌≢◌, List, [], ◌∷◌, ℤ, pos, negsuc, sym, refl, ◌∙◌, subst, arith, lit≤, eqb-true, Float}
 use mathlib.Core.Bool.{false≢true}
-use lib.Ieee.{Float, eq}
+use lib.Ieee.{eq}
 use Rattle.geom.proofs.basics.Lists.{All}
 use Rattle.geom.proofs.basics.Tests.{or_cases, same, says, says_eq, says_not}
 use Rattle.look.specs.Floats.{power, factors, one_of, is_factor, is_corner}

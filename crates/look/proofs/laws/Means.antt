@@ -1,14 +1,12 @@
 -- A float that is q / 4 for a q up to 131,068 is a corner number of q quarters, and no other float is a corner number.
-use Rattle.std.proofs.Common.{◌≡◌, ℕ, ◌*◌, ◌/◌, ◌%◌, ◌<◌, ◌≤◌, Bool, true, false, T, ◌⊎◌, sym, refl, ap, ◌∙◌, inl, inr, mul-le-mul_right, div-add-mod', zero-mul, le_of_mul-le-mul_right, mul-div_cancel, arith}
+use Rattle.std.proofs.Common.{Option, Some, None, cond, ◌≡◌, ℕ, ◌*◌, ◌/◌, ◌%◌, ◌<◌, ◌≤◌, Bool, true, false, T, ◌⊎◌, sym, refl, ap, ◌∙◌, inl, inr, mul-le-mul_right, div-add-mod', zero-mul, le_of_mul-le-mul_right, mul-div_cancel, arith, Float}
 use native.Mathlib.Nat.{mul-mod_left, eq_of_mul-eq-mul_right}
 use mathlib.Core.Bool.{false≢true}
-use lib.Ieee.{Float, nan, inf, fin, up, down}
+use lib.Ieee.{nan, inf, fin, up, down}
 use lib.Ieee.Fits.{down_pos}
 use Rattle.geom.proofs.basics.Tests.{Says, says, says_and, says_or, says_not, says_le, says_eq, is_true}
 use Rattle.look.specs.Floats.{in_range, is_corner}
-use Rattle.look.specs.Quarters.{IsQuarters, quarters, pick, quarters_of}
-use Rattle.look.specs.declared.quarters.Quarters.{Quarters}
-use Rattle.look.specs.declared.quarters.Quarters.TheVariants.{Of, None}
+use Rattle.look.specs.Quarters.{IsQuarters, quarters, quarters_of}
 
 -- The fraction n / d with the sign s -------------------------------------------------------------------------------------
 
@@ -64,18 +62,18 @@ corner (fin s m e) q h l = back s (m * up e) (down e) (down_pos e) q h.0 h.1 l
 
 -- what the code hands back ---------------------------------------------------------------------------------------------------
 
-picked : (z : Bool) (a b : Quarters) → z ≡ true → pick z a b ≡ a
+picked : (z : Bool) (a b : Option ℕ) → z ≡ true → cond z a b ≡ a
 picked true a b e = refl
 picked false a b e = absurd (false≢true e)
 
-pub given : (x : Float) (q : ℕ) → IsQuarters x q → q ≤ 131068 → quarters_of x ≡ Of q
+pub given : (x : Float) (q : ℕ) → IsQuarters x q → q ≤ 131068 → quarters_of x ≡ Some q
 unfolding quarters_of
-given x q h l = picked (is_corner x) (Of (quarters x)) None (corner x q h l) ∙ ap Of (counted x q h)
+given x q h l = picked (is_corner x) (Some (quarters x)) None (corner x q h l) ∙ ap Some (counted x q h)
 
 pub refused : (x : Float) → ((q : ℕ) → IsQuarters x q → q ≤ 131068 → ⊥) → None ≡ quarters_of x
 unfolding quarters_of
 refused x never = go (is_corner x) (λ t. never (quarters x) (found x t).0 (found x t).1)
   where
-    go : (z : Bool) → (z ≡ true → ⊥) → None ≡ pick z (Of (quarters x)) None
+    go : (z : Bool) → (z ≡ true → ⊥) → None ≡ cond z (Some (quarters x)) None
     go true k = absurd (k refl)
     go false k = refl

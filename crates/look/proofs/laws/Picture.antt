@@ -1,7 +1,8 @@
 -- Lines and pictures by their entries: pixel i of a line is f i, and pixel j * w + i of a picture is f i j.
 use Rattle.std.proofs.Common.{◌≡◌, ℕ, zero, suc, ◌+◌, ◌-◌, ◌*◌, ◌<◌, ◌≤◌, ◌⊎◌, List, [], ◌∷◌, ◌++◌, length, get_or, drop, set, replicate, sym, refl, ap, ◌∙◌, inl, inr, append_assoc, append-nil, mul-le-mul_right, suc-mul, zero-mul, add-one, arith, length-append, length-drop, drop_of_length-le, get_or-drop, get_or-take, drop-drop, get_or-append-add, ext_get_or}
-use lib.ListN.{length-replicate, get_or-append}
-use lib.Seq.{sets}
+use Rattle.std.proofs.lemmas.List.{length-replicate}
+use Rattle.std.proofs.lemmas.List.Edits.{sets}
+use lib.ListN.{get_or-append}
 use Rattle.geom.proofs.basics.Tests.{lt_or_le}
 use Rattle.geom.proofs.basics.Lists.{get_d_default}
 use Rattle.scanline.specs.Pixels.{part}

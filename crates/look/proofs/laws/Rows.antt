@@ -1,7 +1,7 @@
 -- A row of the target as the code writes it is the row of the rule.
 use Rattle.std.proofs.Common.{◌≡◌, ℕ, ◌+◌, ◌-◌, ◌*◌, ◌/◌, ◌<◌, ◌≤◌, Bool, true, false, cond, ◌&&◌, ltb, List, length, get_or, replicate, sym, refl, ap, ◌∙◌, mul-le-mul_right, suc-mul, arith, le-ltb, lt-ltb}
+use Rattle.std.proofs.lemmas.List.Edits.{sets}
 use native.Mathlib.Nat.{sub-zero}
-use lib.Seq.{sets}
 use Rattle.scanline.specs.Pixels.{part}
 use Rattle.scanline.proofs.rows.Runs.{sets_append}
 use Rattle.look.specs.View.{line, window_pixel}

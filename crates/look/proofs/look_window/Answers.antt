@@ -39,14 +39,14 @@ pub returns-in_default : goal.returns-in_default
 returns-in_default c =
     let a = c.args in
     let s : Sizes = record { w = a.w; h = a.h; tw = a.tw; th = a.th } in
-    says_22 a.look s a.base a.store.now a.target.now (wrong a.look s (sym c.whole_of-whole.ensures ∙ c.in_default.is))
+    says_22 a.look s a.base a.store.now a.target.now (wrong a.look s (sym c.whole_of.ensures ∙ c.in_default.is))
 
 pub returns-then-not-pixels_fit : goal.returns-then-not-pixels_fit
 returns-then-not-pixels_fit c =
     let a = c.args in
     let s : Sizes = record { w = a.w; h = a.h; tw = a.tw; th = a.th } in
     says_23 a.look s a.base a.store.now a.target.now
-    (stepped a.look s _ (sym c.whole_of-whole.ensures ∙ c.in-Steps.is)).0
+    (stepped a.look s _ (sym c.whole_of.ensures ∙ c.in-Some.is)).0
     (asks_23 (length a.target.now) a.tw a.th ∙ sym c.pixels_fit.ensures ∙ c.if-not-pixels_fit.true)
 
 -- the sizes, where both questions are answered
@@ -60,7 +60,7 @@ look_rows-requires c =
     let f : target_fits (length a.target.now) a.tw a.th ≡ true =
     asks_23 (length a.target.now) a.tw a.th ∙ sym c.pixels_fit.ensures ∙ c.if-not-pixels_fit.false in
     let m = small s (length a.target.now) c.requires.0 c.requires.1 f in
-    (steps_on a.look s _ (stepped a.look s _ (sym c.whole_of-whole.ensures ∙ c.in-Steps.is)) m, (fitting (length a.target.now) a.tw a.th f).2, m.th, c.requires.2)
+    (steps_on a.look s _ (stepped a.look s _ (sym c.whole_of.ensures ∙ c.in-Some.is)) m, (fitting (length a.target.now) a.tw a.th f).2, m.th, c.requires.2)
 
 pub returns : goal.returns
 returns c =
@@ -69,4 +69,4 @@ returns c =
     let f : target_fits (length a.target.now) a.tw a.th ≡ true =
     asks_23 (length a.target.now) a.tw a.th ∙ sym c.pixels_fit.ensures ∙ c.if-not-pixels_fit.false in
     let m = small s (length a.target.now) c.requires.0 c.requires.1 f in
-    written a.look s _ (stepped a.look s _ (sym c.whole_of-whole.ensures ∙ c.in-Steps.is)) m a.base a.store.now a.target.now _ f c.look_rows.ensures
+    written a.look s _ (stepped a.look s _ (sym c.whole_of.ensures ∙ c.in-Some.is)) m a.base a.store.now a.target.now _ f c.look_rows.ensures

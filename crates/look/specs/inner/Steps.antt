@@ -1,37 +1,23 @@
 -- What our own functions say.
-use Rattle.std.specs.Prelude.{◌≡◌, ℕ, ◌+◌, ◌-◌, ◌^◌, ◌<◌, ◌≤◌, Bool, true, false, cond, List, [], ◌∷◌, ◌++◌, length, replicate, ◌==◌, slice_index}
+use Rattle.std.specs.Prelude.{◌≡◌, ℕ, ◌+◌, ◌-◌, ◌<◌, ◌≤◌, cond, Option, Some, None, List, [], ◌∷◌, ◌++◌, length, replicate, ◌==◌, slice_index}
 use Rattle.geom.specs.Questions.{◌is◌, asked}
 use Rattle.look.specs.declared.Look.{Look}
 use Rattle.look.specs.declared.Sizes.{Sizes}
 use Rattle.look.specs.declared.Steps.{Steps}
-use Rattle.look.specs.declared.quarters.Quarters.{Quarters}
-use Rattle.look.specs.declared.quarters.Quarters.TheVariants.{Of, None}
-use Rattle.look.specs.declared.whole.Whole.{Whole}
 use Rattle.look.specs.Floats.{allowed}
 use Rattle.look.specs.View.{line, view, target_fits}
 use Rattle.look.specs.Quarters.{step_of, steps_of, place_quarters}
 
--- sizes whose products are below 2 ^ 64
-pub record Countable (s : Sizes) : Type 0 where
-  pub w : s.w ≤ 65535
-  pub h : s.h ≤ 65535
-  pub tw : s.tw < 2 ^ 32
-  pub th : s.th < 2 ^ 32
-
-abbrev pub pick_whole : Bool → Whole → Whole → Whole
-pick_whole true a b = a
-pick_whole false a b = b
-
 -- of the factor, x and y
-abbrev pub joined_of : Quarters → Quarters → Quarters → Whole
-joined_of (Of f) (Of x) (Of y) = pick_whole (step_of f == 0) Whole.Wrong (Whole.Steps (record { x = x; y = y; step = step_of f }))
-joined_of (Of f) (Of x) None = Whole.Wrong
-joined_of (Of f) None y = Whole.Wrong
-joined_of None x y = Whole.Wrong
+abbrev pub joined_of : Option ℕ → Option ℕ → Option ℕ → Option Steps
+joined_of (Some f) (Some x) (Some y) = cond (step_of f == 0) None (Some (record { x = x; y = y; step = step_of f }))
+joined_of (Some f) (Some x) None = None
+joined_of (Some f) None y = None
+joined_of None x y = None
 
 -- question 22, and the look in whole quarters
-unfoldable pub whole_of : Look → Sizes → Whole
-whole_of l s = pick_whole (allowed l) (Whole.Steps (steps_of l s)) Whole.Wrong
+unfoldable pub whole_of : Look → Sizes → Option Steps
+whole_of l s = cond (allowed l) (Some (steps_of l s)) None
 
 -- the first n of tw columns lie in a window w wide, and the others do not
 pub record Columns (w x step tw n : ℕ) : Type 0 where

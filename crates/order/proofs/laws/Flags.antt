@@ -1,15 +1,6 @@
 -- The windows shown, by their numbers: the flags, or the places, of the places passed so far.
-use Prim.Native.Nat.{ℕ, zero, suc, ◌+◌, ◌<◌}
-use mathlib.Core.Path.{◌≡◌, refl, sym, ap, ◌∙◌}
-use mathlib.Core.Bool.{Bool, true, false, ◌||◌, or-false}
-use mathlib.Core.List.{List, [], ◌∷◌, ◌++◌}
-use mathlib.Core.Logic.{◌⊎◌, inl, inr, ⊎_elim}
-use native.Mathlib.Omega.{arith}
-use native.Mathlib.Numerals.{add-one}
-use native.Mathlib.Nat.{not-suc-le-zero}
-use lib.Dec.{eqb}
-use lib.ListN.{length, get_or, set, replicate, length-set}
-use borrow.Author.Tests.{eq-eqb, ne_eqb}
+use Rattle.std.proofs.Common.{ℕ, zero, suc, ◌+◌, ◌<◌, ◌≡◌, refl, sym, ap, ◌∙◌, Bool, true, false, ◌||◌, List, [], ◌∷◌, ◌++◌, ◌⊎◌, inl, inr, ⊎_elim, arith, add-one, not-suc-le-zero, eqb, length, get_or, set, replicate, length-set, eq-eqb, ne_eqb}
+use Rattle.std.proofs.Math.Bool.{or-false}
 use Rattle.geom.proofs.basics.Tests.{or_right}
 use Rattle.geom.proofs.basics.Lists.{set_in}
 use Rattle.window.specs.declared.ids.WinId.{WinId}
@@ -21,11 +12,11 @@ use Rattle.order.specs.inner.Order.{Marks, Places}
 use Rattle.order.proofs.laws.Order.{ids_snoc}
 
 -- one place more
-module _ (order : List WinId) (p : ℕ) (v : WinId) (n : length order ≡ 16) (l : p < 16) (read : v ≡ get_or order p no_id) (low : v.0 < 16) where
+module _ (order : List WinId) (p : ℕ) (v : WinId) (l : p < length order) (read : v ≡ get_or order p no_id) (low : v.0 < 16) where
   longer : (i : ℕ) → is_in i (ids (p + 1) order) ≡ is_in i (ids p order) || eqb v.0 i
   longer i =
       let e : ids (p + 1) order ≡ ids p order ++ (v.0 ∷ []) =
-      rw add-one (ids_snoc order p (omega (arith, n)) ∙ ap (λ (w : WinId). ids p order ++ (w.0 ∷ [])) (sym read)) in
+      rw add-one (ids_snoc order p l ∙ ap (λ (w : WinId). ids p order ++ (w.0 ∷ [])) (sym read)) in
       ap (is_in i) e ∙ is_in_append i (ids p order) (v.0 ∷ []) ∙ rw or-false refl
 
   other : (i : ℕ) → (i ≡ v.0 → ⊥) → is_in i (ids (p + 1) order) ≡ is_in i (ids p order)

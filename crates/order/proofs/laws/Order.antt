@@ -1,26 +1,29 @@
 -- The render order in its array: the search for a window's place, and the gap that a hidden window leaves.
-use Prim.Native.Nat.{ℕ, zero, suc, ◌+◌, ◌-◌, ◌≤◌, ◌<◌}
-use mathlib.Core.Path.{◌≡◌, refl, sym, ap, ◌∙◌}
-use mathlib.Core.Bool.{Bool, true, false, cond}
-use mathlib.Core.List.{List, [], ◌∷◌, ◌++◌, map, append-nil, append_assoc, map-append}
-use mathlib.Core.Option.{none, some}
-use mathlib.Core.Logic.{⊎_elim}
-use native.Mathlib.Omega.{arith}
-use native.Mathlib.Numerals.{add-one}
-use native.Mathlib.Nat.{not-suc-le-zero}
-use lib.Dec.{eqb}
-use lib.ListN.{length, get_or, set, take, drop, length-map, length-take, length-set, drop_of_length-le, get_or-map}
-use lib.Seq.{drop-cons, get_or-take, length-take-le, take-take, take-suc, take-suc-set, drop-append-le}
-use borrow.Author.Tests.{eq-eqb}
+use Rattle.std.specs.Prelude as Std
+use Rattle.std.proofs.Common.{ℕ, zero, suc, ◌+◌, ◌-◌, ◌≤◌, ◌<◌, ◌≡◌, refl, sym, ap, ◌∙◌, Bool, true, false, cond, Some, None, List, [], ◌∷◌, ◌++◌, map, eqb, ltb, ltb-true, ltb-false, length, get_or, take, drop, option_map, arith, add-one, length-drop, drop_of_length-le, drop-cons, get_or-take, length-take-le, take-take, take-suc, take_all, ⊎_elim, not-suc-le-zero}
+use Rattle.std.proofs.lemmas.List.{map-append}
+use Rattle.std.proofs.Math.ListN.{length-map, get_or-map}
+use Rattle.std.proofs.Math.Option.{none, some}
+use Rattle.std.proofs.Math.Seq.{paste}
+use Rattle.std.specs.List.{position_or_len}
+use Rattle.std.proofs.lemmas.List.Edits.{length-paste, take-paste}
+use Rattle.std.proofs.lemmas.List.{drop-take}
+use Rattle.std.proofs.lemmas.List.Recursion.{is_position_or_len}
+use Rattle.geom.specs.declared.inner.rect16.Rect16.{Rect16}
 use Rattle.geom.proofs.basics.Tests.{clash, lt_or_le, or_right}
 use Rattle.window.specs.declared.ids.WinId.{WinId}
 use Rattle.window.specs.inner.Ids.{no_id}
 use Rattle.rules.specs.Order.{is_in, place_of, without}
 use Rattle.rules.proofs.group.Order.{is_in_here}
 use Rattle.rules.proofs.group.Room.{shown_place, hidden_place}
-use Rattle.order.specs.Ids.{num, ids}
-use Rattle.order.specs.inner.Order.{render_idx, Closed}
+use Rattle.order.specs.Ids.{num, nums, ids}
+use Rattle.order.specs.inner.Frames.{Shown}
+use Rattle.order.specs.inner.Order.{idx_of, render_idx, Closed}
 use Rattle.order.specs.inner.Layers.{first_of}
+
+-- the windows that are shown, as they are lent
+pub nums_all : (l : List WinId) → ids (length l) l ≡ nums l
+nums_all l = ap nums (take_all (length l) l (omega arith))
 
 pub ids_length : (n : ℕ) (l : List WinId) → n ≤ length l → length (ids n l) ≡ n
 ids_length n l h = length-map (take n l) num ∙ length-take-le n l h
@@ -44,6 +47,10 @@ is_in_at (x ∷ o) (suc i) h = or_right (eqb x (get_or o i 0)) (is_in (get_or o 
 pub in_at : (order : List WinId) (n i : ℕ) → n ≤ length order → i < n → is_in (get_or order i no_id).0 (ids n order) ≡ true
 in_at order n i k h = ap (λ (j : ℕ). is_in j (ids n order)) (sym (ids_at n i order h)) ∙ is_in_at (ids n order) i (omega (arith, h, ids_length n order k))
 
+-- the same of the windows that are lent
+pub num_in : (l : List WinId) (i : ℕ) → i < length l → is_in (get_or l i no_id).0 (nums l) ≡ true
+num_in l i h = rw (← get_or-map num l i no_id) (is_in_at (nums l) i (omega (arith, h, length-map l num)))
+
 -- The search for a place ----------------------------------------------------------------------------------------------
 
 -- a window that has a place stands there
@@ -64,82 +71,84 @@ is_nowhere id o = go (is_in id o) refl
 pub place_low : (id : ℕ) (o : List ℕ) → is_in id o ≡ true → place_of id o < length o
 place_low id o i = ⊎_elim (λ l. l) (λ l. clash i (hidden_place id o l)) (lt_or_le (place_of id o) (length o))
 
+-- what is kept of the windows shown holds of those lent
+pub shown_front : (areas : List Rect16) (order : List WinId) (n : ℕ) → Shown areas order n → length order ≡ 16
+    → Shown areas (take n order) (length (take n order))
+shown_front areas order n s e =
+    let many : length (take n order) ≡ n = length-take-le n order (omega (arith, s.few, e)) in
+    record {
+      few = omega (arith, many, s.few);
+      low = λ p h. let l : p < n = omega (arith, many) in rw (get_or-take n order p no_id l) (s.low p l);
+      small = s.small;
+    }
+
 -- the first i do not pass the test
-pub record Seeking (order : List WinId) (n : ℕ) (t : ℕ → Bool) (i : ℕ) : Type 0 where
-  pub size : length order ≡ 16
-  pub few : n ≤ 16
-  pub within : i ≤ n
-  pub so_far : first_of t (ids n order) ≡ i + first_of t (drop i (ids n order))
+pub record Seeking (l : List WinId) (t : ℕ → Bool) (i : ℕ) : Type 0 where
+  pub within : i ≤ length l
+  pub so_far : first_of t (nums l) ≡ i + first_of t (drop i (nums l))
 
-module _ {order : List WinId} {n : ℕ} {t : ℕ → Bool} {i : ℕ} (q : Seeking order n t i) where
-  pub count : length (ids n order) ≡ n
-  count = ids_length n order (omega (arith, q.size, q.few))
+module _ {l : List WinId} {t : ℕ → Bool} {i : ℕ} (q : Seeking l t i) where
+  next : i < length l → drop i (nums l) ≡ (get_or l i no_id).0 ∷ drop (suc i) (nums l)
+  next h =
+      drop-cons (nums l) i 0 (omega (arith, length-map l num)) ∙ ap (λ (e : ℕ). e ∷ drop (suc i) (nums l)) (get_or-map num l i no_id)
 
-  next : i < n → drop i (ids n order) ≡ (get_or order i no_id).0 ∷ drop (suc i) (ids n order)
-  next h = ids_from order n i (omega (arith, q.size, q.few)) h
-
-  pub seek_hit : i < n → t (get_or order i no_id).0 ≡ true → i ≡ first_of t (ids n order)
+  pub seek_hit : i < length l → t (get_or l i no_id).0 ≡ true → i ≡ first_of t (nums l)
   seek_hit h e =
-      let z : first_of t (drop i (ids n order)) ≡ 0 = rw (next h, e) refl in
+      let z : first_of t (drop i (nums l)) ≡ 0 = rw (next h, e) refl in
       omega (arith, q.so_far)
 
-  pub seek_miss : i < n → t (get_or order i no_id).0 ≡ false → Seeking order n t (i + 1)
+  pub seek_miss : i < length l → t (get_or l i no_id).0 ≡ false → Seeking l t (i + 1)
   seek_miss h e =
-      let z : first_of t (drop i (ids n order)) ≡ suc (first_of t (drop (suc i) (ids n order))) = rw (next h, e) refl in
-      record { size = q.size; few = q.few; within = omega arith; so_far = rw add-one (omega (arith, q.so_far)) }
+      let z : first_of t (drop i (nums l)) ≡ suc (first_of t (drop (suc i) (nums l))) = rw (next h, e) refl in
+      record { within = omega arith; so_far = rw add-one (omega (arith, q.so_far)) }
 
-  pub seek_end : n ≤ i → n ≡ first_of t (ids n order)
+  pub seek_end : length l ≤ i → length l ≡ first_of t (nums l)
   seek_end h =
-      let z : drop i (ids n order) ≡ [] = drop_of_length-le (ids n order) {i = i} (omega (arith, count)) in
-      let y : first_of t (drop i (ids n order)) ≡ 0 = ap (first_of t) z in
+      let z : drop i (nums l) ≡ [] = drop_of_length-le (nums l) {i = i} (omega (arith, length-map l num)) in
+      let y : first_of t (drop i (nums l)) ≡ 0 = ap (first_of t) z in
       omega (arith, q.so_far, q.within)
 
--- a window's place is that of the first id that is its own
-place_first : (id : ℕ) (o : List ℕ) → place_of id o ≡ first_of (λ j. eqb j id) o
-place_first id [] = refl
-place_first id (x ∷ o) = ap (λ (p : ℕ). cond (eqb x id) 0 (suc p)) (place_first id o)
+-- the place that a search gives
+pub place_found : (id : ℕ) (l : List WinId) (r : Std.Option ℕ)
+    → r ≡ cond (ltb (position_or_len (λ w. eqb w.0 id) l) (length l)) (Some (position_or_len (λ w. eqb w.0 id) l)) None
+    → idx_of (option_map (λ p. record { 0 = p }) r) ≡ render_idx id (nums l)
+place_found id l r is = rw is (go (ltb p (length l)) refl)
+  where
+    p : ℕ
+    p = position_or_len (λ w. eqb w.0 id) l
 
-module _ {order : List WinId} {n i : ℕ} (id : ℕ) (q : Seeking order n (λ j. eqb j id) i) where
-  pub place_hit : i < n → (get_or order i no_id).0 ≡ id → some i ≡ render_idx id (ids n order)
-  place_hit h e =
-      let p : i ≡ place_of id (ids n order) = seek_hit q h (eq-eqb (get_or order i no_id).0 id e) ∙ sym (place_first id (ids n order)) in
-      rw (shown_place id (ids n order) (omega (arith, count q))) (ap some p)
+    first : place_of id (nums l) ≡ p
+    first = is_position_or_len (λ l. place_of id (nums l)) (λ w. eqb w.0 id) refl (λ w l. one (eqb w.0 id) (place_of id (nums l))) l
+      where
+        one : (b : Bool) (n : ℕ) → cond b 0 (suc n) ≡ cond b 0 (1 + n)
+        one true n = refl
+        one false n = omega arith
 
-  pub place_end : n ≤ i → none ≡ render_idx id (ids n order)
-  place_end h = rw (hidden_place id (ids n order) (omega (arith, seek_end q h, place_first id (ids n order), count q)))
+    go : (b : Bool) → ltb p (length l) ≡ b → idx_of (option_map (λ p. record { 0 = p }) (cond b (Some p) None)) ≡ render_idx id (nums l)
+    go true e = rw (shown_place id (nums l) (omega (arith, ltb-true p (length l) e, first, length-map l num))) (ap some (sym first))
+    go false e = rw (hidden_place id (nums l) (omega (arith, ltb-false p (length l) e, first, length-map l num))) refl
+
+pub part : {A : Type 0} (n m : ℕ) (l : List A) → n ≤ m → drop n (take m l) ≡ take (m - n) (drop n l)
+part n m l h =
+    let s : m ≡ n + (m - n) = omega arith in
+    ap (λ (k : ℕ). drop n (take k l)) s ∙ drop-take n (m - n) l
 
 -- A gap closed ------------------------------------------------------------------------------------------------------
 
--- the order as the gap at p is closed, up to i
-pub record Closing (shown p : ℕ) (order next : List WinId) (i : ℕ) : Type 0 where
-  pub room : shown ≤ 16
-  pub size : length order ≡ 16
-  pub kept : length next ≡ 16
-  pub from : p ≤ i
-  pub within : i + 1 ≤ shown
-  pub so_far : take i next ≡ take p order ++ drop (suc p) (take (suc i) order)
-
-pub close : (shown p : ℕ) (order : List WinId) → shown ≤ 16 → length order ≡ 16 → p < shown → Closing shown p order order p
-close shown p order h e l =
-    let n : drop (suc p) (take (suc p) order) ≡ [] = drop_of_length-le (take (suc p) order) {i = suc p} (omega (arith, length-take (suc p) order)) in
-    record { room = h; size = e; kept = e; from = omega arith; within = omega arith; so_far = rw (n, append-nil) }
-
-module _ {shown p : ℕ} {order next : List WinId} {i : ℕ} (q : Closing shown p order next i) where
-  pub close_more : i + 1 < shown → Closing shown p order (set next i (get_or order (i + 1) no_id)) (i + 1)
-  close_more h =
-      let e : length (set next i (get_or order (i + 1) no_id)) ≡ 16 = length-set next i _ ∙ q.kept in
-      let l : suc p ≤ length (take (i + 1) order) = omega (arith, length-take (i + 1) order) in
-      let m : i + 1 < length order = omega arith in
-      let n : i < length next = omega arith in
-      let f : take (i + 1) (set next i (get_or order (i + 1) no_id)) ≡ take p order ++ drop (suc p) (take (suc (i + 1)) order) =
-      rw (take-suc order (i + 1) no_id, drop-append-le (suc p) (take (i + 1) order) (get_or order (i + 1) no_id ∷ []) l, add-one, take-suc-set, q.so_far, append_assoc) in
-      record { room = q.room; size = q.size; kept = e; from = omega arith; within = omega arith; so_far = f }
-
-  pub close_end : shown ≤ i + 1 → Closed order shown p next
-  close_end h =
-      let e : shown ≡ suc i = omega arith in
-      let f : suc i - 1 ≡ i = omega arith in
-      record { all = q.kept; front = rw (e, f) q.so_far }
+-- the windows above the place were copied one down
+pub closes : (order : List WinId) (shown p : ℕ) → length order ≡ 16 → shown ≤ 16 → p < shown
+    → Closed order shown p (paste order p (drop (p + 1) order) (shown - (p + 1)))
+closes order shown p size few low =
+    let n : p + (shown - (p + 1)) ≡ shown - 1 = omega arith in
+    let s : length (drop (p + 1) order) ≡ 16 - (p + 1) = length-drop (p + 1) order ∙ ap (λ (k : ℕ). k - (p + 1)) size in
+    record {
+      all = length-paste order p (drop (p + 1) order) (shown - (p + 1)) (omega arith) (omega arith) ∙ size;
+      front =
+          ap (λ (k : ℕ). take k (paste order p (drop (p + 1) order) (shown - (p + 1)))) (sym n)
+          ∙ take-paste order p (drop (p + 1) order) (shown - (p + 1)) (omega arith) (omega arith)
+          ∙ ap (λ (t : List WinId). take p order ++ t) (sym (part (p + 1) shown order (omega arith)))
+          ∙ rw add-one refl;
+    }
 
 -- the order without an id is the order without its place
 pub without_place : (id : ℕ) (l : List ℕ) → without id l ≡ take (place_of id l) l ++ drop (suc (place_of id l)) l

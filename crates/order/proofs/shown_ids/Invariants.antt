@@ -1,11 +1,7 @@
--- The windows below place i have their flags.
-use Prim.Native.Nat.{◌-◌, ◌≤◌}
+-- The windows so far have their flags.
 use Rattle.order.specs.Ids.{ids}
 use Rattle.order.specs.inner.Order.{Marks}
 use Rattle.order.proofs.shown_ids.Given as goal
 
-abbrev pub invariant-loop-i : goal.invariant-loop-i
-invariant-loop-i l = (l.i ≤ l.shown) × Marks l.flags (ids l.i l.order)
-
-abbrev pub decreases-loop-i : goal.decreases-loop-i
-decreases-loop-i l = l.shown - l.i
+abbrev pub invariant-loop-id : goal.invariant-loop-id
+invariant-loop-id l = Marks l.flags (ids l.id-index l.shown)

@@ -1,5 +1,5 @@
 -- Where the windows are, by their numbers.
-use Rattle.std.specs.Prelude.{ℕ, ◌≤◌, ◌<◌, ◌≡◌, Bool, true, false, List, get_or}
+use Rattle.std.specs.Prelude.{ℕ, ◌≤◌, ◌<◌, ◌≡◌, Bool, true, false, Option, Some, None, List, get_or}
 use Rattle.geom.specs.declared.Rect.{Rect}
 use Rattle.geom.specs.declared.inner.rect16.Rect16.{Rect16}
 use Rattle.geom.specs.Rect16.{rect_of, no_rect16, Small}
@@ -21,3 +21,8 @@ pub record FirstFree (used : List Bool) (at : ℕ) : Type 0 where
   pub inside : at < 16
   pub before : get_or used at false ≡ false → (j : ℕ) → j < at → get_or used j false ≡ true
   pub full : get_or used at false ≡ true → (j : ℕ) → j < 16 → get_or used j false ≡ true
+
+-- the same, if there is one
+abbrev pub FirstFreeIn : List Bool → Option ℕ → Type 0
+FirstFreeIn used (Some at) = FirstFree used at × (get_or used at false ≡ false)
+FirstFreeIn used None = (j : ℕ) → j < 16 → get_or used j false ≡ true

@@ -1,17 +1,18 @@
 -- The render order as the code reads it: the place of a window, and the order without one.
 use Rattle.std.specs.Prelude.{ℕ, suc, ◌-◌, ◌<◌, ◌≡◌, Bool, false, cond, ◌⊎◌, List, ◌++◌, length, get_or, take, drop}
+use Rattle.std.specs.Prelude as Std
+use Rattle.std.specs.Prelude.{None, Some}
 use Rattle.std.proofs.Math.Option.{Option, none, some}
+use Rattle.window.specs.declared.ids.Place.{Place}
 use Rattle.window.specs.declared.ids.WinId.{WinId}
 use Rattle.window.specs.inner.Ids.{no_id}
 use Rattle.rules.specs.Order.{is_in, place_of}
 use Rattle.order.specs.Ids.{ids}
-use Rattle.order.specs.declared.RenderIdx.{RenderIdx}
-use Rattle.order.specs.declared.RenderIdx.TheVariants.{At, Hidden}
 
 -- the place of a window, which a hidden one has not
-abbrev pub idx_of : RenderIdx → Option ℕ
-idx_of (At p) = some p.0
-idx_of Hidden = none
+abbrev pub idx_of : Std.Option Place → Option ℕ
+idx_of (Some p) = some p.0
+idx_of None = none
 
 -- the same by the rule, in the order o
 abbrev pub render_idx : ℕ → List ℕ → Option ℕ
@@ -26,6 +27,11 @@ pub record Closed (order : List WinId) (n p : ℕ) (r : List WinId) : Type 0 whe
 pub record Marks (flags : List Bool) (o : List ℕ) : Type 0 where
   pub all : length flags ≡ 16
   pub each : (i : ℕ) → i < 16 → get_or flags i false ≡ is_in i o
+
+-- the number of a place, and 16 for none
+abbrev pub place_or_16 : Std.Option Place → ℕ
+place_or_16 (Some p) = p.0
+place_or_16 None = 16
 
 -- each of the 16 numbers has a place of the first n where the order holds it, or 16 if none does
 pub record Places (order : List WinId) (n : ℕ) (places : List ℕ) : Type 0 where

@@ -1,12 +1,5 @@
 -- The rule of the table of dimming is a test at each of its 256 entries, which is computed.
-use Prim.Native.Nat.{ℕ}
-use mathlib.Core.Path.{◌≡◌}
-use mathlib.Core.Bool.{Bool, true}
-use mathlib.Core.List.{List}
-use native.Mathlib.Omega.{arith}
-use lib.Dec.{eqb}
-use lib.ListN.{length}
-use borrow.Author.Tests.{eqb-true}
+use Rattle.std.proofs.Common.{ℕ, ◌≡◌, Bool, true, List, arith, eqb, length, eqb-true}
 use Rattle.geom.proofs.basics.Tables.{every, at}
 use Rattle.paint.specs.Shade.{entry}
 use Rattle.paint.specs.inner.Table.{Entries}

@@ -1,6 +1,6 @@
 -- The last arm of a match: what is known of a kind that no other arm has.
 use Prim.Native.Nat.{ℕ, zero, suc, ◌+◌, ◌-◌, ◌≤◌, ◌<◌}
-use mathlib.Core.Path.{◌≡◌, refl, sym, ap, ◌∙◌}
+use mathlib.Core.Path.{◌≡◌, refl, ap, ◌∙◌}
 use mathlib.Core.Bool.{Bool, true, false, ◌&&◌, ◌||◌}
 use mathlib.Core.List.{List, [], ◌∷◌}
 use mathlib.Core.Option.{Option}
@@ -11,17 +11,22 @@ use lib.ListN.{take}
 use borrow.Author.Tests.{eqb-true, eqb-false, ne_eqb, leb-true, lt-leb}
 use Rattle.geom.proofs.basics.Tests.{fst, snd, clash}
 use Rattle.script.specs.Kind as Kind
+use Rattle.script.specs.Kind.{code_of}
+use Rattle.script.specs.declared.kind.Kind.{Kind as AKind}
+use Rattle.script.specs.declared.kind.Kind.TheVariants as kind
+use Rattle.script.proofs.laws.Kinds.{code_one}
+use Rattle.replay.proofs.laws.Nexts.{onward, makes}
 use Rattle.rules.specs.Calls.{Call, does}
 use Rattle.windows.specs.declared.Session.{Session}
-use Rattle.windows.specs.declared.Done.{Done}
-use Rattle.windows.specs.View.{group, Meets}
-use Rattle.answer_text.specs.Text.{Piece, line}
+use Rattle.windows.specs.View.{group, done, Meets}
+use Rattle.answer_text.specs.Text.{line}
+use Rattle.answer_text.specs.Added.{Output, Says, waits}
 use Rattle.answer_text.proofs.laws.Added.{same}
 use Rattle.replay.specs.declared.player.Player.{Player}
 use Rattle.replay.specs.Ready.{Ready, Next}
 use Rattle.replay.specs.Played.{Pixels, pixels, Makes, Stores, Writes, stores}
 use Rattle.script.specs.declared.shape.Line.{Line}
-use Rattle.replay.specs.Called.{Picked, store_call, window_calls, kinds, is_one, within, routes, is_plain, OnScreen, OnTarget, is_lent}
+use Rattle.replay.specs.Called.{Picked, store_call, window_calls, kinds, is_one, within, routes, is_plain, Resizes, OnScreen, OnTarget, is_lent}
 
 -- B, and k is none of the numbers: what a match's last arm knows
 abbrev pub NoneOf : ℕ → Type 0 → List ℕ → Type 0
@@ -48,6 +53,33 @@ above_run k B a (suc n) l h =
     let d = (before (run (suc a) n) h).1 in
     omega (arith, above_run k (B × (k ≡ a → ⊥)) (suc a) n (omega arith) h)
 
+-- what a match's arms know of a kind, of its number
+abbrev pub AnyOf : AKind → List AKind → Type 0
+AnyOf k [] = ⊥
+AnyOf k (j ∷ []) = k ≡ j
+AnyOf k (j ∷ i ∷ js) = (k ≡ j) ⊎ AnyOf k (i ∷ js)
+
+abbrev every : (AKind → Bool) → List AKind → Bool
+every f [] = true
+every f (j ∷ js) = f j && every f js
+
+-- a test that passes for each of them
+pub any_of : (f : AKind → Bool) {k : AKind} (js : List AKind) → every f js ≡ true → AnyOf k js → f k ≡ true
+any_of f [] e h = absurd h
+any_of f (j ∷ []) e h = ap f h ∙ fst (f j) true e
+any_of f (j ∷ i ∷ js) e (inl h) = ap f h ∙ fst (f j) (every f (i ∷ js)) e
+any_of f (j ∷ i ∷ js) e (inr h) = any_of f (i ∷ js) (snd (f j) (every f (i ∷ js)) e) h
+
+pub range_of : (low high : ℕ) (k : AKind) (js : List AKind) → every (λ j. within low high (code_of j)) js ≡ true → AnyOf k js
+    → (low ≤ code_of k) × (code_of k ≤ high)
+range_of low high k js e h =
+    let t = any_of (λ j. within low high (code_of j)) js e h in
+    (leb-true low (code_of k) (fst (leb low (code_of k)) (leb (code_of k) high) t), leb-true (code_of k) high (snd (leb low (code_of k)) (leb (code_of k) high) t))
+
+-- the number of a kind that is not this one is another
+pub apart : {k j : AKind} → (k ≡ j → ⊥) → code_of k ≡ code_of j → ⊥
+apart {k} {j} h e = h (code_one k j e)
+
 -- Events ---------------------------------------------------------------------------------------------------------------
 
 -- a plain call that is none of the windows' calls routes one
@@ -61,6 +93,11 @@ resized_left k B r n =
     let high : k ≤ Kind.resized = leb-true k Kind.resized (snd (leb Kind.keydown k) (leb k Kind.resized) r) in
     let last : Kind.resized ≤ k = above_run k B Kind.keydown (Kind.resized - Kind.keydown) low n in
     omega arith
+
+-- a call that resizes windows and is none of the others is a resize
+pub resize_left : {k : AKind} → Resizes (code_of k) → (k ≡ kind.Maximise → ⊥) → (k ≡ kind.UpdateDims → ⊥) → code_of k ≡ Kind.resize
+resize_left (inl e) m u = e
+resize_left {k} (inr h) m u = absurd (omega (arith, apart m, apart u, h.0, h.1))
 
 -- Pixels and lists -----------------------------------------------------------------------------------------------------
 
@@ -131,31 +168,17 @@ plain_left k B h l n = go (is_plain k) refl (below_at (λ j. is_plain j || (is_o
 -- What a line leaves ---------------------------------------------------------------------------------------------------
 
 -- a line that is passed over leaves the player as it is
-pub stays : (p : Player) (o : List ℕ) → Ready p → Next [] p p.session o p o
-stays p o h =
-    record { ready = h; adds = same p.waiting o h.at h.sent; session = refl; lent = refl; set = refl; screen = refl; has_list = refl; list = refl; has_target = refl; target = refl; has_sheet = refl; sheet = refl; lines = refl }
-
--- the session that r has is the next
-own_next : {ps : List Piece} {p : Player} {s : Session} {o : List ℕ} {r : Player} {q : List ℕ} → Next ps p s o r q → Next ps p r.session o r q
-own_next n = record { ready = n.ready; adds = n.adds; session = refl; lent = n.lent; set = n.set; screen = n.screen; has_list = n.has_list; list = n.list; has_target = n.has_target; target = n.target; has_sheet = n.has_sheet; sheet = n.sheet; lines = n.lines }
+pub stays : (p : Player) → Ready p → Next [] p p.session p
+stays p h =
+    record { ready = h; adds = same (waits p.out) p.out.bytes h.at h.sent; session = refl; lent = refl; screen = refl; list = refl; target = refl; sheet = refl; lines = refl }
 
 -- the plain call that the kind picks was made, and its answer is the line's
-pub plain_made : {k : Option Call} {p r : Player} {d : Done} {o q : List ℕ} → Picked k (λ c. Meets c p.session d)
-    → Next (line d.answer []) p d.session o r q
-    → Picked k (λ c. (line d.answer [] ≡ line (does (group p.session) c).answer []) × Makes c (line d.answer []) p o r q)
-plain_made m n =
-    let met = m.so in
-    record {
-      call = m.call;
-      is = m.is;
-      so = (
-        ap (λ (a : ℕ). line a []) met.answer,
-        record { next = own_next n; after = ap group n.session ∙ met.after; refused = λ f. n.session ∙ met.same (λ e. f (sym met.answer ∙ e)) },
-      );
-    }
+pub plain_made : {k : Option Call} (p : Player) {s : Session} {a : ℕ} {o : Output} → Ready p → Picked k (λ c. Meets c p.session (done s a)) → Says (line a []) p.out o
+    → Picked k (λ c. (line a [] ≡ line (does (group p.session) c).answer []) × Makes c (line a []) p (onward s o p))
+plain_made p {a = a} h m d = record { call = m.call; is = m.is; so = (ap (λ (n : ℕ). line n []) m.so.answer, makes m.call p h m.so d) }
 
 -- the call that is lent the store was made
-pub stored_line : {l : Line} {ns : List ℕ} {p : Player} {a : Pixels} {o : List ℕ} {r : Player} {after q : List ℕ}
-    → Picked (store_call l.kind l.count ns (take p.lent a.store)) (λ c. Stores l.kind c p a.store o r after q)
-    → Writes l ns p a o r (pixels after a.screen) q
+pub stored_line : {l : Line} {ns : List ℕ} {p : Player} {a : Pixels} {r : Player} {after : List ℕ}
+    → Picked (store_call (code_of l.kind) l.count ns (take p.lent a.store)) (λ c. Stores (code_of l.kind) c p a.store r after)
+    → Writes l ns p a r (pixels after a.screen)
 stored_line m = record { text = _; plays = stores (record { call = m.call; is = m.is; so = (refl, m.so) }) refl }

@@ -6,8 +6,7 @@ use mathlib.Core.Option.{Option, some}
 use Rattle.window.specs.declared.Event.{Event}
 use Rattle.rules.specs.Calls.{Call}
 use Rattle.windows.specs.declared.Session.{Session}
-use Rattle.windows.specs.declared.Done.{Done}
-use Rattle.windows.specs.View.{Meets}
+use Rattle.windows.specs.View.{Done, Meets}
 use Rattle.bare_lines.specs.Numbers.{num, id_of}
 use Rattle.replay.specs.Called.{pick, Picked, window_calls, route_calls, store_calls, plain_call, store_call}
 

@@ -1,21 +1,21 @@
 -- One run behind another is a run, a run adds its text to what waited, and the parts of a block are read in turn.
-use Prim.Native.Nat.{ℕ, suc, ◌+◌, ◌-◌, ◌≤◌, ◌<◌}
+use Prim.Native.Nat.{ℕ, suc, ◌+◌, ◌≤◌, ◌<◌}
 use mathlib.Core.Path.{◌≡◌, refl, sym, ap, subst, subst₂, ◌∙◌}
 use mathlib.Core.List.{List, [], ◌∷◌, ◌++◌, append_assoc, append-nil}
 use native.Mathlib.Omega.{arith}
 use native.Mathlib.Numerals.{add-one}
-use lib.ListN.{length, take, drop, get_or, take-append-drop, length-drop}
+use lib.ListN.{length, take, drop, get_or, take-append-drop, length-append, length-drop}
 use lib.Seq.{slice, length-slice, length-take-le, take-take, take-suc, get_or-drop, get_or-take}
+use Rattle.std.proofs.lemmas.List.{take_all}
 use Rattle.script.specs.declared.shape.Line.{Line}
 use Rattle.script.specs.declared.Reading.{Reading}
 use Rattle.script.specs.Machine.{Reads, ReadTo}
 use Rattle.script.specs.Script.{hears, heard_of}
 use Rattle.answer_text.specs.Text.{Piece, said}
-use Rattle.answer_text.specs.Added.{counted as counting, handed_over, Adds}
-use Rattle.answer_text.specs.declared.Waiting.{Waiting}
-use Rattle.answer_text.proofs.laws.Added.{same, then, flushes}
+use Rattle.answer_text.specs.Added.{counted as counting, handed_over, Waiting, Output, waits, Says}
+use Rattle.answer_text.proofs.laws.Added.{same, then, flush_says}
 use Rattle.replay.specs.declared.player.Player.{Player}
-use Rattle.replay.specs.Ready.{Ready, Next, waiting_for, counted}
+use Rattle.replay.specs.Ready.{Ready, Next, with_output, counted}
 use Rattle.replay.specs.Played.{Pixels, Plays, Writes, Hears, passes, spoils, exceeds, starts, creates, plain, stores, pops, redraws, lists, asks_hits, asks_focus, lends, lends_screen, lends_list, asks_busiest, asks_share, asks_display, asks_look, lends_target, reads_sheet, asks_sheet, lends_sheet, asks_stale, asks_waiting, asks_window, asks_session, asks_who, shows_screen, shows_pixels, shows_picture, shows_rect, shows_part}
 use Rattle.replay.specs.Run.{Fresh, Stage, OneLine, Runs, pends, ends, hands, Finished}
 use Rattle.replay.specs.inner.Run.{HearsOut, RunsTo}
@@ -23,16 +23,14 @@ use Rattle.replay.specs.inner.Run.{HearsOut, RunsTo}
 -- A line --------------------------------------------------------------------------------------------------------------
 
 -- what every line leaves: a player that is ready for the next, and its text behind what waited
-pub record Left (ps : List Piece) (w : Waiting) (o : List ℕ) (r : Player) (q : List ℕ) : Type 0 where
+pub record Left (ps : List Piece) (o : Output) (r : Player) : Type 0 where
   pub ready : Ready r
-  pub adds : Adds ps w o r.waiting q
+  pub adds : Says ps o r.out
 
-left : {ps qs : List Piece} {p r : Player} {s : _} {o q : List ℕ} → ps ≡ qs → Next qs p s o r q → Left ps p.waiting o r q
-left {p = p} {r = r} {o = o} {q = q} e n =
-    record { ready = n.ready; adds = subst (λ (ps : List Piece). Adds ps p.waiting o r.waiting q) (sym e) n.adds }
+left : {ps qs : List Piece} {p r : Player} {s : _} → ps ≡ qs → Next qs p s r → Left ps p.out r
+left {p = p} {r = r} e n = record { ready = n.ready; adds = subst (λ (ps : List Piece). Says ps p.out r.out) (sym e) n.adds }
 
-pub left_of : {l : Line} {ns : List ℕ} {p : Player} {a : Pixels} {o : List ℕ} {ps : List Piece} {r : Player} {b : Pixels} {q : List ℕ}
-    → Plays l ns p a o ps r b q → Left ps p.waiting o r q
+pub left_of : {l : Line} {ns : List ℕ} {p : Player} {a : Pixels} {ps : List Piece} {r : Player} {b : Pixels} → Plays l ns p a ps r b → Left ps p.out r
 left_of (passes k t n e) = left refl n
 left_of (spoils k t n e) = left refl n
 left_of (exceeds k t n e) = left refl n
@@ -68,9 +66,9 @@ left_of (shows_rect k j t n e) = left refl n
 left_of (shows_part k j t n e) = left refl n
 
 -- the line that the bytes mean was played, by a player that had counted it
-pub heard_out : {bs : List ℕ} {l : Line} {ns : List ℕ} (name : List ℕ) {p c : Player} {a : Pixels} {o : List ℕ} {r : Player} {b : Pixels} {q : List ℕ}
-    → hears bs ≡ heard_of l ns name → c ≡ counted p → Writes l ns c a o r b q → HearsOut bs p a o r b q
-heard_out {l = l} {ns = ns} name {a = a} {o = o} {r = r} {b = b} {q = q} h e w =
+pub heard_out : {bs : List ℕ} {l : Line} {ns : List ℕ} (name : List ℕ) {p c : Player} {a : Pixels} {r : Player} {b : Pixels}
+    → hears bs ≡ heard_of l ns name → c ≡ counted p → Writes l ns c a r b → HearsOut bs p a r b
+heard_out {l = l} {ns = ns} name {a = a} {r = r} {b = b} h e w =
     record {
       text = w.text;
       hears =
@@ -79,7 +77,7 @@ heard_out {l = l} {ns = ns} name {a = a} {o = o} {r = r} {b = b} {q = q} h e w =
             numbers = ns;
             name = name;
             heard = h;
-            plays = subst (λ (c : Player). Plays l ns c a o w.text r b q) e w.plays;
+            plays = subst (λ (c : Player). Plays l ns c a w.text r b) e w.plays;
           };
     }
 
@@ -91,11 +89,11 @@ one_append (x ∷ xs) ys o p = (o.0, one_append xs ys o.1 p)
 
 -- a stage with these bytes of its line
 abbrev at_line : Stage → List ℕ → Stage
-at_line s l = record { player = s.player; pixels = s.pixels; block = s.block; line = l }
+at_line s l = record { player = s.player; pixels = s.pixels; line = l }
 
 -- all that waits is handed over
-abbrev handed : Stage → Stage
-handed s = record { player = waiting_for (handed_over s.player.waiting) s.player; pixels = s.pixels; block = s.block; line = s.line }
+abbrev handed : Output → Stage → Stage
+handed o s = record { player = with_output o s.player; pixels = s.pixels; line = s.line }
 
 -- bytes of a line that has not ended, and what comes behind them
 joins : {t : Stage} (s u : Stage) (xs : List ℕ) {ys : List ℕ} {qs : List Piece} → u ≡ at_line s (s.line ++ xs) → OneLine xs → Runs t u ys qs
@@ -103,39 +101,47 @@ joins : {t : Stage} (s u : Stage) (xs : List ℕ) {ys : List ℕ} {qs : List Pie
 joins s u xs v o (pends ys p e) =
     pends (xs ++ ys) (one_append xs ys o p)
     (e ∙ ap (λ (m : Stage). at_line m (m.line ++ ys)) v ∙ ap (λ (l : List ℕ). at_line s l) (append_assoc s.line xs ys))
-joins {t} s u xs v o (ends bs rest ps qs r b q p h k) =
+joins {t} s u xs v o (ends bs rest ps qs r b p h k) =
     subst (λ (l : List ℕ). Runs t s l (ps ++ qs)) (append_assoc xs bs (10 ∷ rest))
-    (ends (xs ++ bs) rest ps qs r b q (one_append xs bs o p)
-    (subst (λ (l : List ℕ). Hears l s.player s.pixels s.block ps r b q) (append_assoc s.line xs bs)
-    (subst (λ (m : Stage). Hears (m.line ++ bs) m.player m.pixels m.block ps r b q) v h)) k)
-joins s u xs v o (hands f k) =
-    hands (subst (λ (m : Stage). m.player.waiting.at ≤ length m.block) v f) (joins (handed s) (handed u) xs (ap handed v) o k)
+    (ends (xs ++ bs) rest ps qs r b (one_append xs bs o p)
+    (subst (λ (l : List ℕ). Hears l s.player s.pixels ps r b) (append_assoc s.line xs bs)
+    (subst (λ (m : Stage). Hears (m.line ++ bs) m.player m.pixels ps r b) v h)) k)
+joins s u xs v o (hands w f k) =
+    hands w (subst (λ (m : Stage). waits w ≡ handed_over (waits m.player.out)) v f) (joins (handed w s) (handed w u) xs (ap (handed w) v) o k)
 
 pub runs_then : {m t s : Stage} {xs ys : List ℕ} {ps qs : List Piece} → Runs m s xs ps → Runs t m ys qs → Runs t s (xs ++ ys) (ps ++ qs)
 runs_then {t = t} {s = s} {ys = ys} {qs = qs} (pends xs o e) k = joins s (at_line s (s.line ++ xs)) xs refl o (subst (λ (u : Stage). Runs t u ys qs) e k)
-runs_then {t = t} {s = s} {ys = ys} {qs = qs} (ends bs rest ps os r b q o h j) k =
+runs_then {t = t} {s = s} {ys = ys} {qs = qs} (ends bs rest ps os r b o h j) k =
     subst₂ (λ (l : List ℕ) (text : List Piece). Runs t s l text) (sym (append_assoc bs (10 ∷ rest) ys)) (sym (append_assoc ps os qs))
-    (ends bs (rest ++ ys) ps (os ++ qs) r b q o h (runs_then j k))
-runs_then (hands f j) k = hands f (runs_then j k)
+    (ends bs (rest ++ ys) ps (os ++ qs) r b o h (runs_then j k))
+runs_then (hands w f j) k = hands w f (runs_then j k)
 
 -- The text of a run ---------------------------------------------------------------------------------------------------
 
-pub runs_adds : {t s : Stage} {input : List ℕ} {ps : List Piece} → s.player.waiting.at ≤ 65536 → s.player.waiting.sent ≤ 18446744073709551615
-    → Runs t s input ps → Adds ps s.player.waiting s.block t.player.waiting t.block
+pub runs_adds : {t s : Stage} {input : List ℕ} {ps : List Piece} → (waits s.player.out).at ≤ 65536 → s.player.out.sent ≤ 18446744073709551615
+    → Runs t s input ps → Says ps s.player.out t.player.out
 runs_adds {s = s} h f (pends input o e) =
-    subst (λ (u : Stage). Adds [] s.player.waiting s.block u.player.waiting u.block) (sym e) (same s.player.waiting s.block h f)
-runs_adds h f (ends bs rest ps qs r b q o d k) =
+    subst (λ (u : Stage). Says [] s.player.out u.player.out) (sym e) (same (waits s.player.out) s.player.out.bytes h f)
+runs_adds h f (ends bs rest ps qs r b o d k) =
     let a = (left_of d.plays).adds in
     then a (runs_adds a.room (omega (arith, a.count)) k)
-runs_adds {s = s} h f (hands i k) = then (flushes s.player.waiting s.block i) (runs_adds (omega arith) (omega arith) k)
+runs_adds {s = s} h f (hands w i k) =
+    let n : length w.bytes ≡ 0 = ap (λ (x : Waiting). x.at) i in
+    let m : w.sent ≡ counting (s.player.out.sent + length s.player.out.bytes) = ap (λ (x : Waiting). x.sent) i in
+    then (flush_says i) (runs_adds (omega arith) (omega arith) k)
 
 -- from nothing on: when what waits is handed over too, all bytes of the text are
-all_handed : {ps : List Piece} {r : Waiting} {b c : List ℕ} → Adds ps (record { at = 0; sent = 0 }) b r c → r.at ≤ length c
-    → handed_over r ≡ record { at = 0; sent = counting (length (said ps)) }
-all_handed {ps} {r} {b} {c} d h =
-    let i : d.handed ≤ length (said ps) = d.inside in
-    let w : r.at ≡ length (drop d.handed (said ps)) = sym (length-take-le r.at c h) ∙ ap length d.waits in
-    let n : counting (r.sent + r.at) ≡ counting (length (said ps)) = omega (arith, length-drop d.handed (said ps), d.count) in
+all_handed : {ps : List Piece} {o r : Output} → waits o ≡ record { at = 0; sent = 0 } → Says ps o r
+    → handed_over (waits r) ≡ record { at = 0; sent = counting (length (said ps)) }
+all_handed {ps} {o} {r} z d =
+    let none : length o.bytes ≡ 0 = ap (λ (w : Waiting). w.at) z in
+    let sent : o.sent ≡ 0 = ap (λ (w : Waiting). w.sent) z in
+    let total : length (take (length o.bytes) o.bytes ++ said ps) ≡ length (said ps) =
+    length-append (take (length o.bytes) o.bytes) (said ps) ∙ (omega (arith, length-take-le (length o.bytes) o.bytes (omega arith))) in
+    let w : length r.bytes ≡ length (drop d.handed (take (length o.bytes) o.bytes ++ said ps)) =
+    sym (length-take-le (length r.bytes) r.bytes (omega arith)) ∙ ap length d.waits in
+    let n : counting (r.sent + length r.bytes) ≡ counting (length (said ps)) =
+    omega (arith, length-drop d.handed (take (length o.bytes) o.bytes ++ said ps), d.count, d.inside, total, w, sent) in
     ap (λ (k : ℕ). record { at = 0; sent = k }) n
 
 -- A block -------------------------------------------------------------------------------------------------------------
@@ -156,107 +162,99 @@ take_slice : (l : List ℕ) (from at : ℕ) → from ≤ at → take from l ++ s
 take_slice l from at h = ap (λ (k : List ℕ). k ++ slice from at l) (sym (take-take from at l h)) ∙ take-append-drop from (take at l)
 
 -- none of them, at the start
-pub run_none : {p : Player} {a : Pixels} {o line : List ℕ} {reading : Reading} {w ns name : List ℕ} → Reads line reading w ns name
-    → RunsTo (record { player = p; pixels = a; block = o; line = line }) [] p a o reading w ns name
-run_none {p} {a} {o} {line} h =
-    let now : Stage = record { player = p; pixels = a; block = o; line = line } in
+pub run_none : {p : Player} {a : Pixels} {line : List ℕ} {reading : Reading} {w ns name : List ℕ} → Reads line reading w ns name
+    → RunsTo (record { player = p; pixels = a; line = line }) [] p a reading w ns name
+run_none {p} {a} {line} h =
+    let now : Stage = record { player = p; pixels = a; line = line } in
     record { text = []; line = line; runs = pends [] tt (ap (λ (l : List ℕ). at_line now l) (sym (append-nil line))); reads = h }
 
-module _ {s : Stage} (bytes : List ℕ) {p : Player} {a : Pixels} {o : List ℕ} where
+module _ {s : Stage} (bytes : List ℕ) {p : Player} {a : Pixels} where
   -- the bytes up to a newline, or to the end of the block, belong to the line
-  pub run_read : (from at : ℕ) {reading next : Reading} {w ns name w' ns' name' : List ℕ} → RunsTo s (take from bytes) p a o reading w ns name
+  pub run_read : (from at : ℕ) {reading next : Reading} {w ns name w' ns' name' : List ℕ} → RunsTo s (take from bytes) p a reading w ns name
       → ReadTo bytes from at → ((bs : List ℕ) → Reads bs reading w ns name → Reads (bs ++ slice from at bytes) next w' ns' name')
-      → RunsTo s (take at bytes) p a o next w' ns' name'
+      → RunsTo s (take at bytes) p a next w' ns' name'
   run_read from at q d f =
       let line = q.line ++ slice from at bytes in
       record {
         text = q.text ++ [];
         line = line;
         runs =
-            subst (λ (l : List ℕ). Runs (record { player = p; pixels = a; block = o; line = line }) s l (q.text ++ [])) (take_slice bytes from at d.forward)
+            subst (λ (l : List ℕ). Runs (record { player = p; pixels = a; line = line }) s l (q.text ++ [])) (take_slice bytes from at d.forward)
             (runs_then q.runs (pends (slice from at bytes) (one_read bytes from at d) refl));
         reads = f q.line q.reads;
       }
 
   -- a newline ends the line, which is played
-  pub run_ends : (at : ℕ) {reading next : Reading} {w ns name w' ns' name' : List ℕ} {r : Player} {b : Pixels} {u : List ℕ} → RunsTo s (take at bytes) p a o reading w ns name
-      → at < length bytes → get_or bytes at 0 ≡ 10 → ((bs : List ℕ) → Reads bs reading w ns name → HearsOut bs p a o r b u) → Reads [] next w' ns' name'
-      → RunsTo s (take (at + 1) bytes) r b u next w' ns' name'
-  run_ends at {r = r} {b = b} {u = u} q h e f g =
+  pub run_ends : (at : ℕ) {reading next : Reading} {w ns name w' ns' name' : List ℕ} {r : Player} {b : Pixels} → RunsTo s (take at bytes) p a reading w ns name
+      → at < length bytes → get_or bytes at 0 ≡ 10 → ((bs : List ℕ) → Reads bs reading w ns name → HearsOut bs p a r b) → Reads [] next w' ns' name'
+      → RunsTo s (take (at + 1) bytes) r b next w' ns' name'
+  run_ends at {r = r} {b = b} q h e f g =
       let heard = f q.line q.reads in
-      let after : Stage = record { player = r; pixels = b; block = u; line = [] } in
+      let after : Stage = record { player = r; pixels = b; line = [] } in
       let taken : take at bytes ++ (10 ∷ []) ≡ take (at + 1) bytes = rw (add-one, take-suc bytes at 0 h, e) in
       record {
         text = q.text ++ (heard.text ++ []);
         line = [];
         runs =
             subst (λ (l : List ℕ). Runs after s l (q.text ++ (heard.text ++ []))) taken
-            (runs_then q.runs (ends [] [] heard.text [] r b u tt
-            (subst (λ (l : List ℕ). Hears l p a o heard.text r b u) (sym (append-nil q.line)) heard.hears) (pends [] tt refl)));
+            (runs_then q.runs (ends [] [] heard.text [] r b tt
+            (subst (λ (l : List ℕ). Hears l p a heard.text r b) (sym (append-nil q.line)) heard.hears) (pends [] tt refl)));
         reads = g;
       }
 
--- all n bytes of a block have been passed
-pub all_read : {s : Stage} {p : Player} {a : Pixels} {o : List ℕ} {reading : Reading} {w ns name : List ℕ} (n at : ℕ) (block : List ℕ) → at ≡ n
-    → RunsTo s (take at (take (n - 0) block)) p a o reading w ns name → RunsTo s (take n block) p a o reading w ns name
-all_read {s} {p} {a} {o} {reading} {w} {ns} {name} n at block e q =
-    subst (λ (l : List ℕ). RunsTo s l p a o reading w ns name) (ap (λ (k : ℕ). take k (take (n - 0) block)) e ∙ take-take n (n - 0) block (omega arith)) q
+-- all bytes of a block have been passed
+pub all_read : {s : Stage} {p : Player} {a : Pixels} {reading : Reading} {w ns name : List ℕ} (at : ℕ) (block : List ℕ) → length block ≤ at
+    → RunsTo s (take at block) p a reading w ns name → RunsTo s block p a reading w ns name
+all_read {s} {p} {a} {reading} {w} {ns} {name} at block e q = subst (λ (l : List ℕ). RunsTo s l p a reading w ns name) (take_all at block e) q
 
 -- The whole input -----------------------------------------------------------------------------------------------------
 
 -- what was read so far, from a fresh player on
-pub record SoFar (a : Pixels) (p : Player) (b : Pixels) (o : List ℕ) (reading : Reading) (word ns name : List ℕ) : Type 0 where
+pub record SoFar (a : Pixels) (p : Player) (b : Pixels) (reading : Reading) (word ns name : List ℕ) : Type 0 where
   pub first : Player
   pub fresh : Fresh first
-  pub block : List ℕ
   pub input : List ℕ
-  pub run : RunsTo (record { player = first; pixels = a; block = block; line = [] }) input p b o reading word ns name
+  pub run : RunsTo (record { player = first; pixels = a; line = [] }) input p b reading word ns name
 
-pub none_read : {a : Pixels} {p : Player} {o : List ℕ} {reading : Reading} {w ns name : List ℕ} → Fresh p → Reads [] reading w ns name
-    → SoFar a p a o reading w ns name
-none_read {p = p} {o = o} f d =
-    record { first = p; fresh = f; block = o; input = []; run = record { text = []; line = []; runs = pends [] tt refl; reads = d } }
+pub none_read : {a : Pixels} {p : Player} {reading : Reading} {w ns name : List ℕ} → Fresh p → Reads [] reading w ns name → SoFar a p a reading w ns name
+none_read {p = p} f d =
+    record { first = p; fresh = f; input = []; run = record { text = []; line = []; runs = pends [] tt refl; reads = d } }
 
-module _ {a : Pixels} {p : Player} {b : Pixels} {o : List ℕ} {reading : Reading} {w ns name : List ℕ} (q : SoFar a p b o reading w ns name) where
-  pub flushed_run : {r : Player} → r ≡ waiting_for (handed_over p.waiting) p → p.waiting.at ≤ length o → SoFar a r b o reading w ns name
-  flushed_run {r} e h =
+module _ {a : Pixels} {p : Player} {b : Pixels} {reading : Reading} {w ns name : List ℕ} (q : SoFar a p b reading w ns name) where
+  pub flushed_run : {o : Output} → waits o ≡ handed_over (waits p.out) → SoFar a (with_output o p) b reading w ns name
+  flushed_run {o} e =
       let line = q.run.line in
-      let now : Stage = record { player = p; pixels = b; block = o; line = line } in
-      let none : handed now ≡ at_line (handed now) (line ++ []) = ap (λ (l : List ℕ). at_line (handed now) l) (sym (append-nil line)) in
-      subst (λ (r : Player). SoFar a r b o reading w ns name) (sym e)
-      (record {
+      let now : Stage = record { player = p; pixels = b; line = line } in
+      let none : handed o now ≡ at_line (handed o now) (line ++ []) = ap (λ (l : List ℕ). at_line (handed o now) l) (sym (append-nil line)) in
+      record {
         first = q.first;
         fresh = q.fresh;
-        block = q.block;
         input = q.input ++ [];
-        run = record { text = q.run.text ++ []; line = line; runs = runs_then q.run.runs (hands h (pends [] tt none)); reads = q.run.reads };
-      })
+        run = record { text = q.run.text ++ []; line = line; runs = runs_then q.run.runs (hands o e (pends [] tt none)); reads = q.run.reads };
+      }
 
-  pub block_run : (bytes : List ℕ) {r : Player} {c : Pixels} {u : List ℕ} {next : Reading} {w' ns' name' : List ℕ}
-      → ((bs : List ℕ) → Reads bs reading w ns name → RunsTo (record { player = p; pixels = b; block = o; line = bs }) bytes r c u next w' ns' name')
-      → SoFar a r c u next w' ns' name'
+  pub block_run : (bytes : List ℕ) {r : Player} {c : Pixels} {next : Reading} {w' ns' name' : List ℕ}
+      → ((bs : List ℕ) → Reads bs reading w ns name → RunsTo (record { player = p; pixels = b; line = bs }) bytes r c next w' ns' name')
+      → SoFar a r c next w' ns' name'
   block_run bytes f =
       let m = f q.run.line q.run.reads in
       record {
         first = q.first;
         fresh = q.fresh;
-        block = q.block;
         input = q.input ++ bytes;
         run = record { text = q.run.text ++ m.text; line = m.line; runs = runs_then q.run.runs m.runs; reads = m.reads };
       }
 
-  pub finished : {r : Player} {c : Pixels} {u : List ℕ} → ((bs : List ℕ) → Reads bs reading w ns name → HearsOut bs p b o r c u)
-      → r.waiting.at ≤ length u → Finished a
-  finished {r} {c} {u} f h =
-      let last : Stage = record { player = p; pixels = b; block = o; line = q.run.line } in
+  pub finished : {r : Player} {c : Pixels} → ((bs : List ℕ) → Reads bs reading w ns name → HearsOut bs p b r c) → Finished a
+  finished {r} {c} f =
+      let last : Stage = record { player = p; pixels = b; line = q.run.line } in
       let heard = f q.run.line q.run.reads in
       let text = q.run.text ++ heard.text in
       let ran = runs_adds q.fresh.ready.at q.fresh.ready.sent q.run.runs in
-      let adds : Adds text q.first.waiting q.block r.waiting u = then ran (left_of heard.hears.plays).adds in
+      let adds : Says text q.first.out r.out = then ran (left_of heard.hears.plays).adds in
       record {
         first = q.first;
         fresh = q.fresh;
-        block = q.block;
         input = q.input;
         text = q.run.text;
         last = last;
@@ -264,9 +262,8 @@ module _ {a : Pixels} {p : Player} {b : Pixels} {o : List ℕ} {reading : Readin
         tail = heard.text;
         end = r;
         pixels = c;
-        after = u;
         hears = heard.hears;
         count = length (said text);
-        is = all_handed (subst (λ (w : Waiting). Adds text w q.block r.waiting u) q.fresh.waiting adds) h;
+        is = all_handed q.fresh.out adds;
         all = refl;
       }

@@ -1,118 +1,60 @@
--- A line that leaves the player as it was but for what waits, and the pixels that a line shows.
-use Prim.Native.Nat.{ℕ, ◌+◌, ◌-◌, ◌*◌, ◌≤◌, ◌<◌}
-use mathlib.Core.Path.{◌≡◌, refl, sym, ap, subst, ◌∙◌}
-use mathlib.Core.Bool.{Bool, true, false, cond, ◌&&◌}
-use mathlib.Core.List.{List, [], ◌∷◌}
+-- The pixels that a line shows, and what is stale.
+use Rattle.std.proofs.Common.{ℕ, ◌+◌, ◌-◌, ◌*◌, ◌≤◌, ◌<◌, ◌≡◌, refl, sym, ap, ◌∙◌, arith, List, [], ◌∷◌, Bool, true, false, cond}
+use Rattle.std.specs.Prelude.{◌&&◌, leb, eqb, length, take, drop, replicate, Result, Ok, Err, Some, None}
+use Rattle.std.specs.Prelude as Std
 use mathlib.Core.Logic.{inl, inr}
-use mathlib.Core.Option.{Option, none, some}
-use native.Mathlib.Omega.{arith}
-use lib.Dec.{leb, eqb}
-use lib.ListN.{length, take, drop, replicate, length-append, length-drop, length-replicate, replicate-append-replicate}
+use Rattle.std.proofs.Math.Option.{Option, none, some}
+use lib.ListN.{length-append, length-drop, length-replicate, replicate-append-replicate}
 use lib.Seq.{take_at}
-use mir.Val.{bool_byte}
-use borrow.Author.Tests.{le-leb, lt-leb, ne_eqb, eqb-true, eqb-false}
+use borrow.Author.Tests.{le-leb, lt-leb, eqb-true, eqb-false}
 use Rattle.geom.specs.declared.Rect.{Rect}
+use Rattle.geom.specs.declared.refusal.Refusal.{Refusal}
 use Rattle.geom.specs.Geom.{rect}
+use Rattle.geom.specs.Bare.{met}
+use Rattle.geom.specs.Refusals.{answer_of, value_or, option_of}
 use Rattle.geom.specs.Questions.{◌is◌, asked}
 use Rattle.script.specs.Kind as Kind
-use Rattle.script.specs.Text.{bytes}
+use Rattle.script.specs.Kind.{code_of}
 use Rattle.script.specs.declared.shape.Line.{Line}
-use Rattle.answer_text.specs.Text.{Piece, number, word, flag, answered, rectangle, line, beyond}
-use Rattle.answer_text.specs.Added.{Adds, handed_over}
-use Rattle.answer_text.specs.declared.Waiting.{Waiting}
-use Rattle.answer_text.proofs.laws.Added.{then, flushes}
+use Rattle.answer_text.specs.Text.{line, answered, beyond}
+use Rattle.answer_text.specs.Added.{Output}
 use Rattle.rules.specs.Group.{Group, used, win}
 use Rattle.rules.specs.Stale.{StaleRect}
 use Rattle.windows.specs.declared.Session.{Session}
-use Rattle.windows.specs.declared.Placed.{Placed}
-use Rattle.windows.specs.declared.Stale.{Stale}
-use Rattle.windows.specs.View.{group, placed, is_due, rect_in, stale_of}
+use Rattle.windows.specs.View.{group, Placed, Stale, placed, stale_in, stale_of, is_due, rect_in}
 use Rattle.bare_lines.specs.Numbers.{num}
-use Rattle.bare_lines.specs.Told.{rectangle_or, part_line}
+use Rattle.bare_lines.specs.Told.{rectangle_or, met_line, part_line}
 use Rattle.replay.specs.declared.player.Player.{Player}
-use Rattle.replay.specs.Ready.{Ready, Next, waiting_for, untargeted}
+use Rattle.replay.specs.Ready.{Ready}
 use Rattle.replay.specs.Called.{OnShow}
 use Rattle.replay.specs.Told.{window_pixels, screen_line, stale_line}
 use Rattle.replay.specs.Looks.{LooksPart, asks}
 use Rattle.replay.specs.Played.{Pixels, Writes, exceeds, no_show, shows_screen, shows_picture}
 use Rattle.replay.specs.inner.Shown.{ShowsScreen, too_large, shown, pictured, unwritten}
-use Rattle.replay.specs.inner.Stale.{found_line}
+use Rattle.replay.proofs.laws.Nexts.{onward, tells}
 
--- What is written -----------------------------------------------------------------------------------------------------
+-- What is stale -------------------------------------------------------------------------------------------------------
 
--- a text in other words
-pub retold : {ps qs : List Piece} {w r : Waiting} {b c : List ℕ} → ps ≡ qs → Adds ps w b r c → Adds qs w b r c
-retold {w = w} {r = r} {b = b} {c = c} e a = subst (λ (ps : List Piece). Adds ps w b r c) e a
+-- the rectangle that the call gives or not is the rule's
+same_answer : (r : Result (Std.Option Rect) Refusal) → answer_of r ≡ (stale_in r).answer
+same_answer (Ok None) = refl
+same_answer (Ok (Some x)) = refl
+same_answer (Err f) = refl
 
-pub accepted : {a : ℕ} (ps : List Piece) {w r : Waiting} {b c : List ℕ} → a ≡ 0 → Adds (line 0 ps) w b r c → Adds (answered a ps) w b r c
-accepted ps e p = rw e p
+same_rect : (r : Result (Std.Option Rect) Refusal) (q : Option Rect) → (stale_in r).due ≡ is_due q → (stale_in r).rect ≡ rect_in q
+    → option_of (value_or None r) ≡ q
+same_rect (Ok None) none d e = refl
+same_rect (Ok None) (some x) d e = cc
+same_rect (Ok (Some y)) none d e = cc
+same_rect (Ok (Some y)) (some x) d e = ap some e
+same_rect (Err f) none d e = refl
+same_rect (Err f) (some x) d e = cc
 
-pub refused : {a : ℕ} (ps : List Piece) {w r : Waiting} {b c : List ℕ} → (a ≡ 0 → ⊥) → Adds (line a []) w b r c → Adds (answered a ps) w b r c
-refused {a} ps n p = rw (ne_eqb a 0 n) p
-
--- as the language makes a number of a test
-cast_is : (b : Bool) → bool_byte b ≡ cond b 1 0
-cast_is true = refl
-cast_is false = refl
-
-pub flagged : (t : Bool) {w r : Waiting} {b c : List ℕ} → Adds (number (bool_byte t) ∷ []) w b r c → Adds (flag t ∷ []) w b r c
-flagged t a = retold (ap (λ (n : ℕ). number n ∷ []) (cast_is t)) a
-
--- the player is as it was, but for what waits
-pub tells : {ps qs : List Piece} {p : Player} {w : Waiting} {b c : List ℕ} → Ready p → ps ≡ qs → Adds ps p.waiting b w c
-    → Next qs p p.session b (waiting_for w p) c
-tells h e a =
-    record {
-      ready =
-          record {
-            given = h.given;
-            lent = h.lent;
-            screen = h.screen;
-            list = h.list;
-            target = h.target;
-            sheet = h.sheet;
-            at = a.room;
-            sent = omega (arith, a.count);
-          };
-      adds = retold e a;
-      session = refl;
-      lent = refl;
-      set = refl;
-      screen = refl;
-      has_list = refl;
-      list = refl;
-      has_target = refl;
-      target = refl;
-      has_sheet = refl;
-      sheet = refl;
-      lines = refl;
-    }
-
--- nothing waits
-pub emptied : {v : Waiting} (w : Waiting) → v ≡ handed_over w → v.at ≤ 65536
-emptied w e = rw e (omega arith)
-
--- where all that waited was handed over, no byte of the block waits, whatever it holds then
-pub behind_flush : {ps : List Piece} {v w r : Waiting} {b c q : List ℕ} → v ≡ handed_over w → w.at ≤ length b → Adds ps v c r q → Adds ps w b r q
-behind_flush {ps} {v} {w} {r} {b} {c} {q} e h x =
-    let a : Adds ps (handed_over w) c r q = subst (λ (u : Waiting). Adds ps u c r q) e x in
-    then (flushes w b h) (record { handed = a.handed; inside = a.inside; waits = a.waits; count = a.count; room = a.room })
-
--- the rectangle that the rule has or not, as the struct has it
-stale_rect : (a : ℕ) (o : Option Rect)
-    → answered a (cond (is_due o) (rectangle (rect_in o)) (word (bytes "none") ∷ [])) ≡ answered a (rectangle_or o)
-stale_rect a none = refl
-stale_rect a (some r) = refl
-
-module _ (f : Stale) {w r : Waiting} {b c : List ℕ} where
-  pub found_due : f.answer ≡ 0 → f.due ≡ true → Adds (line 0 (rectangle f.rect)) w b r c → Adds (found_line f) w b r c
-  found_due e d p = rw (e, d) p
-
-  pub found_none : f.answer ≡ 0 → f.due ≡ false → Adds (line 0 (word (bytes "none") ∷ [])) w b r c → Adds (found_line f) w b r c
-  found_none e d p = rw (e, d) p
-
-pub stale_told : (o : StaleRect) → found_line (stale_of o) ≡ stale_line o
-stale_told o = stale_rect o.answer o.rect
+pub stale_told : (r : Result (Std.Option Rect) Refusal) (o : StaleRect) → stale_in r ≡ stale_of o → met_line (met r) ≡ stale_line o
+stale_told r o e =
+    let answer = same_answer r ∙ ap (λ (s : Stale). s.answer) e in
+    let found = same_rect r o.rect (ap (λ (s : Stale). s.due) e) (ap (λ (s : Stale). s.rect) e) in
+    λ i. answered (answer i) (rectangle_or (found i))
 
 -- What is shown -------------------------------------------------------------------------------------------------------
 
@@ -162,28 +104,15 @@ on_show {k} l n h = go (eqb k Kind.screen) refl
     go true e = inl (eqb-true k Kind.screen e)
     go false e = inr (omega (arith, n, eqb-false k Kind.screen e))
 
-pub screen_shown : {l : Line} {ns : List ℕ} {p : Player} {a : Pixels} {o : List ℕ} {w : Waiting} {q : List ℕ} → Ready p → OnShow l.kind
-    → ShowsScreen l.kind ns a.screen p.waiting o w q → Writes l ns p a o (waiting_for w p) a q
-screen_shown h k (too_large n x) = record { text = beyond; plays = exceeds (no_show k n) refl (tells h refl x) refl }
-screen_shown {ns = ns} {a = a} h k (shown e n x) =
-    record { text = screen_line (num ns 0 * num ns 1) a.screen; plays = shows_screen e n refl (tells h refl x) refl }
-screen_shown h k (pictured e n x) = record { text = line 0 []; plays = shows_picture e n (inl refl) (tells h refl x) refl }
-screen_shown h k (unwritten e n x) = record { text = beyond; plays = shows_picture e n (inr refl) (tells h refl x) refl }
+pub screen_shown : {l : Line} {ns : List ℕ} (p : Player) {a : Pixels} {o : Output} → Ready p → OnShow (code_of l.kind)
+    → ShowsScreen (code_of l.kind) ns a.screen p.out o → Writes l ns p a (onward p.session o p) a
+screen_shown p h k (too_large n x) = record { text = beyond; plays = exceeds (no_show k n) refl (tells p h x) refl }
+screen_shown {ns = ns} p {a = a} h k (shown e n x) =
+    record { text = screen_line (num ns 0 * num ns 1) a.screen; plays = shows_screen e n refl (tells p h x) refl }
+screen_shown p h k (pictured e n x) = record { text = line 0 []; plays = shows_picture e n (inl refl) (tells p h x) refl }
+screen_shown p h k (unwritten e n x) = record { text = beyond; plays = shows_picture e n (inr refl) (tells p h x) refl }
 
 -- A closer look -------------------------------------------------------------------------------------------------------
-
-pub untargeted_ready : {p : Player} → Ready p → Ready (untargeted p)
-untargeted_ready h =
-    record {
-      given = h.given;
-      lent = h.lent;
-      screen = h.screen;
-      list = h.list;
-      target = h.target;
-      sheet = h.sheet;
-      at = h.at;
-      sent = h.sent;
-    }
 
 front : (n m v : ℕ) → n ≤ m → take n (replicate m v) ≡ replicate n v
 front n m v h =

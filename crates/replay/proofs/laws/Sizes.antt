@@ -1,8 +1,9 @@
 -- Sizes that the rules bound: a window's pixels in the store, the rectangles of a visible list, the answers of many points, the rectangles and bytes of a sheet, and C after a start.
-use Prim.Native.Nat.{ℕ, suc, ◌+◌, ◌*◌, ◌/◌, ◌≤◌, ◌<◌}
-use mathlib.Core.Path.{◌≡◌, refl, sym, ap, ◌∙◌}
-use mathlib.Core.Bool.{Bool, true, false, cond}
+use Prim.Native.Nat.{ℕ, suc, ◌+◌, ◌*◌, ◌/◌, ◌%◌, ◌≤◌, ◌<◌}
+use mathlib.Core.Path.{◌≡◌, refl, sym, ap, subst, ◌∙◌}
+use mathlib.Core.Bool.{Bool, true, false, cond, ◌&&◌}
 use mathlib.Core.List.{List, [], ◌∷◌}
+use mathlib.Core.Logic.{◌⊎◌, inl, inr}
 use native.Mathlib.Nat.{mul-le-mul_right}
 use native.Mathlib.Omega.{arith}
 use lib.Dec.{leb, eqb}
@@ -12,7 +13,7 @@ use Rattle.geom.specs.Questions.{◌is◌, asked}
 use Rattle.geom.specs.Geom.{rect}
 use Rattle.geom.proofs.basics.Questions.{asked₂}
 use Rattle.geom.proofs.basics.Tests.{snd, on_cond, on_test, says_le}
-use Rattle.geom.specs.declared.Listing.{Listing}
+use Rattle.geom.specs.Refusals.{Listing}
 use Rattle.sheet.specs.Sheet.{rects}
 use Rattle.sheet.specs.Bytes.{encode}
 use Rattle.sheet.specs.Reader.{Reads, broken, short, whole}
@@ -20,19 +21,19 @@ use Rattle.rules.specs.Group.{Group, used, win, allowed_c, session_c}
 use Rattle.rules.specs.Visible.{visible, visible_list}
 use Rattle.rules.specs.Hits.{all_small, fit, hits}
 use Rattle.rules.specs.Sheets.{region, sheet}
-use Rattle.rules.proofs.group.Invariant.{used_small}
+use Rattle.rules.proofs.group.Invariant.{Ok, used_small}
 use Rattle.windows.specs.declared.Session.{Session}
-use Rattle.windows.specs.declared.Done.{Done}
-use Rattle.windows.specs.declared.Placed.{Placed}
-use Rattle.windows.specs.View.{group, Given, Starts, placed}
-use Rattle.windows.proofs.laws.Session.{given_ok}
-use Rattle.windows.proofs.laws.Hits.{fits_room}
+use Rattle.windows.specs.View.{Done, Placed, group, Given, Starts, placed}
+use Rattle.rules.proofs.group.Kept.{ok_after}
 
 -- A window's pixels ---------------------------------------------------------------------------------------------------
 
 is_used : (t : Bool) → asked ((3 is t) ∷ []) ≡ 0 → t ≡ true
 is_used true e = refl
 is_used false e = absurd (omega arith)
+
+given_ok : (s : Session) → Given s → Ok (group s)
+given_ok s h = subst Ok (sym h.reached) (ok_after h.c h.calls)
 
 pub in_store : (s : Session) (id : ℕ) (r : Placed) → Given s → r ≡ placed (group s) id → r.answer ≡ 0
     → id * s.shared.c + r.rect.dims.w * r.rect.dims.h ≤ 16 * s.shared.c
@@ -62,8 +63,10 @@ counted g id l = few (used g id) (length (visible g id)) (length l)
 pub hits_room : (g : Group) (points l : List ℕ) → (hits g points l).answer ≡ 0 → 3 * (length points / 2) ≤ length l
 unfolding hits
 hits_room g points l e =
-    let f = fit (length points) (length l) in
-    (fits_room (length points) (length l) (snd (all_small points) f (sym (asked₂ 4 24 (all_small points) f) ∙ eq-eqb _ 0 e))).room
+    let n = length points in
+    let f = fit n (length l) in
+    let t : f ≡ true = snd (all_small points) f (sym (asked₂ 4 24 (all_small points) f) ∙ eq-eqb _ 0 e) in
+    (says_le (3 * (n / 2)) (length l)).fact (snd (leb n 64 && eqb (n % 2) 0) (leb (3 * (n / 2)) (length l)) t)
 
 -- A sheet that is read --------------------------------------------------------------------------------------------------
 
@@ -89,10 +92,9 @@ pub begun_c : (c : ℕ) (r : Done) → Starts c r → 16 * session_c c ≤ 61440
 unfolding group
 begun_c c r h l = let e : r.session.shared.c ≡ session_c c = ap (λ (g : Group). g.c) h.after in rw e l
 
-pub low_c : (c : ℕ) → c ≤ 384000 → 16 * session_c c ≤ 6144000
-low_c c h = on_cond (λ (k : ℕ). 16 * k ≤ 6144000) (allowed_c c) c 1 (λ t. omega arith) (λ t. omega arith)
-
-pub high_c : (c : ℕ) → 1048576 < c → 16 * session_c c ≤ 6144000
-high_c c h =
+-- a start that the program plays, for the store that it can lend
+pub playable : (c : ℕ) → (c ≤ 384000) ⊎ (1048576 < c) → 16 * session_c c ≤ 6144000
+playable c (inl h) = on_cond (λ (k : ℕ). 16 * k ≤ 6144000) (allowed_c c) c 1 (λ t. omega arith) (λ t. omega arith)
+playable c (inr h) =
     on_cond (λ (k : ℕ). 16 * k ≤ 6144000) (allowed_c c) c 1
     (λ t. let l : c ≤ 1048576 = (says_le c 1048576).fact (snd (leb 1 c) (leb c 1048576) t) in absurd (omega arith)) (λ t. omega arith)

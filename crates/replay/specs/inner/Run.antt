@@ -8,13 +8,13 @@ use Rattle.replay.specs.Played.{Pixels, Hears}
 use Rattle.replay.specs.Run.{Stage, Runs}
 
 -- the bytes bs of a line were played, and there is a text that was written
-pub record HearsOut (bs : List ℕ) (p : Player) (a : Pixels) (o : List ℕ) (r : Player) (b : Pixels) (q : List ℕ) : Type 0 where
+pub record HearsOut (bs : List ℕ) (p : Player) (a : Pixels) (r : Player) (b : Pixels) : Type 0 where
   pub text : List Piece
-  pub hears : Hears bs p a o text r b q
+  pub hears : Hears bs p a text r b
 
 -- the input took s to the player r, and the reading stands for the bytes so far of the line that has not ended
-pub record RunsTo (s : Stage) (input : List ℕ) (r : Player) (b : Pixels) (q : List ℕ) (reading : Reading) (word ns name : List ℕ) : Type 0 where
+pub record RunsTo (s : Stage) (input : List ℕ) (r : Player) (b : Pixels) (reading : Reading) (word ns name : List ℕ) : Type 0 where
   pub text : List Piece
   pub line : List ℕ
-  pub runs : Runs (record { player = r; pixels = b; block = q; line = line }) s input text
+  pub runs : Runs (record { player = r; pixels = b; line = line }) s input text
   pub reads : Reads line reading word ns name

@@ -1,6 +1,6 @@
 -- The lines of region sheets: what the reader and the writer do that are lent the front of the list or of the buffer.
 use Rattle.std.specs.Prelude.{ℕ, ◌*◌, ◌≤◌, ◌≡◌, List, ◌++◌, take, drop}
-use Rattle.geom.specs.declared.Listing.{Listing}
+use Rattle.geom.specs.Refusals.{Listing}
 use Rattle.sheet.specs.Reader.{Reads}
 use Rattle.rules.specs.Group.{Group}
 use Rattle.rules.specs.Sheets.{sheet}

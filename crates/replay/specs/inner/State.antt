@@ -1,6 +1,6 @@
 -- What is written of the structs that tell how a window and how the session stand.
 use Rattle.std.specs.Prelude.{cond, List, [], ◌∷◌, ◌++◌}
-use Rattle.windows.specs.declared.WindowState.{WindowState}
+use Rattle.windows.specs.View.{WindowState}
 use Rattle.windows.specs.declared.SessionState.{SessionState}
 use Rattle.answer_text.specs.Text.{Piece, number, flag, line, answered, rectangle}
 

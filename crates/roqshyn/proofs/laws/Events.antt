@@ -1,6 +1,6 @@
 -- The numbers of an event stand for it, so that C reads of them what a window was told.
-use mathlib.Core.Path.{◌≡◌, refl}
-use mathlib.Core.Option.{Option, none, some}
+use Rattle.std.specs.Prelude.{◌≡◌, refl}
+use Rattle.std.proofs.Math.Option.{Option, none, some}
 use Rattle.window.specs.declared.Event.{Event}
 use Rattle.window.specs.declared.Event.TheVariants.{Resize, KeyDown, KeyUp, KeyFire, Text, MouseMove, MouseDown, MouseClick, MouseUp}
 use Rattle.roqshyn.specs.Events.{event_of, numbers_of}

@@ -1,91 +1,68 @@
 -- A part of lent pixels is told by where it begins and how long it is.
-use Prim.Native.Nat.{ℕ, zero, suc, ◌+◌, ◌-◌, ◌*◌, ◌≤◌}
-use mathlib.Core.Path.{◌≡◌, refl, sym, ap, ◌∙◌, subst}
-use mathlib.Core.Bool.{Bool, true, false, cond}
-use mathlib.Core.List.{List, [], ◌∷◌}
-use native.Mathlib.Omega.{arith}
-use lib.Dec.{eqb}
-use lib.ListN.{length, take, drop}
-use denote.Ref.{Bor}
-use borrow.Author.Tests.{eq-eqb, ne_eqb}
-use Rattle.geom.specs.Questions.{◌is◌, asked}
-use Rattle.winbuf.specs.declared.ScanlineRange.{ScanlineRange}
+use Rattle.std.proofs.Common.{ℕ, zero, suc, ◌+◌, ◌-◌, ◌*◌, ◌≤◌, ◌<◌, ◌≡◌, Bool, true, false, cond, eqb, List, [], length, take, drop, Ok, refl, sym, ap, ◌∙◌, subst, arith, Bor}
+use Rattle.std.proofs.lemmas.List.{length-take, take_min}
 use Rattle.scanline.specs.Pixels.{part}
-use Rattle.winbuf.specs.Pixels.{Part, line_start, scanline_range, scanline, region, small_area, region_fits}
-use Rattle.winbuf.specs.Bare.{Hands, region_start}
+use Rattle.scanline.proofs.rows.Paint.{length_part}
 use Rattle.scanline.proofs.rows.Runs.{full_part}
+use Rattle.winbuf.specs.Pixels.{ScanlineRange, line_start, scanline_range, scanline, region}
+use Rattle.winbuf.specs.Bare.{Hands, range_of, region_start}
 use Rattle.winbuf.proofs.bare.Scanlines.{Within, range_within}
-use Rattle.winbuf.proofs.bare.Regions.{region_end, fits_end}
-use Rattle.roqshyn.specs.declared.pixels.RoqPart.{RoqPart}
 use Rattle.roqshyn.specs.Parts.{Lies}
+use Rattle.roqshyn.specs.inner.Parts.{named}
 
 -- as many as a part has are that part
 take_again : (n : ℕ) (l : List ℕ) → take (length (take n l)) l ≡ take n l
-take_again zero l = refl
-take_again (suc n) [] = refl
-take_again (suc n) (x ∷ l) = ap (λ (t : List ℕ). x ∷ t) (take_again n l)
+take_again n l = ap (λ (m : ℕ). take m l) (length-take n l) ∙ take_min n l
 
-abbrev pub part_at : ℕ → ℕ → ℕ → RoqPart
-part_at a s n = record { answer = a; start = s; count = n }
+-- the rows of a region are as many pixels as it has, from its start on
+cuts : (b : Bool) (at n k : ℕ) (ps : List ℕ) → k ≡ length (cond b (part at n ps) []) → part (cond (eqb k 0) 0 at) k ps ≡ cond b (part at n ps) []
+cuts false at n k ps e = rw e
+cuts true at n zero ps e = subst (λ (m : ℕ). take m (drop at ps) ≡ take n (drop at ps)) (sym e) (take_again n (drop at ps))
+cuts true at n (suc k) ps e = grind (arith, take_again)
 
--- a rule that hands back n pixels from `at` on, or none
-abbrev Cuts : ℕ → List ℕ → List ℕ → Type 0
-Cuts at ps cut = (k : ℕ) → k ≡ length cut → part (cond (eqb k 0) 0 at) k ps ≡ cut
+within : (b : Bool) (at n : ℕ) (ps : List ℕ) → (length (cond b (part at n ps) []) ≡ 0 → ⊥) → at + length (cond b (part at n ps) []) ≤ length ps
+within false at n ps some = absurd (some refl)
+within true at n ps some = grind (arith, length_part)
 
-cuts : (b : Bool) (at n : ℕ) (ps : List ℕ) → Cuts at ps (cond b (part at n ps) [])
-cuts false at n ps k e = rw e
-cuts true at n ps zero e = subst (λ (m : ℕ). take m (drop at ps) ≡ take n (drop at ps)) (sym e) (take_again n (drop at ps))
-cuts true at n ps (suc k) e =
-    let s : at ≡ cond (eqb (suc k) 0) 0 at = rw (ne_eqb (suc k) 0 (omega arith)) in
-    subst (λ (i : ℕ). part i (suc k) ps ≡ part at n ps) s
-    (subst (λ (m : ℕ). take m (drop at ps) ≡ take n (drop at ps)) (sym e) (take_again n (drop at ps)))
+module _ (ps : List ℕ) (stride x y w h : ℕ) where
+  pub region_cuts : (k : ℕ) → k ≡ length (region ps stride x y w h).pixels
+      → part (cond (eqb k 0) 0 (region_start stride x y)) k ps ≡ (region ps stride x y w h).pixels
+  unfolding region
+  region_cuts k e = cuts (eqb (region ps stride x y w h).answer 0) (region_start stride x y) ((h - 1) * stride + w) k ps e
 
-pub region_cuts : (ps : List ℕ) (stride x y w h : ℕ) → Cuts (region_start stride x y) ps (region ps stride x y w h).pixels
-unfolding region
-region_cuts ps stride x y w h = cuts (eqb (region ps stride x y w h).answer 0) (region_start stride x y) ((h - 1) * stride + w) ps
+  -- a region that has pixels lies in the slice
+  pub region_in : (length (region ps stride x y w h).pixels ≡ 0 → ⊥) → region_start stride x y + length (region ps stride x y w h).pixels ≤ length ps
+  unfolding region
+  region_in = within (eqb (region ps stride x y w h).answer 0) (region_start stride x y) ((h - 1) * stride + w) ps
 
--- a region that has pixels lies in the slice
-pub region_in : (ps : List ℕ) (stride x y w h : ℕ) → (length (region ps stride x y w h).pixels ≡ 0 → ⊥) → region_end stride x y w h ≤ length ps
-unfolding region
-region_in ps stride x y w h any = go (small_area x y w h) (region_fits (length ps) stride x y w h) refl any
-  where
-    go : (a b : Bool) → region_fits (length ps) stride x y w h ≡ b
-        → (length (cond (eqb (asked ((5 is a) ∷ (13 is b) ∷ [])) 0) (part (x + y * stride) ((h - 1) * stride + w) ps) []) ≡ 0 → ⊥)
-        → region_end stride x y w h ≤ length ps
-    go false b e some = absurd (some refl)
-    go true false e some = absurd (some refl)
-    go true true e some = fits_end (length ps) stride x y w h e
+-- the part that a call handed back, as a range from the region's start on
+pub region_lies : (lent r : Bor (List ℕ)) (stride x y w h : ℕ) → Hands (region lent.now stride x y w h) (region_start stride x y) lent (Ok r)
+    → (a b : ℕ) → a ≡ region_start stride x y → b ≡ a + length r.now
+    → Lies (region lent.now stride x y w h) (region_start stride x y) lent.now (named (range_of (Ok (record { start = a; end = b }))))
+region_lies lent r stride x y w h g a b ea eb =
+    let k : b - a ≡ length (region lent.now stride x y w h).pixels = omega (arith, eb, ap length g.pixels) in
+    record {
+      answer = g.answer;
+      count = k;
+      start = rw ea;
+      pixels = subst (λ (i : ℕ). part (cond (eqb (b - a) 0) 0 i) (b - a) lent.now ≡ (region lent.now stride x y w h).pixels) (sym ea) (region_cuts lent.now stride x y w h (b - a) k);
+    }
 
-module _ {rule : Part} {at : ℕ} {lent : Bor (List ℕ)} {a : ℕ} {r : Bor (List ℕ)} (g : Hands rule at lent a r) (cut : Cuts at lent.now rule.pixels) where
-  pub lies_some : (length r.now ≡ 0 → ⊥) → Lies rule at lent.now (part_at a at (length r.now))
-  lies_some any =
-      let k : length r.now ≡ length rule.pixels = ap length g.pixels in
-      let s : cond (eqb (length r.now) 0) 0 at ≡ at = rw (ne_eqb (length r.now) 0 any) in
-      record { answer = g.answer; count = k; start = sym s; pixels = subst (λ (i : ℕ). part i (length r.now) lent.now ≡ rule.pixels) s (cut (length r.now) k) }
+-- a part of none has no pixels, wherever it begins
+begins : (n a b : ℕ) → (0 < n → a ≡ b) → cond (eqb n 0) 0 a ≡ cond (eqb n 0) 0 b
+begins n a b e = grind arith
 
-  pub lies_none : length r.now ≡ 0 → Lies rule at lent.now (part_at a 0 (length r.now))
-  lies_none none =
-      let k : length r.now ≡ length rule.pixels = ap length g.pixels in
-      let s : cond (eqb (length r.now) 0) 0 at ≡ 0 = rw (eq-eqb (length r.now) 0 none) in
-      record { answer = g.answer; count = k; start = sym s; pixels = subst (λ (i : ℕ). part i (length r.now) lent.now ≡ rule.pixels) s (cut (length r.now) k) }
+moved : (n a : ℕ) (ps : List ℕ) → part (cond (eqb n 0) 0 a) n ps ≡ part a n ps
+moved zero a ps = refl
+moved (suc n) a ps = grind arith
 
--- the part that a range names; one of no pixels begins at 0
-module _ (ps : List ℕ) (w h line ofs len : ℕ) (g : ScanlineRange) (e : g ≡ scanline_range (length ps) w h line ofs len) where
-  within : Within (length ps) (line_start w line ofs) g
-  within = range_within (length ps) w h line ofs len g e
-
-  lies_at : (s : ℕ) → s ≡ cond (eqb g.count 0) 0 (line_start w line ofs) → part s g.count ps ≡ part g.start g.count ps
-      → Lies (scanline ps w h line ofs len) (line_start w line ofs) ps (part_at g.answer s g.count)
-  lies_at s es ep =
-      record {
-        answer = ap (λ (x : ScanlineRange). x.answer) e;
-        count = sym (full_part ps g.start g.count within.ends) ∙ ap (λ (x : ScanlineRange). length (part x.start x.count ps)) e;
-        start = es;
-        pixels = ep ∙ ap (λ (x : ScanlineRange). part x.start x.count ps) e;
-      }
-
-  pub range_some : (g.count ≡ 0 → ⊥) → Lies (scanline ps w h line ofs len) (line_start w line ofs) ps (part_at g.answer g.start g.count)
-  range_some any = lies_at g.start (rw (ne_eqb g.count 0 any) (within.begins (omega arith))) refl
-
-  pub range_none : g.count ≡ 0 → Lies (scanline ps w h line ofs len) (line_start w line ofs) ps (part_at g.answer 0 g.count)
-  range_none none = lies_at 0 (rw (eq-eqb g.count 0 none)) (rw none)
+pub range_lies : (ps : List ℕ) (w h line ofs len : ℕ) (g : ScanlineRange) → g ≡ scanline_range (length ps) w h line ofs len
+    → Lies (scanline ps w h line ofs len) (line_start w line ofs) ps (named g)
+range_lies ps w h line ofs len g e =
+    let within : Within (length ps) (line_start w line ofs) g = range_within (length ps) w h line ofs len g e in
+    record {
+      answer = ap (λ (r : ScanlineRange). r.answer) e;
+      count = sym (full_part ps g.start g.count within.ends) ∙ ap (λ (r : ScanlineRange). length (part r.start r.count ps)) e;
+      start = begins g.count g.start (line_start w line ofs) within.begins;
+      pixels = moved g.count g.start ps ∙ ap (λ (r : ScanlineRange). part r.start r.count ps) e;
+    }

@@ -12,13 +12,12 @@ use Rattle.geom.specs.Questions.{◌is◌, asked}
 use Rattle.geom.specs.Bare.{edges_fit, both_fit}
 use Rattle.geom.proofs.basics.Tests.{clash, fst, on_cond}
 use Rattle.geom.proofs.basics.Questions.{asked₁}
-use Rattle.busiest.specs.declared.Second.{Second}
+use Rattle.busiest.specs.Busiest.{Second}
 use Rattle.busiest.specs.Busiest as Rate
 use Rattle.busiest.specs.Busiest.{busiest}
 use Rattle.scanline.specs.Pixels.{part}
-use Rattle.winbuf.specs.declared.ScanlineRange as Range
 use Rattle.winbuf.specs.Pixels as Pixels
-use Rattle.geom.specs.declared.Listing.{Listing}
+use Rattle.geom.specs.Refusals.{Listing}
 use Rattle.sheet.specs.Sheet as Bands
 use Rattle.sheet.specs.Sheet.{rects}
 use Rattle.sheet.specs.Reader.{IsSheet, Reads, broken, short, whole}
@@ -147,13 +146,13 @@ range_asked n w h line ofs len = asked ((5 is Pixels.small_line w h line ofs len
 range_answers : (n w h line ofs len : ℕ) → (Pixels.scanline_range n w h line ofs len).answer ≡ range_asked n w h line ofs len
 unfolding Pixels.scanline_range
 range_answers n w h line ofs len =
-    on_cond (λ (r : Range.ScanlineRange). r.answer ≡ range_asked n w h line ofs len) (eqb (range_asked n w h line ofs len) 0 && not (eqb w 0)) _ _ (λ e. refl) (λ e. refl)
+    on_cond (λ (r : Pixels.ScanlineRange). r.answer ≡ range_asked n w h line ofs len) (eqb (range_asked n w h line ofs len) 0 && not (eqb w 0)) _ _ (λ e. refl) (λ e. refl)
 
 range_refused : (n w h line ofs len : ℕ) → eqb (Pixels.scanline_range n w h line ofs len).answer 0 ≡ false
     → Pixels.scanline_range n w h line ofs len ≡ Pixels.no_part (Pixels.scanline_range n w h line ofs len).answer
 unfolding Pixels.scanline_range
 range_refused n w h line ofs len =
-    on_cond (λ (r : Range.ScanlineRange). eqb r.answer 0 ≡ false → r ≡ Pixels.no_part r.answer) (eqb (range_asked n w h line ofs len) 0 && not (eqb w 0)) _ _
+    on_cond (λ (r : Pixels.ScanlineRange). eqb r.answer 0 ≡ false → r ≡ Pixels.no_part r.answer) (eqb (range_asked n w h line ofs len) 0 && not (eqb w 0)) _ _
     (λ e no. clash (fst (eqb (range_asked n w h line ofs len) 0) _ e) no) (λ e no. refl)
 
 -- a run of times

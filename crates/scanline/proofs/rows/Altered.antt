@@ -1,14 +1,8 @@
 -- What is written behind everything that was written before adds its own count: so the counts along a row, and of the rows of an area, add up.
-use mathlib.Core.Path.{◌≡◌, refl, sym, ap, ◌∙◌}
-use mathlib.Core.Bool.{Bool, true, false, cond}
-use mathlib.Core.List.{List, [], ◌∷◌}
-use mathlib.Core.Logic.{◌⊎◌, inl, inr}
-use Prim.Native.Nat.{ℕ, zero, suc, ◌+◌, ◌-◌, ◌≤◌, ◌<◌}
-use native.Mathlib.Omega.{arith}
-use lib.Dec.{eqb}
-use lib.ListN.{length, drop, get_or, set}
-use lib.Seq.{sets, drop-drop, length-sets}
-use borrow.Author.Tests.{eq-eqb}
+use Rattle.std.proofs.Common.{◌≡◌, refl, sym, ap, ◌∙◌, Bool, true, false, cond, List, [], ◌∷◌, ◌⊎◌, inl, inr, ℕ, zero, suc, ◌+◌, ◌-◌, ◌≤◌, ◌<◌, arith, eqb, length, drop, get_or, set, drop-drop, eq-eqb}
+use Rattle.std.proofs.lemmas.List.Edits.{sets}
+use mir.Val.{bool_byte}
+use lib.Seq.{length-sets}
 use Rattle.scanline.specs.Altered.{differs, altered}
 use Rattle.scanline.specs.inner.Rows.{Counted}
 use Rattle.scanline.proofs.rows.Runs.{drop_sets}
@@ -23,6 +17,14 @@ cond_one false = omega arith
 -- at most one
 pub differs_one : (x y : ℕ) → differs x y ≤ 1
 differs_one x y = cond_one (eqb x y)
+
+-- 1 where a pixel keeps its value
+pub keeps : (x y : ℕ) → bool_byte (eqb x y) ≡ 1 - differs x y
+keeps x y = go (eqb x y)
+  where
+    go : (b : Bool) → bool_byte b ≡ 1 - cond {A = ℕ} b 0 1
+    go true = refl
+    go false = refl
 
 -- nothing written, nothing altered
 pub altered_same : (s : List ℕ) → altered s s ≡ 0

@@ -1,10 +1,6 @@
 -- One turn of `move_down` and of `move_up`: what is left to be moved gives the same.
-use mathlib.Core.Path.{◌≡◌, refl, sym, ap, ◌∙◌}
-use mathlib.Core.List.{List, [], ◌∷◌, ◌++◌}
-use Prim.Native.Nat.{ℕ, suc, ◌+◌, ◌-◌, ◌≤◌, ◌<◌}
-use native.Mathlib.Omega.{arith}
-use lib.ListN.{length, take, drop, get_or, set, length-drop}
-use lib.Seq.{sets, drop-cons, drop-set-lt, take-suc, get_or-drop, take-add, take_at, sets-eq, drop-drop}
+use Rattle.std.proofs.Common.{◌≡◌, refl, sym, ap, ◌∙◌, List, [], ◌∷◌, ◌++◌, ℕ, suc, ◌+◌, ◌-◌, ◌≤◌, ◌<◌, arith, length, take, drop, get_or, set, length-drop, drop-cons, drop-set-lt, take-suc, get_or-drop, take-add, take_at, drop-drop}
+use Rattle.std.proofs.lemmas.List.Edits.{sets, sets-eq}
 use Rattle.scanline.specs.Pixels.{part}
 use Rattle.scanline.proofs.rows.Runs.{full_part, sets_snoc, part_set_after, sets_append, sets_comm, drop_sets, part_sets_after}
 

@@ -1,15 +1,7 @@
 -- `write_rows` by place: what stands at each place of a list after rows were written to it.
-use Prim.Native.Nat.{ℕ, zero, suc, ◌+◌, ◌-◌, ◌*◌, ◌≤◌, ◌<◌}
-use mathlib.Core.Path.{◌≡◌, refl, sym, ap, ◌∙◌}
-use mathlib.Core.Bool.{Bool, true, false, cond, ◌&&◌}
-use mathlib.Core.List.{List, [], ◌∷◌}
-use mathlib.Core.Logic.{◌⊎◌, inl, inr, ◌≢◌}
-use native.Mathlib.Nat.{mul-le-mul_right, mul-le-mul_left, mul_comm, not-suc-le-zero, add-zero}
-use native.Mathlib.Omega.{arith}
-use lib.Dec.{leb, ltb}
-use lib.ListN.{length, get_or, set, length-set}
-use lib.Seq.{sets, length-sets, get_or-set_same, get_or-set_other}
-use borrow.Author.Tests.{ltb-true, ltb-false, leb-true, leb-false}
+use Rattle.std.proofs.Common.{ℕ, zero, suc, ◌+◌, ◌-◌, ◌*◌, ◌≤◌, ◌<◌, ◌≡◌, refl, sym, ap, ◌∙◌, Bool, true, false, cond, ◌&&◌, List, [], ◌∷◌, ◌⊎◌, inl, inr, ◌≢◌, mul-le-mul_right, mul-le-mul_left, mul_comm, not-suc-le-zero, add-zero, arith, leb, ltb, length, get_or, set, length-set, get_or-set_same, get_or-set_other, ltb-true, ltb-false, leb-true, leb-false}
+use Rattle.std.proofs.lemmas.List.Edits.{sets}
+use lib.Seq.{length-sets}
 use Rattle.geom.proofs.basics.Tests.{lt_or_le}
 use Rattle.scanline.specs.Pixels.{write_rows}
 

@@ -1,13 +1,9 @@
 -- A run of stores in a list, and a part of the list after one.
-use mathlib.Core.Path.{◌≡◌, refl, sym, ap, ◌∙◌}
-use mathlib.Core.List.{List, [], ◌∷◌, ◌++◌, append_assoc}
-use mathlib.Core.Logic.{◌⊎◌, inl, inr}
-use Prim.Native.Nat.{ℕ, suc, ◌+◌, ◌-◌, ◌≤◌, ◌<◌, min}
-use native.Mathlib.Omega.{arith}
-use native.Mathlib.Nat.{add-zero}
-use lib.ListN.{length, take, drop, set, length-take, length-drop, length-append, take-append-drop}
+use Rattle.std.proofs.Common.{◌≡◌, refl, sym, ap, ◌∙◌, List, [], ◌∷◌, ◌++◌, append_assoc, ◌⊎◌, inl, inr, ℕ, suc, ◌+◌, ◌-◌, ◌≤◌, ◌<◌, min, arith, add-zero, length, take, drop, set, replicate, length-take, length-drop, length-append, take-append-drop, take-take, take_all, take-add, drop-drop, drop-set-lt, take_at}
+use Rattle.std.proofs.lemmas.List.{length-replicate, set_comm, drop-set-add, take-set-le}
+use Rattle.std.proofs.lemmas.List.Edits.{sets, sets-eq}
 use borrow.Rule.Slice.PartMut.{put_mid}
-use lib.Seq.{sets, take-take, take_all, take-add, drop-drop, drop-set-lt, set_comm, drop-set-add, take-set-le, take_at, sets-eq, drop-append-add}
+use lib.Seq.{drop-append-add}
 use Rattle.geom.proofs.basics.Tests.{lt_or_le}
 use Rattle.scanline.specs.Pixels.{part}
 use Rattle.scanline.proofs.rows.Paint.{length_part}
@@ -50,6 +46,17 @@ put_is l ys row a n e k h =
     let m : a + n - a ≡ n = omega arith in
     let j : a + length row ≤ length l = omega arith in
     rw (m, e, drop-drop n a l, ← k) (sym (sets-eq row l a j ∙ append_assoc (take a l) row (drop (a + length row) l)))
+
+-- a part from a to b that was lent and became zeros
+pub cleared : (l ys : List ℕ) (a b n : ℕ) → a + n ≡ b → b ≤ length l → ys ≡ replicate (length (part a (b - a) l)) 0
+    → put_mid a (b - a) l ys ≡ sets l a (replicate n 0)
+cleared l ys a b n h k e =
+    let m : b - a ≡ a + n - a = omega arith in
+    let d : b - a ≡ n = omega arith in
+    ap (λ (j : ℕ). put_mid a j l ys) m
+    ∙ put_is l ys (replicate n 0) a n
+    (e ∙ ap (λ (j : ℕ). replicate (length (part a j l)) 0) d ∙ ap (λ (j : ℕ). replicate j 0) (full_part l a n (omega arith)))
+    (length-replicate n 0) (omega arith)
 
 -- the same of all that lies from a on
 pub put_end : (l ys row : List ℕ) (a : ℕ) → ys ≡ row → length row ≡ length l - a → a ≤ length l → put_mid a (length l - a) l ys ≡ sets l a row

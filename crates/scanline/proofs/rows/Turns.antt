@@ -1,22 +1,12 @@
 -- Loops over rows: one row more, and all rows.
-use mathlib.Core.Path.{◌≡◌, ap, ◌∙◌}
-use mathlib.Core.List.{List}
-use Prim.Native.Nat.{ℕ, ◌+◌, ◌*◌, ◌≤◌}
-use native.Mathlib.Omega.{arith}
-use native.Mathlib.Numerals.{add-one}
-use native.Mathlib.Nat.{suc-mul}
-use lib.Seq.{sets}
+use Rattle.std.proofs.Common.{◌≡◌, ap, ◌∙◌, List, ℕ, ◌+◌, ◌*◌, add-one, suc-mul}
+use Rattle.std.proofs.lemmas.List.Edits.{sets}
 use Rattle.scanline.specs.Pixels.{write_rows}
 
 pub rows_more : (at : ℕ → ℕ) (row : ℕ → List ℕ) (s p q : List ℕ) (r : ℕ) → p ≡ write_rows r at row s → q ≡ sets p (at r) (row r)
     → q ≡ write_rows (r + 1) at row s
 unfolding write_rows
 rows_more at row s p q r e f = rw (add-one r) (f ∙ ap (λ (l : List ℕ). sets l (at r) (row r)) e)
-
-pub rows_all : (at : ℕ → ℕ) (row : ℕ → List ℕ) (s p : List ℕ) (r n : ℕ) → p ≡ write_rows r at row s → r ≤ n → n ≤ r → p ≡ write_rows n at row s
-rows_all at row s p r n e h l =
-    let k : r ≡ n = omega arith in
-    e ∙ ap (λ (j : ℕ). write_rows j at row s) k
 
 -- where the next row begins
 pub next_row : (r pitch : ℕ) → (r + 1) * pitch ≡ r * pitch + pitch

@@ -1,12 +1,7 @@
 -- A block of bytes, read one after the other up to a newline.
-use Prim.Native.Nat.{ℕ, ◌+◌, ◌≤◌, ◌<◌}
-use mathlib.Core.Path.{◌≡◌, sym, ap, ◌∙◌}
-use mathlib.Core.List.{List, [], ◌∷◌, ◌++◌, foldl, foldl-append}
-use native.Mathlib.Omega.{arith}
-use native.Mathlib.Numerals.{add-one}
-use lib.ListN.{length, take, get_or}
-use lib.Seq.{slice, slice_empty, take-suc, drop-append-le, length-take-le}
-use borrow.Author.Count.{below_more}
+use Rattle.std.proofs.Common.{ℕ, ◌+◌, ◌≤◌, ◌<◌, ◌≡◌, sym, ap, ◌∙◌, List, [], ◌∷◌, ◌++◌, arith, add-one, length, take, get_or, take-suc, length-take-le, below_more}
+use mathlib.Core.List.{foldl, foldl-append}
+use Rattle.std.proofs.Math.Seq.{slice, slice_empty, drop-append-le}
 use Rattle.script.specs.declared.Reading.{Reading}
 use Rattle.script.specs.Machine.{State, at_start, step, state_of, run, Reads, ReadTo}
 

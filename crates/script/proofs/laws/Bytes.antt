@@ -1,36 +1,13 @@
--- The numbers of a line that are bytes, one after the other.
-use Prim.Native.Nat.{ℕ, zero, suc, ◌+◌, ◌≤◌, ◌<◌}
-use mathlib.Core.Path.{◌≡◌, refl, sym, ap, ◌∙◌}
-use mathlib.Core.Bool.{true, false, ◌&&◌}
-use mathlib.Core.List.{List, [], ◌∷◌}
-use native.Mathlib.Omega.{arith}
-use native.Mathlib.Numerals.{add-one}
-use lib.ListN.{length, take, drop, get_or, drop_of_length-le}
-use lib.Seq.{drop-cons, get_or-take, length-take-le}
-use borrow.Author.Tests.{leb-true, le-leb, lt-leb}
+-- The numbers of a line that are bytes.
+use Rattle.std.proofs.Common.{Bool, ℕ, zero, suc, ◌≤◌, ◌<◌, ◌≡◌, refl, ap, true, ◌&&◌, List, [], ◌∷◌, arith, length, take, get_or, get_or-take, length-take-le, leb-true}
 use Rattle.geom.proofs.basics.Tests.{fst, snd}
+use Rattle.std.specs.List.{list_all}
 use Rattle.script.specs.Script.{all, is_byte}
 
--- the first i are
-pub record Asking (ns : List ℕ) (i : ℕ) : Type 0 where
-  pub within : i ≤ length ns
-  pub so_far : all is_byte ns ≡ all is_byte (drop i ns)
-
-pub ask_none : (ns : List ℕ) → Asking ns 0
-ask_none ns = record { within = omega arith; so_far = refl }
-
-module _ {ns : List ℕ} {i : ℕ} (q : Asking ns i) where
-  step : i < length ns → all is_byte ns ≡ is_byte (get_or ns i 0) && all is_byte (drop (suc i) ns)
-  step h = q.so_far ∙ ap (all is_byte) (drop-cons ns i 0 h)
-
-  pub ask_large : i < length ns → 255 < get_or ns i 0 → false ≡ all is_byte ns
-  ask_large h l = sym (step h ∙ rw (lt-leb _ 255 l) refl)
-
-  pub ask_byte : i < length ns → get_or ns i 0 ≤ 255 → Asking ns (i + 1)
-  ask_byte h l = record { within = omega arith; so_far = rw add-one (step h ∙ rw (le-leb _ 255 l) refl) }
-
-  pub ask_end : length ns ≤ i → true ≡ all is_byte ns
-  ask_end h = sym (q.so_far ∙ ap (all is_byte) (drop_of_length-le ns {i = i} h))
+-- the library's test of all
+pub all_is : (p : ℕ → Bool) (ns : List ℕ) → list_all p ns ≡ all p ns
+all_is p [] = refl
+all_is p (n ∷ ns) = ap (λ (t : Bool). p n && t) (all_is p ns)
 
 byte_at : (ns : List ℕ) (i : ℕ) → all is_byte ns ≡ true → i < length ns → get_or ns i 0 ≤ 255
 byte_at [] i a h = absurd (omega arith)

@@ -1,22 +1,24 @@
--- The rows and their bytes: what the search has passed gives no kind, and a word of 17 letters has none.
-use Prim.Native.Nat.{ℕ, zero, suc, ◌+◌, ◌*◌, ◌≤◌, ◌<◌}
-use mathlib.Core.Path.{◌≡◌, refl, sym, ap, ◌∙◌}
-use mathlib.Core.Bool.{Bool, true, false, cond, ◌&&◌}
-use mathlib.Core.Option.{none, some}
-use mathlib.Core.List.{List, [], ◌∷◌}
-use native.Mathlib.Omega.{arith}
-use native.Mathlib.Numerals.{add-one}
-use lib.Dec.{leb, eqb}
-use lib.ListN.{length, drop, get_or}
-use lib.Seq.{drop-cons}
-use borrow.Author.Tests.{eqb-true, eq-eqb, ne_eqb, leb-true}
-use Rattle.geom.proofs.basics.Tests.{fst, snd, both, clash, is_false}
+-- The rows of the tables: what the search has passed gives no kind, and a word of 17 letters has none.
+use Rattle.std.proofs.Common.{ℕ, suc, ◌+◌, ◌≤◌, ◌<◌, ◌≡◌, refl, sym, ap, ◌-◌, ◌∙◌, arith, min, Bool, true, false, cond, ◌&&◌, List, [], ◌∷◌, length, take, leb, eqb, eqb-true, eq-eqb, leb-true, leb-false, le-leb}
+use Rattle.std.proofs.lemmas.List.{take_all}
+use Rattle.std.specs.Prelude as Std
+use Rattle.std.specs.Prelude.{Some, None, find}
+use Rattle.std.proofs.Math.Option.{Option, none, some}
+use lib.Pointwise.{pointwise}
+use denote.Enum.Bare.{sameb, same_true}
+use denote.Enum.Declared.{tag_of}
+use Rattle.std.proofs.lemmas.Bool.{lt-leb}
+use Rattle.geom.proofs.basics.Tests.{fst, snd, clash, is_false, says_le, same}
+use Rattle.geom.proofs.basics.Tables.{every}
+use Rattle.script.specs.contracts.kind.Kind.{the_type}
+use Rattle.script.specs.declared.kind.Kind.{Kind as AKind}
+use Rattle.script.specs.declared.kind.Kind.TheVariants as kind
 use Rattle.script.specs.Kind as Kind
-use Rattle.script.specs.Script.{Row, table, same_word, kind_in, kind_of, row_in}
-use Rattle.script.specs.inner.Table.{words, no_row, row_at, letters, byte, word_in, follows, RowHas, Rows}
-use Rattle.geom.proofs.basics.Tables.{every, at}
+use Rattle.script.specs.Kind.{code_of}
+use Rattle.script.specs.Script.{Row, table, same_word, kind_in, kind_of, row_in, counted_by, counted}
+use Rattle.script.specs.inner.Table.{Held, row_of, rows_of}
 
--- Words that are the same ----------------------------------------------------------------------------------------------
+-- Tests that are the same ----------------------------------------------------------------------------------------------
 
 pub same_is : (v w : List ℕ) → same_word v w ≡ true → v ≡ w
 same_is [] [] e = refl
@@ -27,109 +29,167 @@ same_is (x ∷ xs) (y ∷ ys) e =
     let t : xs ≡ ys = same_is xs ys (snd (eqb x y) (same_word xs ys) e) in
     cc
 
-pub same_self : (w : List ℕ) → same_word w w ≡ true
-same_self [] = refl
-same_self (x ∷ xs) = both (eq-eqb x x refl) (same_self xs)
+same_words : (v w : List ℕ) → pointwise eqb v w ≡ same_word v w
+same_words [] [] = refl
+same_words [] (y ∷ ys) = refl
+same_words (x ∷ xs) [] = refl
+same_words (x ∷ xs) (y ∷ ys) = ap (λ (t : Bool). eqb x y && t) (same_words xs ys)
 
--- a test that tells whether two words are the same
-pub told : (v w : List ℕ) (t : Bool) → (t ≡ true → v ≡ w) → (v ≡ w → t ≡ true) → t ≡ same_word v w
-told v w true f g = sym (ap (same_word v) (sym (f refl)) ∙ same_self v)
-told v w false f g = sym (is_false (λ e. clash (g (same_is v w e)) refl))
+tag_is : (k : AKind) → tag_of the_type k ≡ code_of k
+tag_is kind.Passed = refl
+tag_is kind.Malformed = refl
+tag_is kind.Start = refl
+tag_is kind.Create = refl
+tag_is kind.Show = refl
+tag_is kind.Hide = refl
+tag_is kind.Drop = refl
+tag_is kind.Mark = refl
+tag_is kind.Move = refl
+tag_is kind.Resize = refl
+tag_is kind.Fill = refl
+tag_is kind.Blit = refl
+tag_is kind.KeyDown = refl
+tag_is kind.KeyUp = refl
+tag_is kind.KeyFire = refl
+tag_is kind.Text = refl
+tag_is kind.MouseMove = refl
+tag_is kind.MouseDown = refl
+tag_is kind.MouseUp = refl
+tag_is kind.MouseClick = refl
+tag_is kind.Resized = refl
+tag_is kind.Pop = refl
+tag_is kind.Redraw = refl
+tag_is kind.Visible = refl
+tag_is kind.Focus = refl
+tag_is kind.Lend = refl
+tag_is kind.LendScreen = refl
+tag_is kind.LendList = refl
+tag_is kind.Screen = refl
+tag_is kind.Pixels = refl
+tag_is kind.Picture = refl
+tag_is kind.Intersect = refl
+tag_is kind.Pieces = refl
+tag_is kind.Union = refl
+tag_is kind.Contains = refl
+tag_is kind.ContainsRect = refl
+tag_is kind.Within = refl
+tag_is kind.Scanline = refl
+tag_is kind.FillScanline = refl
+tag_is kind.SetScanline = refl
+tag_is kind.Region = refl
+tag_is kind.Begin = refl
+tag_is kind.Portion = refl
+tag_is kind.Busiest = refl
+tag_is kind.Share = refl
+tag_is kind.Hits = refl
+tag_is kind.Dim = refl
+tag_is kind.Layer = refl
+tag_is kind.Look = refl
+tag_is kind.LookFit = refl
+tag_is kind.LendTarget = refl
+tag_is kind.Display = refl
+tag_is kind.DisplayAt = refl
+tag_is kind.Maximise = refl
+tag_is kind.UpdateDims = refl
+tag_is kind.Sheet = refl
+tag_is kind.ReadSheet = refl
+tag_is kind.LendSheet = refl
+tag_is kind.Raise = refl
+tag_is kind.Drag = refl
+tag_is kind.Stale = refl
+tag_is kind.Waiting = refl
+tag_is kind.Window = refl
+tag_is kind.Session = refl
+tag_is kind.Who = refl
 
--- The rows -------------------------------------------------------------------------------------------------------------
+pub same_kinds : (k j : AKind) → sameb the_type k j ≡ eqb (code_of k) (code_of j)
+same_kinds k j = rw (tag_is k, tag_is j)
 
--- they stand in the order of their kinds
-abbrev in_order : ℕ → Row → Bool
-in_order k r = eqb r.kind (k + Kind.start)
+-- a kind that is another has another number
+pub other_kind : (k j : AKind) → (k ≡ j → ⊥) → eqb (code_of k) (code_of j) ≡ false
+other_kind k j n = is_false (λ e. n (same_true the_type tt k j (same_kinds k j ∙ e)))
 
-row_in_lem : (rs : List Row) (i : ℕ) → every in_order i rs ≡ true → (k : ℕ) → k < length rs → row_in (i + k + Kind.start) rs ≡ some (get_or rs k no_row)
-row_in_lem [] i t k h = absurd (omega arith)
-row_in_lem (r ∷ rs) i t zero h =
-    let e : r.kind ≡ i + Kind.start = eqb-true r.kind (i + Kind.start) (fst (in_order i r) (every in_order (suc i) rs) t) in
-    ap (λ (b : Bool). cond b (some r) (row_in (i + 0 + Kind.start) rs)) (eq-eqb (i + 0 + Kind.start) r.kind (omega arith))
-row_in_lem (r ∷ rs) i t (suc k) h =
-    let e : r.kind ≡ i + Kind.start = eqb-true r.kind (i + Kind.start) (fst (in_order i r) (every in_order (suc i) rs) t) in
-    let s : i + suc k ≡ suc i + k = omega arith in
-    ap (λ (b : Bool). cond b (some r) (row_in (i + suc k + Kind.start) rs)) (ne_eqb (i + suc k + Kind.start) r.kind (λ f. omega arith))
-    ∙ ap (λ (n : ℕ). row_in (n + Kind.start) rs) s
-    ∙ row_in_lem rs (suc i) (snd (in_order i r) (every in_order (suc i) rs) t) k (omega arith)
-
-row_out : (rs : List Row) (i : ℕ) → every in_order i rs ≡ true → (k : ℕ) → (i + Kind.start ≤ k → i + Kind.start + length rs ≤ k) → row_in k rs ≡ none
-row_out [] i t k h = refl
-row_out (r ∷ rs) i t k h =
-    let e : r.kind ≡ i + Kind.start = eqb-true r.kind (i + Kind.start) (fst (in_order i r) (every in_order (suc i) rs) t) in
-    rw (ne_eqb k r.kind (λ f. omega (arith, h (omega arith))))
-    (row_out rs (suc i) (snd (in_order i r) (every in_order (suc i) rs) t) k (λ l. omega (arith, h (omega arith))))
-
-pub row_of : (k : ℕ) → k < words → row_in (k + Kind.start) table ≡ some (row_at k)
-unfolding table row_at
-row_of k h = let z : 0 + k ≡ k = omega arith in rw z at (row_in_lem table 0 refl k h)
-
-pub no_row_lem : (k : ℕ) → (Kind.start ≤ k → Kind.last < k) → row_in k table ≡ none
-unfolding table
-no_row_lem k h = row_out table 0 refl k h
-
-kind_at : (k : ℕ) → k < words → (row_at k).kind ≡ k + Kind.start
-unfolding table row_at
-kind_at k h = eqb-true (row_at k).kind (k + Kind.start) (at no_row in_order table refl k h)
-
--- what the test says of each row
-pub at_row : (f : ℕ → Row → Bool) → every f 0 table ≡ true → (k : ℕ) → k < words → f k (row_at k) ≡ true
-unfolding table row_at
-at_row f t k h = at no_row f table t k h
-
--- the row is held where the table says
-abbrev pub holds : List ℕ → ℕ → Row → Bool
-holds rows k r =
-    leb (letters rows k) 16
-    && (eqb (byte rows k 1) r.numbers && (eqb (follows (byte rows k 2)) r.more && same_word (word_in rows k) r.word))
-
-pub held : (rows : List ℕ) → length rows ≡ words * 19 → every (holds rows) 0 table ≡ true → Rows rows
-held rows l e = record { bytes = l; held = λ k h. of k (row_at k) (at_row (holds rows) e k h) }
-  where
-    of : (k : ℕ) (r : Row) → holds rows k r ≡ true → RowHas rows k r
-    of k r t =
-        let b = snd (leb (letters rows k) 16) _ t in
-        let c = snd (eqb (byte rows k 1) r.numbers) _ b in
-        record {
-          short = leb-true (letters rows k) 16 (fst (leb (letters rows k) 16) _ t);
-          numbers = eqb-true (byte rows k 1) r.numbers (fst (eqb (byte rows k 1) r.numbers) _ b);
-          more = eqb-true (follows (byte rows k 2)) r.more (fst (eqb (follows (byte rows k 2)) r.more) _ c);
-          word = same_is (word_in rows k) r.word (snd (eqb (follows (byte rows k 2)) r.more) _ c);
-        }
+-- a kind is told by its number
+pub code_one : (k j : AKind) → code_of k ≡ code_of j → k ≡ j
+code_one k j e = same_true the_type tt k j (same_kinds k j ∙ eq-eqb (code_of k) (code_of j) e)
 
 -- The search -----------------------------------------------------------------------------------------------------------
 
--- none of the first k words is the word
-pub record Sought (w rows : List ℕ) (k : ℕ) : Type 0 where
-  pub held : Rows rows
-  pub within : k ≤ words
-  pub so_far : kind_of w ≡ kind_in w (drop k table)
+abbrev kind_or : Std.Option Held → ℕ
+kind_or None = Kind.malformed
+kind_or (Some r) = code_of r.1
 
-module _ {w rows : List ℕ} where
-  pub search_starts : Rows rows → Sought w rows 0
-  unfolding kind_of
-  search_starts h = record { held = h; within = omega arith; so_far = refl }
+kind_search : (w : List ℕ) (rows : List Held) → kind_in w (rows_of rows) ≡ kind_or (find (λ r. pointwise eqb w r.0.now) rows)
+kind_search w [] = refl
+kind_search w (r ∷ rows) = rw (same_words w r.0.now) (go (same_word w r.0.now) (kind_search w rows))
+  where
+    go : (t : Bool) → kind_in w (rows_of rows) ≡ kind_or (find (λ q. pointwise eqb w q.0.now) rows)
+        → cond t (code_of r.1) (kind_in w (rows_of rows)) ≡ kind_or (cond t (Some r) (find (λ q. pointwise eqb w q.0.now) rows))
+    go true e = refl
+    go false e = e
 
-module _ {w rows : List ℕ} {k : ℕ} (q : Sought w rows k) where
-  next : k < words → drop k table ≡ row_at k ∷ drop (suc k) table
-  unfolding table row_at
-  next h = drop-cons table k no_row h
+-- what a search for a word has found
+pub word_found : (w : List ℕ) (rows : List Held) (o : Std.Option Held) → o ≡ find (λ r. pointwise eqb w r.0.now) rows → kind_or o ≡ kind_in w (rows_of rows)
+word_found w rows o e = ap kind_or e ∙ sym (kind_search w rows)
 
-  here : {t : Bool} → k < words → t ≡ same_word w (row_at k).word → kind_of w ≡ cond t (k + Kind.start) (kind_in w (drop (suc k) table))
-  here {t} h e = q.so_far ∙ rw (next h, ← e, kind_at k h)
+abbrev row_or : Std.Option Held → Option Row
+row_or None = none
+row_or (Some r) = some (row_of r)
 
-  pub search_hit : {t : Bool} → k < words → t ≡ same_word w (row_at k).word → t ≡ true → k + Kind.start ≡ kind_of w
-  search_hit h e y = sym (here h (sym y ∙ e))
+row_search : (k : AKind) (rows : List Held) → row_in (code_of k) (rows_of rows) ≡ row_or (find (λ r. sameb the_type k r.1) rows)
+row_search k [] = refl
+row_search k (r ∷ rows) = rw (same_kinds k r.1) (go (eqb (code_of k) (code_of r.1)) (row_search k rows))
+  where
+    go : (t : Bool) → row_in (code_of k) (rows_of rows) ≡ row_or (find (λ q. sameb the_type k q.1) rows)
+        → cond t (some (row_of r)) (row_in (code_of k) (rows_of rows)) ≡ row_or (cond t (Some r) (find (λ q. sameb the_type k q.1) rows))
+    go true e = refl
+    go false e = e
 
-  pub search_miss : {t : Bool} → k < words → t ≡ same_word w (row_at k).word → t ≡ false → Sought w rows (k + 1)
-  search_miss h e n = record { held = q.held; within = omega arith; so_far = here h (sym n ∙ e) ∙ rw add-one }
+-- what a search for a kind has found
+module _ (k : AKind) (rows : List Held) (n : ℕ) where
+  pub row_found : (o : Std.Option Held) → o ≡ find (λ r. sameb the_type k r.1) rows → counted_by (row_or o) n ≡ counted_by (row_in (code_of k) (rows_of rows)) n
+  row_found o e = ap (λ (r : Option Row). counted_by r n) (ap row_or e ∙ sym (row_search k rows))
 
-  pub search_ends : words ≤ k → Kind.malformed ≡ kind_of w
-  unfolding table
-  search_ends h =
-      let e : k ≡ words = omega (arith, q.within) in
-      sym (q.so_far ∙ ap (λ (j : ℕ). kind_in w (drop j table)) e)
+  pub too_few : (r : Held) → Some r ≡ find (λ q. sameb the_type k q.1) rows → n < r.2 → leb r.2 n ≡ counted_by (row_in (code_of k) (rows_of rows)) n
+  too_few r e h = rw (lt-leb r.2 n h) (rw (lt-leb r.2 n h) at (row_found (Some r) e))
+
+  pub enough : (r : Held) → Some r ≡ find (λ q. sameb the_type k q.1) rows → r.2 ≤ n → leb (n - r.2) r.3 ≡ counted_by (row_in (code_of k) (rows_of rows)) n
+  enough r e h =
+      same (says_le (n - r.2) r.3) (says_le n (r.2 + r.3)) (λ m. omega arith) (λ m. omega arith) ∙ (rw (le-leb r.2 n h) at (row_found (Some r) e))
+
+-- the letters of a word are no more than it has
+pub take_min : {A : Type 0} (n : ℕ) (l : List A) → take (min n (length l)) l ≡ take n l
+take_min n l = go (leb n (length l)) refl
+  where
+    go : (t : Bool) → leb n (length l) ≡ t → take (min n (length l)) l ≡ take n l
+    go true h =
+        let m : min n (length l) ≡ n = omega (arith, leb-true n (length l) h) in
+        rw m
+    go false h =
+        let m : min n (length l) ≡ length l = omega (arith, leb-false n (length l) h) in
+        rw m (take_all (length l) l (omega arith) ∙ sym (take_all n l (omega (arith, leb-false n (length l) h))))
+
+-- The tables -----------------------------------------------------------------------------------------------------------
+
+-- a row of the tables with so many numbers
+pub record Found (f : Row → Bool) (k n : ℕ) : Type 0 where
+  pub row : Row
+  pub kind : k ≡ row.kind
+  pub passes : f row ≡ true
+  pub numbers : counted_by (some row) n ≡ true
+
+found_in : (f : Row → Bool) (rs : List Row) (i : ℕ) → every (λ _. f) i rs ≡ true → (k n : ℕ) → counted_by (row_in k rs) n ≡ true → Found f k n
+found_in f [] i t k n c = clash c refl
+found_in f (r ∷ rs) i t k n c = go (eqb k r.kind) refl c (found_in f rs (suc i) (snd (f r) _ t) k n)
+  where
+    go : (u : Bool) → eqb k r.kind ≡ u → counted_by (cond u (some r) (row_in k rs)) n ≡ true → (counted_by (row_in k rs) n ≡ true → Found f k n) → Found f k n
+    go true e d more = record { row = r; kind = eqb-true k r.kind e; passes = fst (f r) _ t; numbers = d }
+    go false e d more = more d
+
+-- what each row of the tables passes
+pub passing : (f : Row → Bool) → every (λ _. f) 0 table ≡ true → (k n : ℕ) → counted k n ≡ true → Found f k n
+unfolding counted
+passing f t k n c = found_in f table 0 t k n c
 
 -- A word of more than 16 letters ---------------------------------------------------------------------------------------
 

@@ -1,15 +1,10 @@
 -- The machine says of a line what the line means. Between two bytes its state agrees with the words so far (`Agrees`); where it is spoiled,
 -- the line is malformed whatever follows.
-use Prim.Native.Nat.{ℕ, ◌<◌}
-use mathlib.Core.Path.{◌≡◌, refl, sym, ap, subst, ◌∙◌}
-use mathlib.Core.Bool.{Bool, true, false, cond}
-use mathlib.Core.List.{List, [], ◌∷◌, ◌++◌, foldl, foldl-append, append_assoc, append-nil}
-use mathlib.Core.Option.{Option, none, some}
-use native.Mathlib.Nat.{not-suc-le-zero}
-use native.Mathlib.Omega.{arith}
-use lib.Dec.{ltb, eqb}
-use lib.ListN.{length, length-append}
-use borrow.Author.Tests.{eqb-true, eqb-false, ne_eqb, ltb-false}
+use Rattle.std.proofs.Common.{ℕ, ◌<◌, ◌≡◌, refl, sym, ap, subst, ◌∙◌, Bool, true, false, cond, List, [], ◌∷◌, ◌++◌, append_assoc, append-nil, not-suc-le-zero, arith, ltb, eqb, length, length-append, eqb-true, ne_eqb, ltb-false}
+use Rattle.std.proofs.Math.Bool.{and-false}
+use mathlib.Core.List.{foldl, foldl-append}
+use Rattle.std.proofs.Math.Option.{Option, none, some}
+use Rattle.std.proofs.lemmas.Bool.{eqb-false}
 use Rattle.script.specs.declared.Reading.{Reading}
 use Rattle.script.specs.declared.shape.Line.{Line}
 use Rattle.geom.proofs.basics.Tests.{is_false}
@@ -18,7 +13,7 @@ use Rattle.script.specs.Script.{Cutting, closed, with_space, with_letter, cut, s
 use Rattle.script.specs.Machine.{State, at_start, spaces, in_word, between, in_number, in_name, after_name, in_comment, spoiled, digit, may_follow, grown, longer, named, space, letter, step, run, ends, Reads, Ended}
 use Rattle.script.proofs.laws.Kinds.{long_unknown}
 use Rattle.script.proofs.laws.Calls.{not_over}
-use Rattle.script.proofs.laws.Letters.{and_false, number_snoc, no_number, name_snoc, no_name}
+use Rattle.script.proofs.laws.Letters.{number_snoc, no_number, name_snoc, no_name}
 use Rattle.script.proofs.laws.Steps.{no_comment}
 
 -- What is heard so far -------------------------------------------------------------------------------------------------
@@ -42,7 +37,7 @@ unfolding with_word
 lost_more bad w = bad
 lost_more (over k ns name l) w =
     let e : eqb (length ns) 2 ≡ false = ne_eqb (length ns) 2 (λ f. omega arith) in
-    rw (e, and_false (eqb k Kind.picture)) (go (number w))
+    rw (e, and-false (eqb k Kind.picture)) (go (number w))
   where
     go : (o : Option ℕ) → Lost (with_number k ns o)
     go none = bad

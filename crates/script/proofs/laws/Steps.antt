@@ -1,26 +1,13 @@
 -- One byte: what the code does with the lists is what the machine does with what they hold.
-use Prim.Native.Nat.{ℕ, ◌+◌, ◌*◌, ◌-◌, ◌≤◌, ◌<◌}
-use mathlib.Core.Path.{◌≡◌, refl, sym, ap, ◌∙◌}
-use mathlib.Core.Bool.{Bool, true, false, cond, ◌&&◌}
-use mathlib.Core.List.{List, []}
-use mathlib.Core.Option.{some}
-use native.Mathlib.Omega.{arith}
-use native.Mathlib.Numerals.{add-one}
-use lib.Dec.{leb, ltb, eqb}
-use lib.ListN.{length, take, get_or, set}
-use lib.Seq.{length-take-le, take_all, take-suc, take-suc-set, take-set-le, get_or-set_same}
-use borrow.Author.Tests.{ne_eqb, leb-true, leb-false, lt-ltb, le-ltb, le-leb, lt-leb}
-use Rattle.script.specs.declared.Reading.{Reading}
-use Rattle.script.proofs.laws.Stages.{standing_at, at_stage}
+use Rattle.std.proofs.Common.{ℕ, ◌+◌, ◌≤◌, ◌<◌, ◌≡◌, refl, sym, ◌∙◌, Bool, true, false, cond, ◌&&◌, List, [], arith, add-one, leb, ltb, eqb, length, take, get_or, set, length-take-le, take_all, take-suc, take-suc-set, get_or-set_same, ne_eqb, leb-true, leb-false, lt-ltb, le-ltb, ⊎_elim}
+use Rattle.std.proofs.Math.Option.{none, some}
+use Rattle.std.proofs.Math.Seq.{take-set-le}
+use Rattle.geom.proofs.basics.Tests.{lt_or_le}
 use Rattle.script.specs.Kind as Kind
-use Rattle.script.specs.Script.{is_digit, name_next}
-use Rattle.script.specs.Machine.{State, at_start, spaces, in_word, between, in_number, in_name, after_name, in_comment, spoiled, digit, may_follow, grown, longer, named, space, letter, step, standing, state_of}
+use Rattle.script.specs.Script.{name_next}
+use Rattle.script.specs.Machine.{State, at_start, spaces, in_word, between, in_number, in_name, after_name, in_comment, spoiled, digit, may_follow, longer, named, space, letter, step}
 
 -- A number -------------------------------------------------------------------------------------------------------------
-
--- the number with one digit more, as the code computes it
-abbrev pub with_digit : ℕ → ℕ → ℕ
-with_digit v b = cond (is_digit b) (v * 10 + (b - 48)) 4294967296
 
 module _ (k : ℕ) (ns : List ℕ) (n : ℕ) (room : length ns ≡ 384006) where
   has_room : n < 384006 → ltb (length (take n ns)) 384006 ≡ true
@@ -32,29 +19,12 @@ module _ (k : ℕ) (ns : List ℕ) (n : ℕ) (room : length ns ≡ 384006) where
   pub longer_full : (v b : ℕ) → 384006 ≤ n → longer k (take n ns) v b ≡ spoiled
   longer_full v b h = rw (no_room h)
 
-  pub longer_bad : (v b x : ℕ) → n < 384006 → x ≡ with_digit v b → 4294967295 < x → longer k (take n ns) v b ≡ spoiled
-  unfolding digit
-  longer_bad v b x h e l = rw (has_room h) (go (is_digit b) refl)
-    where
-      go : (t : Bool) → is_digit b ≡ t → grown k (take n ns) (digit (some v) b) ≡ spoiled
-      go true d =
-          let y : x ≡ v * 10 + (b - 48) = e ∙ rw d in
-          rw (d, lt-leb (v * 10 + (b - 48)) 4294967295 (omega arith))
-      go false d = rw d
+  pub longer_bad : (v b : ℕ) → n < 384006 → digit (some v) b ≡ none → longer k (take n ns) v b ≡ spoiled
+  longer_bad v b h e = rw (has_room h, e)
 
-  pub longer_good : (v b x : ℕ) → n < 384006 → x ≡ with_digit v b → x ≤ 4294967295
+  pub longer_good : (v b x : ℕ) → n < 384006 → digit (some v) b ≡ some x
       → in_number k (take n (set ns n x)) (get_or (set ns n x) n 0) ≡ longer k (take n ns) v b
-  unfolding digit
-  longer_good v b x h e l = rw (has_room h, take-set-le n ns n x (omega arith), get_or-set_same ns n x 0 (omega arith)) (go (is_digit b) refl)
-    where
-      go : (t : Bool) → is_digit b ≡ t → in_number k (take n ns) x ≡ grown k (take n ns) (digit (some v) b)
-      go true d =
-          let y : x ≡ v * 10 + (b - 48) = e ∙ rw d in
-          rw (d, ← y, le-leb x 4294967295 l)
-      go false d =
-          let y : x ≡ 4294967296 = e ∙ rw d in
-          let no : ⊥ = omega arith in
-          absurd no
+  longer_good v b x h e = rw (has_room h, e, take-set-le n ns n x (omega arith), get_or-set_same ns n x 0 (omega arith))
 
   pub from_zero : (b : ℕ) → n < 384006 → longer k (take n (set ns n 0)) (get_or (set ns n 0) n 0) b ≡ longer k (take n ns) 0 b
   from_zero b h = rw (take-set-le n ns n 0 (omega arith), get_or-set_same ns n 0 0 (omega arith))
@@ -108,6 +78,11 @@ module _ (k : ℕ) (ns name : List ℕ) (at b : ℕ) (room : length name ≡ 64)
     pub name_bad : t ≡ false → named k ns (take at name) b ≡ spoiled
     name_bad e = rw (length-take-le at name (omega arith), sym asked ∙ e)
 
+-- a byte that may not stand there
+pub name_no : (k : ℕ) (ns name : List ℕ) (at b : ℕ) → length name ≡ 64 → {t : Bool} → t ≡ may_follow at b → t ≡ false → named k ns (take at name) b ≡ spoiled
+name_no k ns name at b room asked e =
+    ⊎_elim (λ h. name_bad k ns name at b room h asked e) (λ h. name_full k ns name at b room h) (lt_or_le at 64)
+
 pub name_goes_on : (k : ℕ) (ns name : List ℕ) (b : ℕ) → (b ≡ 32 → ⊥) → named k ns name b ≡ step (in_name k ns name) b
 unfolding letter
 name_goes_on k ns name b h = rw (ne_eqb b 32 h)
@@ -146,31 +121,11 @@ pub no_comment : (b : ℕ) → (b ≡ 35 → ⊥) → step spaces b ≡ step at_
 unfolding space letter
 no_comment b h = rw (ne_eqb b 35 h)
 
--- Any stage ------------------------------------------------------------------------------------------------------------
-
-module _ (r : Reading) (w ns name : List ℕ) where
-  -- a byte of a line that stands at a stage
-  pub stepped : (s b : ℕ) (t : State) → r.stage ≡ s → t ≡ step (standing_at r w ns name s) b → t ≡ step (state_of r w ns name) b
-  stepped s b t e f = f ∙ ap (λ (x : State). step x b) (sym (at_stage r w ns name s e))
-
-  -- a comment and a malformed line
-  pub stays : (b : ℕ) → (r.stage ≡ 4 → ⊥) → (r.stage ≡ 3 → ⊥) → (r.stage ≡ 2 → ⊥) → (r.stage ≡ 0 → ⊥) → (r.stage ≡ 1 → ⊥) → (r.stage ≡ 5 → ⊥)
-      → (r.stage ≡ 6 → ⊥) → state_of r w ns name ≡ step (state_of r w ns name) b
-  unfolding standing space letter
-  stays b n4 n3 n2 n0 n1 n5 n6 =
-      rw (
-        ne_eqb r.stage 0 n0,
-        ne_eqb r.stage 1 n1,
-        ne_eqb r.stage 2 n2,
-        ne_eqb r.stage 3 n3,
-        ne_eqb r.stage 4 n4,
-        ne_eqb r.stage 5 n5,
-        ne_eqb r.stage 6 n6,
-      )
-      (go (eqb r.stage 7) (eqb b 32))
-    where
-      go : (t u : Bool) → cond t in_comment spoiled ≡ cond u (space (cond t in_comment spoiled)) (letter (cond t in_comment spoiled) b)
-      go true true = refl
-      go true false = refl
-      go false true = refl
-      go false false = refl
+-- a comment and a malformed line
+pub stays : (b : ℕ) → (in_comment ≡ step in_comment b) × (spoiled ≡ step spoiled b)
+unfolding space letter
+stays b = go (eqb b 32)
+  where
+    go : (t : Bool) → (in_comment ≡ cond t (space in_comment) (letter in_comment b)) × (spoiled ≡ cond t (space spoiled) (letter spoiled b))
+    go true = (refl, refl)
+    go false = (refl, refl)

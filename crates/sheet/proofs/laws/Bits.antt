@@ -1,14 +1,8 @@
 -- Numbers and their bits.
-use Prim.Native.Nat.{ℕ, zero, suc, ◌+◌, ◌-◌, ◌*◌, ◌^◌, ◌/◌, ◌%◌, ◌≤◌, ◌<◌}
-use mathlib.Core.Path.{◌≡◌, refl, sym, ap, ap₂, ◌∙◌}
-use mathlib.Core.List.{List, [], ◌∷◌, ◌++◌}
-use mathlib.Core.Logic.{⊎_elim}
-use native.Mathlib.Omega.{arith}
-use native.Mathlib.Nat.{div-one, mod-eq_of_lt, div-div-eq-div-mul, one-mul, mul_comm, mul_left_comm, add-zero, add-suc, mod-one, pow-suc, pow-succ', not-suc-le-zero}
-use native.Mathlib.Numerals.{add-one}
-use lib.Pow.{high, low, mod-pow-add, shl_exact}
-use lib.ListN.{length, get_or, length-append, get_or-append}
-use lib.Seq.{get_or-append-add}
+use Rattle.std.proofs.Common.{ℕ, zero, suc, ◌+◌, ◌-◌, ◌*◌, ◌^◌, ◌/◌, ◌%◌, ◌≤◌, ◌<◌, ◌≡◌, refl, sym, ap, ap₂, ◌∙◌, List, [], ◌∷◌, ◌++◌, ⊎_elim, arith, div-one, mod-eq_of_lt, one-mul, mul_comm, mul_left_comm, add-zero, add-suc, pow-suc, not-suc-le-zero, add-one, shl_exact, length, get_or, length-append, get_or-append-add}
+use native.Mathlib.Nat.{div-div-eq-div-mul, mod-one, pow-succ'}
+use lib.Pow.{high, low, mod-pow-add}
+use lib.ListN.{get_or-append}
 use Rattle.geom.proofs.basics.Tests.{lt_or_le}
 use Rattle.sheet.specs.Bytes.{bits_of, number}
 

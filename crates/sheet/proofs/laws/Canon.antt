@@ -1,13 +1,6 @@
 -- The sheet made from pixels keeps the rules and has the pixels: so it is the sheet of the region.
-use Prim.Native.Nat.{ℕ, zero, suc, ◌+◌, ◌≤◌, ◌<◌}
-use mathlib.Core.Path.{◌≡◌, refl, ap, sym, subst, ◌∙◌}
-use mathlib.Core.Bool.{Bool, true, ◌&&◌}
-use mathlib.Core.List.{List, [], ◌∷◌}
-use mathlib.Core.Logic.{inl, inr, ⊎_elim}
-use native.Mathlib.Omega.{arith}
-use lib.Dec.{eqb, ltb}
-use lib.ListN.{length}
-use borrow.Author.Tests.{eqb-true, eqb-false, ltb-true, lt-ltb}
+use Rattle.std.proofs.Common.{ℕ, zero, suc, ◌+◌, ◌≤◌, ◌<◌, ◌≡◌, refl, ap, sym, subst, ◌∙◌, Bool, true, ◌&&◌, List, [], ◌∷◌, inl, inr, ⊎_elim, arith, eqb, ltb, length, eqb-true, ltb-true, lt-ltb}
+use borrow.Author.Tests.{eqb-false}
 use Rattle.geom.proofs.basics.Tests.{fst, snd, clash, lt_or_le, on_cond, says_eq, both}
 use Rattle.sheet.specs.Sheet.{Span, Band, Sheet, Apart, Bands, nothing}
 use Rattle.sheet.specs.Canon.{with_column, spans_of, same_spans, with_row, bands_of, sheet_of, Depicts}

@@ -1,13 +1,8 @@
 -- The check of a sheet: one band, the bands in turn, and the end.
-use Prim.Native.Nat.{ℕ, suc, ◌+◌, ◌-◌, ◌*◌, ◌/◌, ◌≤◌, ◌<◌}
-use mathlib.Core.Path.{◌≡◌, refl, sym, ap, ap₂, subst, ◌∙◌}
-use mathlib.Core.Bool.{Bool, true, false, not}
-use mathlib.Core.List.{List, [], ◌∷◌}
-use mathlib.Core.Logic.{⊎_elim}
-use native.Mathlib.Omega.{arith}
-use lib.ListN.{length, get_or, length-append, get_or-eq_default}
-use lib.Seq.{ext_get_or}
-use Rattle.geom.proofs.basics.Tests.{clash, lt_or_le}
+use Rattle.std.proofs.Common.{ℕ, suc, ◌+◌, ◌-◌, ◌*◌, ◌/◌, ◌≤◌, ◌<◌, ◌≡◌, refl, sym, ap, ap₂, subst, ◌∙◌, Bool, true, false, not, List, [], ◌∷◌, ⊎_elim, arith, length, get_or, length-append, ext_get_or}
+use lib.ListN.{get_or-eq_default}
+use Rattle.std.specs.Prelude.{Some, None}
+use Rattle.geom.proofs.basics.Tests.{lt_or_le}
 use Rattle.sheet.specs.Sheet.{Span, Band, Sheet, Apart, Proper, Follows, Bands, nothing, Valid, band_rects, rects}
 use Rattle.sheet.specs.Bytes.{bits, number, bytes_from, pack, encode}
 use Rattle.sheet.specs.inner.Cursor.{bit_at, Field, spans_at, count_at, band_at, behind, bands_at, end_at, sheet_at, end_of}
@@ -35,9 +30,6 @@ module _ {bytes : List ℕ} {k : ℕ} (end p m : ℕ) {top bottom n : ℕ} (ft :
   keeps_none h = says_no (λ q. omega (arith, q.1.some, fn.is, length_spans_at (bit_at bytes) (k + 35) (count_at (bit_at bytes) k)))
 
   module _ {t : Bool} (d : Decides t (Apart 0 (spans_at (bit_at bytes) (k + 35) n))) where
-    pub keeps_mixed : t ≡ false → Decides false (Keeps bytes k end p m)
-    keeps_mixed e = says_no (λ q. d.no e (rw fn.is q.1.apart))
-
     -- the band by itself
     alone : top < bottom → (n ≡ 0 → ⊥) → t ≡ true → Proper (band_at (bit_at bytes) k)
     alone h o e = record {
@@ -256,37 +248,32 @@ module _ (bytes : List ℕ) (s : Sheet) (v : IsSheet bytes s) where
 
 -- The answer ---------------------------------------------------------------------------------------------------------
 
-refused : (bytes : List ℕ) → ((s : Sheet) → IsSheet bytes s → ⊥) → Checked bytes (record { ok = false; count = 0 })
-refused bytes h = record { yes = λ e. clash e refl; count = λ e. clash e refl; no = λ e. h }
-
 module _ {bytes : List ℕ} {n : ℕ} (fn : Field bytes 0 6 n) where
-  pub checked_rules : (Bands nothing (bands_at (bit_at bytes) 6 n) → ⊥) → Checked bytes (record { ok = false; count = 0 })
+  pub checked_rules : (Bands nothing (bands_at (bit_at bytes) 6 n) → ⊥) → Checked bytes None
   unfolding sheet_at
-  checked_rules h = refused bytes (λ s v. h (rw fn.is (sheet_rules bytes s v)))
+  checked_rules h s v = h (rw fn.is (sheet_rules bytes s v))
 
   module _ {k end p m count i : ℕ} (g : Going bytes n k end p m count i) (h : n ≤ i) where
     ended : k ≡ end_of (bit_at bytes)
     unfolding end_of
     ended = going_end g h ∙ ap (end_at (bit_at bytes) 6) fn.is
 
-    pub checked_size : (length bytes ≡ (k + 7) / 8 → ⊥) → Checked bytes (record { ok = false; count = 0 })
-    checked_size d = refused bytes (λ s v. d (rw ended (sheet_length bytes s v)))
+    pub checked_size : (length bytes ≡ (k + 7) / 8 → ⊥) → Checked bytes None
+    checked_size d = λ s v. d (rw ended (sheet_length bytes s v))
 
     module _ {z : ℕ} (l : length bytes ≡ (k + 7) / 8) (fz : Field bytes k (8 * ((k + 7) / 8) - k) z) where
-      pub checked_fill : (z ≡ 0 → ⊥) → Checked bytes (record { ok = false; count = 0 })
+      pub checked_fill : (z ≡ 0 → ⊥) → Checked bytes None
       checked_fill d =
           let filled : z ≡ number (bit_at bytes) (end_of (bit_at bytes)) (8 * ((k + 7) / 8) - k) =
           fz.is ∙ ap (λ (j : ℕ). number (bit_at bytes) j (8 * ((k + 7) / 8) - k)) ended in
-          refused bytes (λ s v. d (filled ∙ sheet_fill bytes s v (8 * ((k + 7) / 8) - k)))
+          λ s v. d (filled ∙ sheet_fill bytes s v (8 * ((k + 7) / 8) - k))
 
-      pub checked_yes : ((j : ℕ) → get_or bytes j 0 < 256) → z ≡ 0 → Checked bytes (record { ok = true; count = count })
+      pub checked_yes : ((j : ℕ) → get_or bytes j 0 < 256) → z ≡ 0 → Checked bytes (Some count)
       unfolding sheet_at
       checked_yes small e =
           let f = bit_at bytes in
           let filled : number f (end_of f) (8 * length bytes - end_of f) ≡ 0 =
-          ap₂ (number f) (sym ended) (ap₂ (λ (x y : ℕ). 8 * x - y) l (sym ended)) ∙ sym fz.is ∙ e in
-          record {
-            yes = λ t. is_sheet bytes small (rw fn.is at (going_all g h)) (l ∙ ap (λ (j : ℕ). (j + 7) / 8) ended) filled;
-            count = λ t. going_count g h ∙ ap (λ (j : ℕ). length (rects (bands_at f 6 j))) fn.is;
-            no = λ t. clash refl t;
-          }
+          ap₂ (number f) (sym ended) (ap₂ (λ (x y : ℕ). 8 * x - y) l (sym ended)) ∙ sym fz.is ∙ e in (
+            is_sheet bytes small (rw fn.is at (going_all g h)) (l ∙ ap (λ (j : ℕ). (j + 7) / 8) ended) filled,
+            going_count g h ∙ ap (λ (j : ℕ). length (rects (bands_at f 6 j))) fn.is,
+          )

@@ -1,19 +1,14 @@
 -- The rectangles of a sheet, band by band, and the reader's answer.
-use Prim.Native.Nat.{ℕ, ◌+◌, ◌-◌, ◌*◌, ◌/◌, ◌%◌, ◌≤◌, ◌<◌}
-use mathlib.Core.Path.{◌≡◌, refl, sym, ap, ap₂, ◌∙◌}
-use mathlib.Core.Bool.{true, false}
-use mathlib.Core.List.{List, ◌++◌}
-use native.Mathlib.Omega.{arith}
-use native.Mathlib.Nat.{div-add-mod, mod-lt}
-use lib.ListN.{length, drop, length-append}
+use Rattle.std.proofs.Common.{ℕ, ◌+◌, ◌-◌, ◌*◌, ◌/◌, ◌%◌, ◌≤◌, ◌<◌, ◌≡◌, refl, sym, ap, ap₂, ◌∙◌, List, ◌++◌, arith, mod-lt, length, drop, length-append}
+use native.Mathlib.Nat.{div-add-mod}
 use lib.Seq.{sets, sets-eq, length-sets}
 use Rattle.geom.specs.declared.Rect.{Rect}
 use Rattle.geom.specs.Lists.{numbers}
 use Rattle.geom.proofs.geometry.Numbers.{length_numbers, written_append}
-use Rattle.sheet.specs.declared.inner.valid.Counted.{Counted}
+use Rattle.std.specs.Prelude.{Some}
 use Rattle.sheet.specs.Sheet.{Sheet, band_rects, rects}
 use Rattle.sheet.specs.inner.Cursor.{bit_at, Field, spans_at, bands_at, sheet_at}
-use Rattle.sheet.specs.Reader.{Reads, broken, short, whole, answered}
+use Rattle.sheet.specs.Reader.{Reads, short, whole, answered}
 use Rattle.sheet.specs.inner.Checks.{Checked}
 use Rattle.sheet.proofs.laws.Fields.{length_spans_at}
 use Rattle.sheet.proofs.laws.Checking.{bands_end, bands_next, length_band_rects}
@@ -25,17 +20,6 @@ pub record Copying (bytes : List ℕ) (n k place : ℕ) (list₀ list : List ℕ
   pub room : length list ≡ length list₀
   pub counts : place + length (rects (bands_at (bit_at bytes) k (n - i))) ≡ length (rects (bands_at (bit_at bytes) 6 n))
   pub all : sets list (4 * place) (numbers (rects (bands_at (bit_at bytes) k (n - i)))) ≡ sets list₀ 0 (numbers (rects (bands_at (bit_at bytes) 6 n)))
-
-pub copying_none : {bytes : List ℕ} {n : ℕ} {list : List ℕ} → Copying bytes n 6 0 list list 0
-copying_none {n} =
-    let e : n - 0 ≡ n = omega arith in
-    record {
-      few = omega arith;
-      near = omega arith;
-      room = refl;
-      counts = rw e (omega arith);
-      all = rw e refl;
-    }
 
 module _ {bytes : List ℕ} {n k place : ℕ} {list₀ list : List ℕ} {i : ℕ} (c : Copying bytes n k place list₀ list i) (h : i < n)
     {top bottom m : ℕ} (ft : Field bytes k 15 top) (fb : Field bytes (k + 15) 15 bottom) (fm : Field bytes (k + 30) 5 m) where
@@ -97,21 +81,17 @@ room_fields fn h = rw fn.is h
 quarter : (n : ℕ) → (n ≡ 4 * (n / 4) + n % 4) × (n % 4 < 4)
 quarter n = (sym (div-add-mod n 4), mod-lt n {m = 4} (omega arith))
 
-module _ {bytes : List ℕ} (list : List ℕ) {r : Counted} (c : Checked bytes r) where
-  pub reads_broken : r.ok ≡ false → Reads bytes list (answered 18 0) list
-  reads_broken e = broken (c.no e) refl refl
+module _ {bytes : List ℕ} (list : List ℕ) {count : ℕ} (c : Checked bytes (Some count)) where
+  pub reads_short : length list / 4 < count → Reads bytes list (answered 19 0) list
+  reads_short h = short (sheet_at (bit_at bytes)) c.0 (omega (arith, quarter (length list), c.1)) refl refl
 
-  module _ (e : r.ok ≡ true) where
-    pub reads_short : length list / 4 < r.count → Reads bytes list (answered 19 0) list
-    reads_short h = short (sheet_at (bit_at bytes)) (c.yes e) (omega (arith, quarter (length list), c.count e)) refl refl
+  pub reads_room : count ≤ length list / 4 → 4 * length (rects (sheet_at (bit_at bytes))) ≤ length list
+  reads_room h = omega (arith, quarter (length list), c.1)
 
-    pub reads_room : r.count ≤ length list / 4 → 4 * length (rects (sheet_at (bit_at bytes))) ≤ length list
-    reads_room h = omega (arith, quarter (length list), c.count e)
-
-    pub reads_whole : {after : List ℕ} → r.count ≤ length list / 4 → after ≡ sets list 0 (numbers (rects (sheet_at (bit_at bytes)))) → Reads bytes list (answered 0 r.count) after
-    reads_whole h k =
-        let rs = rects (sheet_at (bit_at bytes)) in
-        let l = reads_room h in
-        let m : 0 + length (numbers rs) ≡ 4 * length rs = omega (arith, length_numbers rs) in
-        whole (sheet_at (bit_at bytes)) (c.yes e) l (ap (answered 0) (c.count e))
-        (k ∙ sets-eq (numbers rs) list 0 (omega (arith, length_numbers rs)) ∙ ap (λ (j : ℕ). numbers rs ++ drop j list) m)
+  pub reads_whole : {after : List ℕ} → count ≤ length list / 4 → after ≡ sets list 0 (numbers (rects (sheet_at (bit_at bytes)))) → Reads bytes list (answered 0 count) after
+  reads_whole h k =
+      let rs = rects (sheet_at (bit_at bytes)) in
+      let l = reads_room h in
+      let m : 0 + length (numbers rs) ≡ 4 * length rs = omega (arith, length_numbers rs) in
+      whole (sheet_at (bit_at bytes)) c.0 l (ap (answered 0) c.1)
+      (k ∙ sets-eq (numbers rs) list 0 (omega (arith, length_numbers rs)) ∙ ap (λ (j : ℕ). numbers rs ++ drop j list) m)

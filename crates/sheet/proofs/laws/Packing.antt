@@ -1,11 +1,7 @@
 -- Bytes and their bits, and sheets as bytes.
-use Prim.Native.Nat.{ℕ, zero, suc, ◌+◌, ◌-◌, ◌*◌, ◌^◌, ◌/◌, ◌%◌, ◌≤◌, ◌<◌}
-use mathlib.Core.Path.{◌≡◌, refl, sym, ap, ◌∙◌}
-use mathlib.Core.List.{List, [], ◌∷◌, ◌++◌}
-use mathlib.Core.Logic.{⊎_elim}
-use native.Mathlib.Omega.{arith}
-use native.Mathlib.Nat.{div-add-mod, mod-lt, zero-div, mul-add}
-use lib.ListN.{length, get_or, get_or-eq_default}
+use Rattle.std.proofs.Common.{ℕ, zero, suc, ◌+◌, ◌-◌, ◌*◌, ◌^◌, ◌/◌, ◌%◌, ◌≤◌, ◌<◌, ◌≡◌, refl, sym, ap, ◌∙◌, List, [], ◌∷◌, ◌++◌, ⊎_elim, arith, mod-lt, mul-add, length, get_or}
+use native.Mathlib.Nat.{div-add-mod, zero-div}
+use lib.ListN.{get_or-eq_default}
 use Rattle.geom.proofs.basics.Tests.{lt_or_le}
 use Rattle.sheet.specs.Sheet.{Span, Sheet, Valid}
 use Rattle.sheet.specs.Bytes.{bits_of, span_bits, band_bits, bits, number, bytes_from, pack, encode}

@@ -1,13 +1,6 @@
 -- The promises: a sheet is told by its pixels and by its bytes; and its rectangles and its size.
-use Prim.Native.Nat.{ℕ, ◌+◌, ◌-◌, ◌*◌, ◌/◌, ◌≤◌, ◌<◌}
-use mathlib.Core.Path.{◌≡◌, refl, ap, sym, ◌∙◌}
-use mathlib.Core.Bool.{Bool}
-use mathlib.Core.List.{List, [], ◌∷◌, ◌++◌}
-use mathlib.Core.Logic.{◌⊎◌, inl, inr, ⊎_elim}
-use native.Mathlib.Omega.{arith}
+use Rattle.std.proofs.Common.{ℕ, ◌+◌, ◌-◌, ◌*◌, ◌/◌, ◌≤◌, ◌<◌, ◌≡◌, refl, ap, sym, ◌∙◌, Bool, List, [], ◌∷◌, ◌++◌, ◌⊎◌, inl, inr, ⊎_elim, arith, T, length, drop, length-append}
 use native.Mathlib.Nat.{div-add-mod}
-use lib.Dec.{T}
-use lib.ListN.{length, drop, length-append}
 use Rattle.geom.specs.declared.Rect.{Rect}
 use Rattle.geom.specs.Geom.{rect, contains}
 use Rattle.geom.specs.Lists.{numbers, any_has, Disjoint}
@@ -15,7 +8,7 @@ use Rattle.geom.proofs.basics.Tests.{same, is_true}
 use Rattle.geom.proofs.geometry.Facts.{says_in, Has, says_has}
 use Rattle.sheet.specs.Sheet.{Span, Band, Sheet, has, band_rects, rects, Apart, Bands, nothing, Valid}
 use Rattle.sheet.specs.Bytes.{band_bits, bits, pack, encode}
-use Rattle.geom.specs.declared.Listing.{Listing}
+use Rattle.geom.specs.Refusals.{Listing}
 use Rattle.sheet.specs.Reader.{IsSheet, answered, Reads, broken, short, whole}
 use Rattle.sheet.specs.Canon.{Depicts}
 use Rattle.sheet.specs.Size.{SpansFew, Few}

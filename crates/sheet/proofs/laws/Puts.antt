@@ -1,15 +1,9 @@
 -- Bits put behind bits.
-use Prim.Native.Nat.{ℕ, suc, ◌+◌, ◌-◌, ◌*◌, ◌^◌, ◌/◌, ◌%◌, ◌≤◌, ◌<◌}
-use mathlib.Core.Path.{◌≡◌, refl, ap, ap₂, sym, ◌∙◌}
-use mathlib.Core.List.{List, [], ◌++◌, append_assoc, append-nil}
-use mathlib.Core.Logic.{◌⊎◌, inl, inr, ⊎_elim}
-use native.Mathlib.Omega.{arith}
+use Rattle.std.proofs.Common.{ℕ, suc, ◌+◌, ◌-◌, ◌*◌, ◌^◌, ◌/◌, ◌%◌, ◌≤◌, ◌<◌, ◌≡◌, refl, ap, ap₂, sym, ◌∙◌, List, [], ◌++◌, append_assoc, append-nil, ◌⊎◌, inl, inr, ⊎_elim, arith, mod-lt, not-suc-le-zero, pow-add, pow_pos, shl_lt, shr_lt, shl_exact, length, drop, get_or, set, length-append, length-set, length-drop, get_or-append-add, get_or-set_same, get_or-set_other, ext_get_or, get_or-drop}
 use native.Mathlib.Decide.{ℕ_discrete}
-use native.Mathlib.Nat.{div-add-mod, mod-lt, div-eq_of_lt, not-suc-le-zero}
+use native.Mathlib.Nat.{div-add-mod, div-eq_of_lt}
 use lib.Arith.{digits_lt}
-use lib.Pow.{pow-add, pow_pos, pow_mono, shl_lt, shr_lt, shl_exact}
-use lib.ListN.{length, drop, get_or, set, length-append, length-set, length-drop, get_or-append, get_or-eq_default}
-use lib.Seq.{get_or-append-add, get_or-set_same, get_or-set_other, ext_get_or, get_or-drop}
+use lib.ListN.{get_or-append, get_or-eq_default}
 use Rattle.geom.proofs.basics.Tests.{lt_or_le}
 use Rattle.sheet.specs.Bytes.{number, bits_of, bytes_from, pack}
 use Rattle.sheet.specs.inner.Writer.{Holding, Put}
@@ -30,11 +24,6 @@ module _ (byte r n v : ℕ) (b : byte ≤ 255) (hr : r ≤ 7) (hn : n ≤ 15) wh
 
   joined : byte / 2 ^ (8 - r) * 2 ^ n + v % 2 ^ n < 2 ^ (r + n)
   joined = rw (pow-add 2 r n) (digits_lt begun (mod-lt v (pow_pos n)))
-
-  pub front_fits : byte / 2 ^ (8 - r) * 2 ^ n % 2 ^ 64 + v % 2 ^ n < 2 ^ 22
-  front_fits =
-      let p : 2 ^ (r + n) ≤ 2 ^ 22 = pow_mono {j = 22} (omega arith) in
-      rw begun_moved (omega (arith, joined))
 
   pub front_is : (byte / 2 ^ (8 - r) * 2 ^ n % 2 ^ 64 + v % 2 ^ n) * 2 ^ (24 - r - n) % 2 ^ 64 ≡ (byte / 2 ^ (8 - r) * 2 ^ n + v % 2 ^ n) * 2 ^ (24 - r - n)
   front_is = rw begun_moved (shl_exact (r + n) (24 - r - n) 64 joined (omega arith))

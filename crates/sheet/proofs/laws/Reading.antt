@@ -1,10 +1,5 @@
 -- The loops over intervals: what is left of them, one turn later.
-use Prim.Native.Nat.{ℕ, suc, ◌+◌, ◌-◌, ◌*◌, ◌≤◌, ◌<◌}
-use mathlib.Core.Path.{◌≡◌, refl, sym, ap, ap₂, ◌∙◌}
-use mathlib.Core.Bool.{true, false}
-use mathlib.Core.List.{List, [], ◌∷◌}
-use native.Mathlib.Omega.{arith}
-use lib.ListN.{length}
+use Rattle.std.proofs.Common.{ℕ, suc, ◌+◌, ◌-◌, ◌*◌, ◌≤◌, ◌<◌, ◌≡◌, refl, sym, ap, ap₂, ◌∙◌, true, false, List, [], ◌∷◌, arith, length}
 use lib.Seq.{sets, length-sets}
 use Rattle.geom.specs.declared.Rect.{Rect}
 use Rattle.geom.specs.Geom.{rect}
@@ -61,14 +56,6 @@ pub record Passed (bytes : List ℕ) (at n from i : ℕ) : Type 0 where
   pub rest : Apart 0 (spans_at (bit_at bytes) at n) → Apart from (from_ith (bit_at bytes) at n i)
   pub all : Apart from (from_ith (bit_at bytes) at n i) → Apart 0 (spans_at (bit_at bytes) at n)
 
-pub passed_none : {bytes : List ℕ} {at n : ℕ} → Passed bytes at n 0 0
-passed_none {bytes} {at} {n} = record {
-  few = omega arith;
-  low = omega arith;
-  rest = λ h. rw (spans_start (bit_at bytes) at n) h;
-  all = λ h. rw (spans_start (bit_at bytes) at n) at h;
-}
-
 module _ {bytes : List ℕ} {at n from i left right : ℕ} (p : Passed bytes at n from i) (h : i < n) (l : Field bytes (at + 30 * i) 15 left) (r : Field bytes (at + 30 * i + 15) 15 right) where
   -- what the i-th interval must keep
   ith : Apart 0 (spans_at (bit_at bytes) at n) → (from ≤ left) × (left < right) × Apart (right + 1) (from_ith (bit_at bytes) at n (i + 1))
@@ -102,13 +89,6 @@ pub record Alike (bytes : List ℕ) (p q n i : ℕ) : Type 0 where
   pub few : i ≤ n
   pub rest : spans_at (bit_at bytes) p n ≡ spans_at (bit_at bytes) q n → from_ith (bit_at bytes) p n i ≡ from_ith (bit_at bytes) q n i
   pub all : from_ith (bit_at bytes) p n i ≡ from_ith (bit_at bytes) q n i → spans_at (bit_at bytes) p n ≡ spans_at (bit_at bytes) q n
-
-pub alike_none : {bytes : List ℕ} {p q n : ℕ} → Alike bytes p q n 0
-alike_none {bytes} {p} {q} {n} = record {
-  few = omega arith;
-  rest = λ e. spans_start (bit_at bytes) p n ∙ e ∙ sym (spans_start (bit_at bytes) q n);
-  all = λ e. sym (spans_start (bit_at bytes) p n) ∙ e ∙ spans_start (bit_at bytes) q n;
-}
 
 -- the first interval of a list, and the rest
 head_left : (i j : Span) (is js : List Span) → ◌≡◌ {A = List Span} (i ∷ is) (j ∷ js) → i.left ≡ j.left

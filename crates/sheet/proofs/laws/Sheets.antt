@@ -1,13 +1,6 @@
 -- The bits of a sheet, from its numbers.
-use Prim.Native.Nat.{ℕ, zero, suc, ◌+◌, ◌-◌, ◌*◌, ◌/◌, ◌≤◌, ◌<◌}
-use mathlib.Core.Path.{◌≡◌, refl, ap, sym, ◌∙◌}
-use mathlib.Core.Bool.{true, false}
-use mathlib.Core.List.{List, [], ◌∷◌, ◌++◌, append_assoc, append-nil}
-use native.Mathlib.Omega.{arith}
-use borrow.Author.Tests.{le-leb, lt-leb}
-use lib.Dec.{leb}
-use native.Mathlib.Nat.{zero-add, suc-add}
-use lib.ListN.{length, get_or, length-append}
+use Rattle.std.proofs.Common.{ℕ, zero, suc, ◌+◌, ◌-◌, ◌*◌, ◌/◌, ◌≤◌, ◌<◌, ◌≡◌, refl, ap, sym, ◌∙◌, true, false, List, [], ◌∷◌, ◌++◌, append_assoc, append-nil, arith, le-leb, leb, zero-add, suc-add, length, get_or, length-append}
+use borrow.Author.Tests.{lt-leb}
 use Rattle.sheet.specs.Sheet.{Span, Band, Sheet}
 use Rattle.sheet.specs.Bytes.{bits_of, span_bits, band_bits, bits, pack, encode}
 use Rattle.sheet.specs.inner.Numbers.{spans_in, count_in, band_in, past, bands_in, end_in}
@@ -39,11 +32,6 @@ spans_put k e i nums out mid mid' after p q r =
     rw (spans_in_more nums e i, span_bits_more (spans_in nums e i) (span_in nums (e + 2 * i)))
     (put_more k (30 * i) (span_bits (spans_in nums e i)) _ out mid after (length_span_bits (spans_in nums e i) ∙ ap (λ (j : ℕ). 30 * j) (length_spans_in nums e i)) p
     (put_more (k + 30 * i) 15 (bits_of 15 (get_or nums (e + 2 * i) 0)) _ mid mid' after (length_bits_of 15 (get_or nums (e + 2 * i) 0)) q r))
-
-pub spans_all : (k e n i : ℕ) (nums out after : List ℕ) → i ≤ n → n ≤ i → Put k (span_bits (spans_in nums e i)) out after → Put k (span_bits (spans_in nums e n)) out after
-spans_all k e n i nums out after a b p =
-    let m : i ≡ n = omega arith in
-    rw m at p
 
 -- Bands --------------------------------------------------------------------------------------------------------------
 

@@ -1,9 +1,6 @@
 -- One interval or one band more at the end.
-use Prim.Native.Nat.{ℕ, ◌+◌, ◌≤◌, ◌<◌}
-use mathlib.Core.Path.{◌≡◌, refl, ap, sym, ◌∙◌}
-use mathlib.Core.Bool.{Bool, ◌&&◌, ◌||◌, or_assoc, or-false}
-use mathlib.Core.List.{List, [], ◌∷◌, ◌++◌}
-use lib.Dec.{leb, ltb}
+use Rattle.std.proofs.Common.{ℕ, ◌+◌, ◌≤◌, ◌<◌, ◌≡◌, refl, ap, sym, ◌∙◌, Bool, ◌&&◌, ◌||◌, List, [], ◌∷◌, ◌++◌, leb, ltb}
+use mathlib.Core.Bool.{or_assoc, or-false}
 use Rattle.sheet.specs.Sheet.{Span, Band, Sheet, in_spans, has, Apart, Proper, Follows, Bands, BandFits, BandsFit}
 
 -- where the next interval may begin

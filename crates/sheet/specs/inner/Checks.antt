@@ -1,6 +1,5 @@
 -- What the parts of the reader say: each asks one rule of the bytes at a bit cursor.
-use Rattle.std.specs.Prelude.{ℕ, ◌≡◌, Bool, true, false, List, length}
-use Rattle.sheet.specs.declared.inner.valid.Counted.{Counted}
+use Rattle.std.specs.Prelude.{ℕ, ◌≡◌, Bool, true, false, Option, Some, None, List, length}
 use Rattle.sheet.specs.Sheet.{Band, Sheet, rects}
 use Rattle.sheet.specs.inner.Cursor.{bit_at, spans_at, sheet_at}
 use Rattle.sheet.specs.Reader.{IsSheet}
@@ -15,7 +14,6 @@ abbrev pub before : (ℕ → ℕ) → ℕ → ℕ → ℕ → Band
 before bit end p m = record { top = 0; bottom = end; spans = spans_at bit p m }
 
 -- whether the bytes are a sheet's, and how many rectangles it has
-pub record Checked (bytes : List ℕ) (r : Counted) : Type 0 where
-  pub yes : r.ok ≡ true → IsSheet bytes (sheet_at (bit_at bytes))
-  pub count : r.ok ≡ true → r.count ≡ length (rects (sheet_at (bit_at bytes)))
-  pub no : r.ok ≡ false → (s : Sheet) → IsSheet bytes s → ⊥
+abbrev pub Checked : List ℕ → Option ℕ → Type 0
+Checked bytes (Some count) = IsSheet bytes (sheet_at (bit_at bytes)) × (count ≡ length (rects (sheet_at (bit_at bytes))))
+Checked bytes None = (s : Sheet) → IsSheet bytes s → ⊥

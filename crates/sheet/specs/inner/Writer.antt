@@ -1,7 +1,7 @@
 -- Document 02, N6: what the writer of a sheet answers; and what its parts say: bits are put one behind the other.
 use Rattle.std.specs.Prelude.{ℕ, ◌*◌, ◌≤◌, ◌<◌, ◌≡◌, cond, List, [], ◌∷◌, ◌++◌, leb, length, drop, get_or}
 use Rattle.geom.specs.Questions.{◌is◌, asked}
-use Rattle.geom.specs.declared.Listing.{Listing}
+use Rattle.geom.specs.Refusals.{Listing}
 use Rattle.sheet.specs.Sheet.{Sheet}
 use Rattle.sheet.specs.Bytes.{number, encode}
 

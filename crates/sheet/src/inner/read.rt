@@ -10,23 +10,13 @@ use crate::inner::bits::read;
 use geom::Rect;
 use geom::inner::numbers::write_rect;
 
-// a − b, or 0 where b is more.
-fn minus(a: usize, b: usize) -> usize
-    ensures { result ≡ a - b }
-{
-    if b < a {
-        return a - b;
-    }
-    0
-}
-
 // The rectangle of an interval of a band.
 fn rect_of(left: usize, right: usize, top: usize, bottom: usize) -> Rect
     requires { (left ≤ 32767) × (right ≤ 32767) × (top ≤ 32767) × (bottom ≤ 32767) }
     ensures { result ≡ rect left top (right - left) (bottom - top) }
 {
-    let w = minus(right, left);
-    let h = minus(bottom, top);
+    let w = right.saturating_sub(left);
+    let h = bottom.saturating_sub(top);
     Rect::new(left as u32, top as u32, w as u32, h as u32)
 }
 
@@ -45,13 +35,11 @@ fn write_band(
     requires n_in_bounds { 4 * (place + n) ≤ length list.old }
     ensures { list.new ≡ sets list.old (4 * place) (numbers (band_rects top bottom (spans_at (bit_at bytes.now) at n))) }
 {
-    let mut i: usize = 0;
-    while i < n {
+    for i in 0..n {
         let left = read(bytes, at + 30 * i, 15);
         let right = read(bytes, at + 30 * i + 15, 15);
         let r = rect_of(left, right, top, bottom);
         write_rect(list, place + i, r);
-        i += 1;
     }
 }
 
@@ -63,14 +51,12 @@ pub fn write_rects(bytes: &[u8], list: &mut [u32])
     let n = read(bytes, 0, 6);
     let mut at: usize = 6;
     let mut place: usize = 0;
-    let mut i: usize = 0;
-    while i < n {
+    for _i in 0..n {
         let top = read(bytes, at, 15);
         let bottom = read(bytes, at + 15, 15);
         let k = read(bytes, at + 30, 5);
         write_band(bytes, at + 35, k, top, bottom, list, place);
         place += k;
         at = at + 35 + 30 * k;
-        i += 1;
     }
 }

@@ -12,18 +12,13 @@ fn spans_apart(bytes: &[u8], at: usize, n: usize) -> bool
     ensures { Decides result (Apart 0 (spans_at (bit_at bytes.now) at n)) }
 {
     let mut from: usize = 0;
-    let mut i: usize = 0;
-    while i < n {
+    for i in 0..n {
         let left = read(bytes, at + 30 * i, 15);
         let right = read(bytes, at + 30 * i + 15, 15);
-        if left < from {
-            return false;
-        }
-        if right <= left {
+        if left < from || right <= left {
             return false;
         }
         from = right + 1;
-        i += 1;
     }
     true
 }
@@ -33,15 +28,13 @@ fn spans_same(bytes: &[u8], p: usize, q: usize, n: usize) -> bool
     requires { (p ≤ 70000) × (q ≤ 70000) × (n ≤ 31) }
     ensures { Decides result (spans_at (bit_at bytes.now) p n ≡ spans_at (bit_at bytes.now) q n) }
 {
-    let mut i: usize = 0;
-    while i < n {
+    for i in 0..n {
         if read(bytes, p + 30 * i, 15) != read(bytes, q + 30 * i, 15) {
             return false;
         }
         if read(bytes, p + 30 * i + 15, 15) != read(bytes, q + 30 * i + 15, 15) {
             return false;
         }
-        i += 1;
     }
     true
 }
@@ -55,34 +48,20 @@ fn band_keeps(bytes: &[u8], at: usize, end: usize, p: usize, m: usize) -> bool
     let top = read(bytes, at, 15);
     let bottom = read(bytes, at + 15, 15);
     let n = read(bytes, at + 30, 5);
-    if top < end {
-        return false;
-    }
-    if bottom <= top {
-        return false;
-    }
-    if n == 0 {
+    if top < end || bottom <= top || n == 0 {
         return false;
     }
     if !spans_apart(bytes, at + 35, n) {
         return false;
     }
-    if top == end {
-        if n == m {
-            return !spans_same(bytes, p, at + 35, n);
-        }
+    if top == end && n == m {
+        return !spans_same(bytes, p, at + 35, n);
     }
     true
 }
 
-#[derive(Clone, Copy)]
-pub struct Counted {
-    pub ok: bool,
-    pub count: usize,
-}
-
-// Are the bytes those of a valid sheet, and how many intervals has it? "Zero bits fill the last byte, and no byte follows."
-pub fn check(bytes: &[u8]) -> Counted
+// How many intervals has the valid sheet that the bytes are, if they are one? "Zero bits fill the last byte, and no byte follows."
+pub fn check(bytes: &[u8]) -> Option<usize>
     ensures { Checked bytes.now result }
 {
     let n = read(bytes, 0, 6);
@@ -91,29 +70,19 @@ pub fn check(bytes: &[u8]) -> Counted
     let mut p: usize = 0;
     let mut m: usize = 0;
     let mut count: usize = 0;
-    let mut i: usize = 0;
-    while i < n {
+    for _i in 0..n {
         if !band_keeps(bytes, at, end, p, m) {
-            return Counted {
-                ok: false,
-                count: 0,
-            };
+            return None;
         }
         end = read(bytes, at + 15, 15);
         m = read(bytes, at + 30, 5);
         p = at + 35;
         at = p + 30 * m;
         count += m;
-        i += 1;
     }
     let size = (at + 7) / 8;
-    if bytes.len() == size {
-        if read(bytes, at, 8 * size - at) == 0 {
-            return Counted { ok: true, count };
-        }
+    if bytes.len() == size && read(bytes, at, 8 * size - at) == 0 {
+        return Some(count);
     }
-    Counted {
-        ok: false,
-        count: 0,
-    }
+    None
 }

@@ -1,12 +1,12 @@
 // A sheet's bytes, from its numbers.
 ghost use Rattle.std.specs.Prelude.{[], ◌∷◌, ◌≡◌, ◌+◌, ◌-◌, ◌*◌, ◌^◌, ◌/◌, ◌%◌, ◌≤◌, ◌<◌, length};
+ghost use Rattle.geom.specs.Refusals.{listing_of};
 ghost use Rattle.sheet.specs.Bytes.{bits_of, span_bits, band_bits, bits};
 ghost use Rattle.sheet.specs.inner.Numbers.{spans_in, count_in, band_in, bands_in, end_in};
 ghost use Rattle.sheet.specs.inner.Writer.{Put, Writes};
 
 use crate::inner::bits::low;
-use geom::Listing;
-use geom::inner::answers::{OK, SHEET_LENGTH};
+use geom::refusal::Refusal;
 
 // Three bytes as one number: the first r bits of a byte, the last n bits of v, and zeros.
 fn front(byte: usize, r: usize, n: usize, v: usize) -> usize
@@ -42,11 +42,9 @@ fn write_spans(out: &mut [u8], k: usize, nums: &[u32], e: usize, n: usize)
     requires { (k + 30 * n ≤ 8 * length out.old) × (k + 30 * n ≤ 100000) × (e + 2 * n ≤ length nums.now) }
     ensures { Put k (span_bits (spans_in nums.now e n)) out.old out.new }
 {
-    let mut i: usize = 0;
-    while i < n {
+    for i in 0..n {
         write_bits(out, k + 30 * i, 15, nums[e + 2 * i]);
         write_bits(out, k + 30 * i + 15, 15, nums[e + 2 * i + 1]);
-        i += 1;
     }
 }
 
@@ -70,32 +68,24 @@ fn write_sheet(out: &mut [u8], nums: &[u32], n: usize)
     write_bits(out, 0, 6, n as u32);
     let mut k: usize = 6;
     let mut e: usize = 0;
-    let mut i: usize = 0;
-    while i < n {
+    for _i in 0..n {
         let m = nums[e + 2] as usize;
         write_band(out, k, nums, e);
         k = k + 35 + 30 * m;
         e = e + 3 + 2 * m;
-        i += 1;
     }
 }
 
-// Document 02, N6: writes the sheet of n bands whose numbers take the first `end` places. "19 when the writer's buffer is shorter than the
+// Document 02, N6: writes the sheet of n bands whose numbers are given. "19 when the writer's buffer is shorter than the
 // sheet": nothing is written before that is answered.
-pub fn write(nums: &[u32], n: usize, end: usize, out: &mut [u8]) -> Listing
-    requires { (n ≤ 63) × (end ≡ end_in nums.now 0 n) × (end ≤ length nums.now) × (end ≤ 5000) }
-    ensures { Writes (bands_in nums.now 0 n) out.old result out.new }
+pub fn write(nums: &[u32], n: usize, out: &mut [u8]) -> Result<usize, Refusal>
+    requires { (n ≤ 63) × (length nums.now ≡ end_in nums.now 0 n) × (length nums.now ≤ 5000) }
+    ensures { Writes (bands_in nums.now 0 n) out.old (listing_of result) out.new }
 {
-    let size = (13 + 15 * end - 10 * n) / 8;
+    let size = (13 + 15 * nums.len() - 10 * n) / 8;
     if out.len() < size {
-        return Listing {
-            answer: SHEET_LENGTH,
-            count: 0,
-        };
+        return Err(Refusal::SheetLength);
     }
     write_sheet(out, nums, n);
-    Listing {
-        answer: OK,
-        count: size,
-    }
+    Ok(size)
 }

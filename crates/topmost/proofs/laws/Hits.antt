@@ -1,24 +1,18 @@
 -- One window more from the top of the order down: a point that a higher window has keeps its answer.
-use Prim.Native.Nat.{ℕ, suc, ◌+◌, ◌-◌, ◌*◌, ◌≤◌, ◌<◌}
-use mathlib.Core.Path.{◌≡◌, refl, sym, ap, subst, ◌∙◌}
-use mathlib.Core.Bool.{Bool, true, false, cond, ◌&&◌}
-use mathlib.Core.List.{List, [], ◌∷◌, ◌++◌}
-use mathlib.Core.Option.{Option, none, some, some-injective}
-use native.Mathlib.Omega.{arith}
-use lib.Dec.{eqb}
-use lib.ListN.{length, get_or, drop, drop_of_length-le, length-drop}
-use lib.Seq.{sets, get_or-drop}
-use borrow.Author.Tests.{ne_eqb}
+use Rattle.std.proofs.Common.{ℕ, suc, ◌+◌, ◌-◌, ◌*◌, ◌/◌, ◌%◌, ◌≤◌, ◌<◌, ◌≡◌, refl, sym, ap, subst, ◌∙◌, Bool, true, false, cond, ◌&&◌, eqb, leb, List, [], ◌∷◌, ◌++◌, length, get_or, drop, arith, length-drop, drop-cons, get_or-drop, ne_eqb, eqb-true, leb-true}
+use Rattle.std.proofs.Math.Option.{some-injective}
+use Rattle.std.proofs.Math.ListN.{length-map, get_or-map}
+use Rattle.std.proofs.Math.Option.{Option, none, some}
+use Rattle.std.proofs.Math.Seq.{sets}
 use Rattle.geom.specs.declared.Rect.{Rect}
 use Rattle.geom.specs.Geom.{left, top, contains}
-use Rattle.geom.proofs.basics.Tests.{on_cond}
+use Rattle.geom.proofs.basics.Tests.{on_cond, fst, snd}
 use Rattle.window.specs.declared.ids.WinId.{WinId}
 use Rattle.window.specs.inner.Ids.{no_id}
-use Rattle.rules.specs.Hits.{hit_by, each_point}
-use Rattle.order.specs.Ids.{ids}
+use Rattle.rules.specs.Hits.{hit_by, each_point, fit}
+use Rattle.order.specs.Ids.{num, nums}
 use Rattle.topmost.specs.inner.Topmost.{topmost_at}
 use Rattle.topmost.specs.inner.Hits.{three, at_point, Written, to_nobody, answered, hit_in}
-use Rattle.order.proofs.laws.Order.{ids_length, ids_at, ids_from}
 use Rattle.topmost.proofs.laws.Written.{three_kept, written_next, not_yet, written_over, written_all}
 
 -- One window at one point --------------------------------------------------------------------------------------------
@@ -111,59 +105,55 @@ module _ (frame : ℕ → Rect) (x y : ℕ) where
 -- The pass -----------------------------------------------------------------------------------------------------------
 
 -- the windows from place m on have answered: `base` is the answer list in which each of the n points was nobody's
-pub record Passed (frame : ℕ → Rect) (order : List WinId) (shown : ℕ) (points base : List ℕ) (n m : ℕ) (answers : List ℕ) : Type 0 where
-  pub within : m ≤ shown
-  pub so_far : Written base (λ i. at_point points i (hit_in frame (drop m (ids shown order)))) n answers
+pub record Passed (frame : ℕ → Rect) (l : List WinId) (points base : List ℕ) (n m : ℕ) (answers : List ℕ) : Type 0 where
+  pub within : m ≤ length l
+  pub so_far : Written base (λ i. at_point points i (hit_in frame (drop m (nums l)))) n answers
 
-module _ (frame : ℕ → Rect) (order : List WinId) (shown : ℕ) (size : length order ≡ 16) (few : shown ≤ 16) (points : List ℕ) (n : ℕ) where
-  pub pass_none : (lent base : List ℕ) → Written lent (λ _. to_nobody) n base → Passed frame order shown points base n shown base
-  pass_none lent base w =
-      let none_left : drop shown (ids shown order) ≡ [] = drop_of_length-le (ids shown order) {i = shown} (omega (arith, ids_length shown order (omega arith))) in
-      record {
-        within = omega arith;
-        so_far =
-            record {
-              same = refl;
-              each = λ i h. w.each i h ∙ ap (λ (os : List ℕ). at_point points i (hit_in frame os)) (sym none_left);
-              rest = λ j h. refl;
-            };
-      }
-
-  module _ {base answers : List ℕ} {m : ℕ} (q : Passed frame order shown points base n m answers) where
+module _ (frame : ℕ → Rect) (l : List WinId) (points : List ℕ) (n : ℕ) where
+  module _ {base answers : List ℕ} {m : ℕ} (q : Passed frame l points base n m answers) where
     -- the highest of those that are left
-    pub pass_next : ((p : ℕ) → p < shown → (get_or order p no_id).0 < 16) → 0 < m → (v : WinId) → v ≡ get_or order (m - 1) no_id → (w : List ℕ)
+    pub pass_next : ((p : ℕ) → p < length l → (get_or l p no_id).0 < 16) → 0 < m → (v : WinId) → v ≡ get_or l (m - 1) no_id → (w : List ℕ)
         → Written answers (λ i. at_point points i (answered v.0 (frame v.0) (three answers i))) n w
-        → Passed frame order shown points base n (m - 1) w
-    pass_next low l v read w look =
+        → (k : ℕ) → k ≡ m - 1 → Passed frame l points base n k w
+    pass_next low h v read w look k s =
         record {
           within = omega (arith, q.within);
           so_far = written_over q.so_far (record { same = look.same; each = next; rest = look.rest });
         }
       where
-        more : v.0 ∷ drop m (ids shown order) ≡ drop (m - 1) (ids shown order)
+        more : v.0 ∷ drop m (nums l) ≡ drop k (nums l)
         more =
             let up : suc (m - 1) ≡ m = omega arith in
             sym
-            (ids_from order shown (m - 1) (omega arith) (omega (arith, q.within))
-            ∙ ap (λ (u : WinId). u.0 ∷ drop (suc (m - 1)) (ids shown order)) (sym read)
-            ∙ ap (λ (k : ℕ). v.0 ∷ drop k (ids shown order)) up)
+            (ap (λ (j : ℕ). drop j (nums l)) s
+            ∙ drop-cons (nums l) (m - 1) 0 (omega (arith, q.within, length-map l num))
+            ∙ ap (λ (e : ℕ). e ∷ drop (suc (m - 1)) (nums l)) (get_or-map num l (m - 1) no_id)
+            ∙ ap (λ (u : WinId). u.0 ∷ drop (suc (m - 1)) (nums l)) (sym read)
+            ∙ ap (λ (j : ℕ). v.0 ∷ drop j (nums l)) up)
 
         -- the windows above it are windows
-        above : (p : ℕ) → p < length (drop m (ids shown order)) → get_or (drop m (ids shown order)) p 0 < 16
+        above : (p : ℕ) → p < length (drop m (nums l)) → get_or (drop m (nums l)) p 0 < 16
         above p h =
-            let k : m + p < shown = omega (arith, length-drop m (ids shown order), ids_length shown order (omega arith)) in
-            rw (get_or-drop m (ids shown order) p 0, ids_at shown (m + p) order k) (low (m + p) k)
+            let j : m + p < length l = omega (arith, length-drop m (nums l), length-map l num) in
+            rw (get_or-drop m (nums l) p 0, get_or-map num l (m + p) no_id) (low (m + p) j)
 
-        next : (i : ℕ) → i < n → three w i ≡ at_point points i (hit_in frame (drop (m - 1) (ids shown order)))
+        next : (i : ℕ) → i < n → three w i ≡ at_point points i (hit_in frame (drop k (nums l)))
         next i h =
             look.each i h
             ∙ ap (λ (t : List ℕ). at_point points i (answered v.0 (frame v.0) t)) (q.so_far.each i h)
-            ∙ one_more frame (get_or points (2 * i) 0) (get_or points (2 * i + 1) 0) (drop m (ids shown order)) v.0 above
+            ∙ one_more frame (get_or points (2 * i) 0) (get_or points (2 * i + 1) 0) (drop m (nums l)) v.0 above
             ∙ ap (λ (os : List ℕ). at_point points i (hit_in frame os)) more
 
     pub pass_end : m ≤ 0 → (lent : List ℕ) → Written lent (λ _. to_nobody) n base → length points ≡ 2 * n → 3 * n ≤ length lent
-        → answers ≡ each_point (hit_in frame (ids shown order)) points ++ drop (3 * n) lent
-    pass_end l lent w even room =
+        → answers ≡ each_point (hit_in frame (nums l)) points ++ drop (3 * n) lent
+    pass_end h lent w even room =
         let z : m ≡ 0 = omega arith in
-        written_all (hit_in frame (ids shown order)) points lent answers n even room
-        (subst (λ (k : ℕ). Written lent (λ i. at_point points i (hit_in frame (drop k (ids shown order)))) n answers) z (written_over w q.so_far))
+        written_all (hit_in frame (nums l)) points lent answers n even room
+        (subst (λ (k : ℕ). Written lent (λ i. at_point points i (hit_in frame (drop k (nums l)))) n answers) z (written_over w q.so_far))
+
+-- what question 25 says to a call that was not refused by it
+pub even_points : (given lent : ℕ) → fit given lent ≡ true → (given % 2 ≡ 0) × (3 * (given / 2) ≤ lent)
+even_points given lent e =
+    let a = snd (leb given 64 && eqb (given % 2) 0) _ e in
+    let b = snd (leb given 64) _ (fst (leb given 64 && eqb (given % 2) 0) _ e) in
+    (eqb-true (given % 2) 0 b, leb-true _ _ a)

@@ -1,11 +1,6 @@
 -- Three numbers for each of some points, written one point after the other; in the end the list begins with all of them.
-use Prim.Native.Nat.{ℕ, zero, suc, ◌+◌, ◌-◌, ◌*◌, ◌≤◌, ◌<◌}
-use mathlib.Core.Path.{◌≡◌, refl, sym, ap, ap₂, subst, ◌∙◌}
-use mathlib.Core.List.{List, [], ◌∷◌, ◌++◌, append_assoc}
-use mathlib.Core.Logic.{◌⊎◌, inl, inr}
-use native.Mathlib.Omega.{arith}
-use lib.ListN.{length, get_or, set, take, drop, take-append-drop, length-drop}
-use lib.Seq.{sets, length-sets, set-get_or, get_or-drop, drop-drop, ext_get_or}
+use Rattle.std.proofs.Common.{ℕ, zero, suc, ◌+◌, ◌-◌, ◌*◌, ◌≤◌, ◌<◌, ◌≡◌, refl, sym, ap, ap₂, ◌∙◌, List, [], ◌∷◌, ◌++◌, append_assoc, ◌⊎◌, inl, inr, arith, length, get_or, set, take, drop, take-append-drop, length-drop, get_or-drop, drop-drop, ext_get_or}
+use Rattle.std.proofs.Math.Seq.{sets, length-sets, set-get_or}
 use Rattle.geom.proofs.basics.Tests.{lt_or_le}
 use Rattle.scanline.proofs.rows.Rows.{sets_on, sets_off}
 use Rattle.rules.specs.Hits.{each_point}
@@ -76,9 +71,6 @@ module _ {l m : List ℕ} {f : ℕ → List ℕ} {k : ℕ} (q : Written l f k m)
 
           here : three w k ≡ get_or v 0 0 ∷ get_or v 1 0 ∷ get_or v 2 0 ∷ []
           here = same_three w v k 0 (λ j n. on j n ∙ ap (λ (x : ℕ). get_or v x 0) (omega arith))
-
-  pub written_end : (n : ℕ) → n ≤ k → k ≤ n → Written l f n m
-  written_end n h j = let e : k ≡ n = omega arith in subst (λ (i : ℕ). Written l f i m) e q
 
 -- other numbers for the same points, over those
 pub written_over : {l m w : List ℕ} {f g : ℕ → List ℕ} {n : ℕ} → Written l f n m → Written m g n w → Written l g n w

@@ -1,33 +1,31 @@
--- The windows above the lowest `left` do not contain the point; each turn looks at the highest of those that are left.
-use Prim.Native.Nat.{◌-◌}
-use mathlib.Core.Path.{◌≡◌, refl, sym, ap, ◌∙◌}
-use native.Mathlib.Omega.{arith}
-use lib.ListN.{get_or}
-use Rattle.geom.specs.declared.Rect.{Rect}
-use Rattle.geom.specs.Geom.{contains}
-use Rattle.geom.specs.inner.Fits.{Fits}
-use Rattle.geom.proofs.geometry.Answers.{contains_is}
-use Rattle.geom.proofs.geometry.Facts.{small_fits}
+-- The windows passed, the highest first, do not contain the point; each turn looks at the highest of those that are left.
+use Rattle.std.proofs.Common.{◌≡◌, ◌<◌, ◌-◌, sym, ◌∙◌, length, get_or, arith}
+use Rattle.std.proofs.lemmas.List.{length_push, length-reverse}
+use Rattle.std.proofs.lemmas.Iterator.Adapters.{YieldsList-from_rev_slice}
+use Rattle.std.proofs.lemmas.Iterator.Consumers.{YieldsList-turn, YieldsList-end}
 use Rattle.window.specs.inner.Ids.{no_id}
-use Rattle.order.specs.inner.Frames.{frame_at}
-use Rattle.topmost.proofs.laws.Topmost.{hit, miss}
-use borrow.Author.Rules.{rules}
+use Rattle.topmost.proofs.laws.Topmost.{turn, hit, miss, gone}
 use Rattle.topmost.proofs.topmost.Goals as goal
-use Rattle.topmost.proofs.topmost.Goals.{After-contains-hit}
+use Rattle.topmost.proofs.topmost.Goals.{In-Some}
 
--- the test is the rule's
-asks : (c : After-contains-hit) → let a = c.args in
-    c.contains-hit.result.yes ≡ contains (frame_at a.areas (get_or a.order (c.loop-left.left - 1) no_id).0) a.x a.y
-asks c =
-    let r = c.rect-frame in
-    let fits : Fits r.result = rw r.ensures (small_fits _ (c.requires.small _ (c.requires.low (c.loop-left.left - 1) (omega (arith, c.loop-left-test.true, c.loop-left.invariant.within))))) in
-    contains_is r.result c.args.x c.args.y fits c.new.ensures c.contains-hit.ensures
-    ∙ ap (λ (r : Rect). contains r c.args.x c.args.y) r.ensures
+-- the window of this turn
+here : (c : In-Some) → let l = c.args.shown.now in let k = length c.loop-id.yielded in (k < length l) × (c.in-Some.id.now ≡ get_or l (length l - k - 1) no_id)
+here c =
+    turn c.args.shown.now (length c.loop-id.yielded) c.in-Some.id.now
+    (YieldsList-turn (YieldsList-from_rev_slice c.args.shown.now cc) c.loop-id.yielded _ c.loop-id.yielded_by _ _ c.in-Some.id c.in-Some.is c.next.ensures.steps)
 
-pub returns-then-hit : goal.returns-then-hit
-returns-then-hit c =
-    hit c.loop-left.invariant (search rules) c.loop-left-test.true _ refl (sym (asks (goal.at.returns-then-hit c).After-contains-hit) ∙ c.if-hit.true)
+pub returns-then-has : goal.returns-then-has
+returns-then-has c =
+    let (k, e) = here (goal.at.returns-then-has c).In-Some in
+    hit c.loop-id.invariant (omega arith) c.in-Some.id.now e (sym c.has.ensures ∙ c.if-has.true)
 
-pub loop-left-preserved : goal.loop-left-preserved
-loop-left-preserved c =
-    miss c.loop-left.invariant (search rules) c.loop-left-test.true _ refl (sym (asks (goal.at.loop-left-preserved c).After-contains-hit) ∙ c.if-hit.false)
+pub loop-id-preserved : goal.loop-id-preserved
+loop-id-preserved c =
+    let (k, e) = here (goal.at.loop-id-preserved c).In-Some in
+    miss c.loop-id.invariant (omega arith) c.in-Some.id.now e (sym c.has.ensures ∙ c.if-has.false) _
+    (omega (arith, length_push c.loop-id.yielded c.in-Some.id))
+
+pub returns : goal.returns
+returns c =
+    let t = YieldsList-end (YieldsList-from_rev_slice c.args.shown.now cc) c.loop-id.yielded _ c.loop-id.yielded_by _ _ c.in-None.is c.next.ensures.steps in
+    gone c.loop-id.invariant (omega (arith, t.1, length-reverse c.args.shown.now))

@@ -1,19 +1,20 @@
 -- The topmost window of an order at a point, and the window that a release there is for.
 use Rattle.std.specs.Prelude.{ℕ, cond, List, [], ◌∷◌}
+use Rattle.std.specs.Prelude as Std
+use Rattle.std.specs.Prelude.{None, Some}
 use Rattle.std.proofs.Math.Option.{Option, none, some}
 use Rattle.geom.specs.declared.Rect.{Rect}
 use Rattle.geom.specs.Geom.{is_empty, contains}
 use Rattle.window.specs.declared.ids.WinId.{WinId}
-use Rattle.topmost.specs.declared.Hit.{Hit}
-use Rattle.topmost.specs.declared.Hit.TheVariants.{Window, Nobody}
 
 -- the constant `NOBODY`
 abbrev pub nobody : WinId
 nobody = record { 0 = 16 }
 
-abbrev pub hit_of : Hit → Option ℕ
-hit_of (Window id) = some id.0
-hit_of Nobody = none
+-- the window that was found
+abbrev pub hit_of : Std.Option WinId → Option ℕ
+hit_of (Some id) = some id.0
+hit_of None = none
 
 -- the last id of an order whose rectangle contains the point; `best` if none does
 abbrev pub topmost_at : (ℕ → Rect) → ℕ → ℕ → List ℕ → Option ℕ → Option ℕ

@@ -1,24 +1,25 @@
--- A part that the search splits, by the sides of what it has in common with the rectangle: a piece is there exactly
--- where the search goes on with it.
-use Prim.Native.Nat.{ℕ, ◌+◌, ◌-◌, ◌≤◌, ◌<◌, min, max}
-use mathlib.Core.Path.{◌≡◌, refl, ap}
-use mathlib.Core.Bool.{true, false}
-use mathlib.Core.List.{List, []}
-use native.Mathlib.Omega.{arith}
+-- A part that the walk splits, by the sides of what it has in common with the rectangle: a piece is there exactly
+-- where the walk goes on with it.
+use Rattle.std.proofs.Common.{ℕ, ◌+◌, ◌-◌, ◌≤◌, ◌<◌, min, max, ◌≡◌, ap, ◌∙◌, true, false, [], ◌∷◌, arith}
 use Rattle.geom.specs.declared.Rect.{Rect}
-use Rattle.geom.specs.Geom.{rect, left, top, right, bottom, width, height, is_empty, meets, if_any}
+use Rattle.geom.specs.Geom.{rect, left, top, right, bottom, width, height, is_empty, meets, common, if_any}
 use Rattle.geom.specs.Geom.{piece_above, piece_left, piece_right, piece_below}
-use Rattle.geom.specs.Lists.{rect_at}
+use Rattle.geom.specs.inner.Fits.{Within}
 use Rattle.geom.proofs.basics.Tests.{is_false}
 use Rattle.geom.proofs.geometry.Facts.{says_meet, says_empty}
 use Rattle.geom.proofs.geometry.Sides.{from_sides, common_sides}
-use Rattle.visible.specs.inner.Seen.{Missed}
-use Rattle.visible.proofs.laws.Split.{Splits, missed_more}
-use Rattle.visible.proofs.laws.Piece.{piece_none}
 
--- the part (x,y,w,h) is split by the k-th rectangle, and l, u, r, s are the sides of what they have in common
-pub record Cuts (x y w h n : ℕ) (t : List ℕ) (i k l u r s : ℕ) : Type 0 where
-  pub split : Splits (rect x y w h) n t i k (from_sides l u r s)
+pub piece_none : (r : Rect) → is_empty r ≡ true → if_any r ≡ []
+unfolding if_any
+piece_none r e = rw e
+
+pub piece_one : (r : Rect) → is_empty r ≡ false → if_any r ≡ r ∷ []
+unfolding if_any
+piece_one r e = rw e
+
+-- the part (x,y,w,h) is split by b, and l, u, r, s are the sides of what they have in common
+pub record Cuts (x y w h : ℕ) (b : Rect) (l u r s : ℕ) : Type 0 where
+  pub both : from_sides l u r s ≡ common (rect x y w h) b
   pub west : x ≤ l
   pub wide : l < r
   pub east : r ≤ x + w
@@ -26,15 +27,12 @@ pub record Cuts (x y w h n : ℕ) (t : List ℕ) (i k l u r s : ℕ) : Type 0 wh
   pub high : u < s
   pub south : s ≤ y + h
 
-pub cuts : {x y w h n : ℕ} {t : List ℕ} {i k l u r s : ℕ} → k < n → Missed (rect x y w h) n t i k
-    → meets (rect x y w h) (rect_at t k) ≡ true → l ≡ max x (left (rect_at t k)) → u ≡ max y (top (rect_at t k))
-    → r ≡ min (x + w) (right (rect_at t k)) → s ≡ min (y + h) (bottom (rect_at t k))
-    → Cuts x y w h n t i k l u r s
-cuts {x} {y} {w} {h} {n} {t} {i} {k} {l} {u} {r} {s} more missed met el eu er es =
-    let m = (says_meet (rect x y w h) (rect_at t k)).fact met in
-    let e = common_sides (rect x y w h) (rect_at t k) l u r s el eu er es in
+pub cuts : {x y w h : ℕ} {b : Rect} {l u r s : ℕ} → meets (rect x y w h) b ≡ true → l ≡ max x (left b) → u ≡ max y (top b)
+    → r ≡ min (x + w) (right b) → s ≡ min (y + h) (bottom b) → Cuts x y w h b l u r s
+cuts {x} {y} {w} {h} {b} {l} {u} {r} {s} met el eu er es =
+    let m = (says_meet (rect x y w h) b).fact met in
     record {
-      split = record { more = more; missed = missed; met = met; both = e };
+      both = common_sides (rect x y w h) b l u r s el eu er es;
       west = omega arith;
       wide = omega (arith, m.wide);
       east = omega arith;
@@ -43,23 +41,14 @@ cuts {x} {y} {w} {h} {n} {t} {i} {k} {l} {u} {r} {s} more missed met el eu er es
       south = omega arith;
     }
 
--- the same of the rectangle that the search found
-pub found : {x y w h n : ℕ} {t : List ℕ} {i k l u r s : ℕ} → Missed (rect x y w h) n t i k → (k ≡ n → ⊥)
-    → (k < n → meets (rect x y w h) (rect_at t k) ≡ true) → l ≡ max x (left (rect_at t k)) → u ≡ max y (top (rect_at t k))
-    → r ≡ min (x + w) (right (rect_at t k)) → s ≡ min (y + h) (bottom (rect_at t k))
-    → Cuts x y w h n t i k l u r s
-found missed other met =
-    let m = missed_more missed other in
-    cuts m missed (met m)
-
 some : (p : Rect) → 0 < width p → 0 < height p → is_empty p ≡ false
 some p a b = is_false (λ e. omega (arith, (says_empty p).fact e))
 
 none : (p : Rect) → min (width p) (height p) ≡ 0 → if_any p ≡ []
 none p e = piece_none p ((says_empty p).test e)
 
-module _ {x y w h n : ℕ} {t : List ℕ} {i k l u r s : ℕ} (q : Cuts x y w h n t i k l u r s) where
-  -- the four pieces as the search has them
+module _ {x y w h : ℕ} {b : Rect} {l u r s : ℕ} (q : Cuts x y w h b l u r s) where
+  -- the four pieces as the walk has them
   abbrev pub above : Rect
   above = rect x y w (u - y)
 
@@ -72,23 +61,26 @@ module _ {x y w h n : ℕ} {t : List ℕ} {i k l u r s : ℕ} (q : Cuts x y w h 
   abbrev pub below : Rect
   below = rect x s w (y + h - s)
 
-  pub above_is : above ≡ piece_above (rect x y w h) (from_sides l u r s)
-  above_is = refl
+  abbrev part : Rect
+  part = rect x y w h
 
-  pub left_of_is : left_of ≡ piece_left (rect x y w h) (from_sides l u r s)
-  left_of_is = refl
+  pub above_is : above ≡ piece_above part (common part b)
+  above_is = ap (piece_above part) q.both
 
-  pub right_of_is : right_of ≡ piece_right (rect x y w h) (from_sides l u r s)
+  pub left_of_is : left_of ≡ piece_left part (common part b)
+  left_of_is = ap (piece_left part) q.both
+
+  pub right_of_is : right_of ≡ piece_right part (common part b)
   right_of_is =
       let e : r ≡ l + (r - l) = omega (arith, q.wide) in
-      ap (λ (j : ℕ). rect j u (x + w - j) (s - u)) e
+      ap (λ (j : ℕ). rect j u (x + w - j) (s - u)) e ∙ ap (piece_right part) q.both
 
-  pub below_is : below ≡ piece_below (rect x y w h) (from_sides l u r s)
+  pub below_is : below ≡ piece_below part (common part b)
   below_is =
       let e : s ≡ u + (s - u) = omega (arith, q.high) in
-      ap (λ (j : ℕ). rect x j w (y + h - j)) e
+      ap (λ (j : ℕ). rect x j w (y + h - j)) e ∙ ap (piece_below part) q.both
 
-  -- what the search may ask of each piece
+  -- what the walk may ask of each piece
   pub above_some : y < u → is_empty above ≡ false
   above_some a = some above (omega (arith, q.west, q.wide, q.east)) (omega arith)
 
@@ -112,3 +104,16 @@ module _ {x y w h n : ℕ} {t : List ℕ} {i k l u r s : ℕ} (q : Cuts x y w h 
 
   pub below_none : y + h ≤ s → if_any below ≡ []
   below_none a = none below (omega arith)
+
+  -- they lie in the part
+  pub above_in : Within part above
+  above_in = omega (arith, q.north, q.high, q.south)
+
+  pub left_of_in : Within part left_of
+  left_of_in = omega (arith, q.west, q.wide, q.east, q.north, q.high, q.south)
+
+  pub right_of_in : Within part right_of
+  right_of_in = omega (arith, q.west, q.wide, q.east, q.north, q.high, q.south)
+
+  pub below_in : Within part below
+  below_in = omega (arith, q.north, q.high, q.south)

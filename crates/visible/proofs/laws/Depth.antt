@@ -1,7 +1,5 @@
 -- What is left outside several rectangles, part by part: the lists of the parts, one after the other, are the whole list.
-use mathlib.Core.Path.{◌≡◌, refl, ap, ◌∙◌}
-use mathlib.Core.Bool.{true, false}
-use mathlib.Core.List.{List, [], ◌∷◌, ◌++◌, append_assoc, append-nil}
+use Rattle.std.proofs.Common.{◌≡◌, refl, ap, ◌∙◌, true, false, List, [], ◌∷◌, ◌++◌, append_assoc, append-nil}
 use Rattle.geom.specs.declared.Rect.{Rect}
 use Rattle.geom.specs.Geom.{meets, common, if_any, piece_above, piece_left, piece_right, piece_below, around, pieces}
 use Rattle.geom.specs.Lists.{outside, outside_all}

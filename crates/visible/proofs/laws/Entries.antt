@@ -1,20 +1,13 @@
 -- The dirty entries join one after the other: what is seen of the window in an entry and in the area is what the
 -- rectangles leave of the part that `reach` gives.
-use Prim.Native.Nat.{ℕ, ◌+◌, ◌-◌, ◌≤◌, ◌<◌}
-use mathlib.Core.Bool.{Bool, true, false, not, ◌&&◌, ◌||◌, or-false, and-true, and-false}
-use mathlib.Core.Path.{◌≡◌, refl, sym, ap, ap₂, subst, ◌∙◌}
-use mathlib.Core.List.{List, [], ◌∷◌}
-use mathlib.Core.Logic.{⊎_elim}
-use native.Mathlib.Omega.{arith}
-use lib.ListN.{drop, drop_of_length-le}
+use Rattle.std.proofs.Common.{ℕ, ◌+◌, ◌-◌, ◌≤◌, ◌<◌, Bool, true, false, not, ◌&&◌, ◌||◌, ◌≡◌, refl, sym, ap, ap₂, subst, ◌∙◌, List, [], ◌∷◌, ⊎_elim, arith, length, get_or, drop, drop_of_length-le, drop-cons, add-one}
+use mathlib.Core.Bool.{or-false, and-true, and-false}
 use Rattle.geom.specs.declared.Rect.{Rect}
-use Rattle.geom.specs.Geom.{left, top, contains}
-use Rattle.geom.specs.Lists.{outside_all, rect_at, any_has}
+use Rattle.geom.specs.Geom.{rect, left, top, contains}
+use Rattle.geom.specs.Lists.{outside_all, any_has}
 use Rattle.geom.proofs.basics.Tests.{Says, says_and, says_le, is_false, decided}
 use Rattle.geom.proofs.geometry.Facts.{not_in}
 use Rattle.geom.proofs.geometry.Cover.{outside_all_has}
-use Rattle.rules.specs.Visible.{rects_of}
-use Rattle.rules.proofs.Lent.{length_rects, rects_next}
 use Rattle.visible.specs.declared.extents.Extents.{Extents}
 use Rattle.visible.specs.inner.Extents.{Joins}
 use Rattle.visible.specs.inner.Seen.{Reach}
@@ -109,27 +102,23 @@ module _ (at area : Rect) (bs : List Rect) where
       stale_part : remains px py ≡ stale (d ∷ []) px py
       stale_part = ⊎_elim (λ k. inside k.0 k.1) outside (decided says_behind)
 
-  -- the entries from the i-th on, joined with e, give what all of them give
-  abbrev pub Rest : ℕ → List ℕ → Extents → ℕ → Extents → Type 0
-  Rest m l e₀ i e = (r : Extents) → Joins (stale (drop i (rects_of m l))) e r → Joins (stale (rects_of m l)) e₀ r
+  module _ (ds : List Rect) where
+    -- the entries from the i-th on, joined with e, give what all of them give
+    abbrev pub Rest : Extents → ℕ → Extents → Type 0
+    Rest e₀ i e = (r : Extents) → Joins (stale (drop i ds)) e r → Joins (stale ds) e₀ r
 
-  module _ (m : ℕ) (l : List ℕ) {e₀ : Extents} where
-    pub rest_start : Rest m l e₀ 0 e₀
-    rest_start r j = j
-
-    pub rest_next : (i : ℕ) → i < m → {d p : Rect} {e f : Extents} → d ≡ rect_at l i → Reach at d area p
-        → JoinsAll (outside_all (p ∷ []) bs) e f → Rest m l e₀ i e → Rest m l e₀ (i + 1) f
-    rest_next i h {d} {p} {e} {f} ed q j rest r k =
-        let ds = drop (i + 1) (rects_of m l) in
+    pub rest_next : (e₀ : Extents) (i : ℕ) → i < length ds → {p : Rect} {e f : Extents} → Reach at (get_or ds i (rect 0 0 0 0)) area p
+        → JoinsAll (outside_all (p ∷ []) bs) e f → Rest e₀ i e → Rest e₀ (i + 1) f
+    rest_next e₀ i h {p} {e} {f} q j rest r k =
+        let d = get_or ds i (rect 0 0 0 0) in
+        let es = drop (i + 1) ds in
+        let next : drop i ds ≡ d ∷ es = rw (add-one i) (drop-cons ds i (rect 0 0 0 0) h) in
         let one : Joins (stale (d ∷ [])) e f = joins_same (λ px py. stale_part px py q) j in
-        let more : Joins (stale (d ∷ ds)) e r = joins_same (λ px py. sym (stale_first px py d ds)) (joins_both one k) in
-        rest r
-        (subst (λ (rs : List Rect). Joins (stale rs) e r)
-        (ap (λ (s : Rect). s ∷ ds) ed ∙ sym (rects_next m l i h)) more)
+        let more : Joins (stale (d ∷ es)) e r = joins_same (λ px py. sym (stale_first px py d es)) (joins_both one k) in
+        rest r (subst (λ (rs : List Rect). Joins (stale rs) e r) (sym next) more)
 
-    pub rest_end : (i : ℕ) → m ≤ i → {e : Extents} → Rest m l e₀ i e → Joins (stale (rects_of m l)) e₀ e
-    rest_end i h {e} rest =
+    pub rest_end : (e₀ : Extents) (i : ℕ) → length ds ≤ i → (e : Extents) → Rest e₀ i e → Joins (stale ds) e₀ e
+    rest_end e₀ i h e rest =
         rest e
-        (subst (λ (rs : List Rect). Joins (stale rs) e e)
-        (sym (drop_of_length-le (rects_of m l) {i = i} (omega (arith, length_rects m l))))
+        (subst (λ (rs : List Rect). Joins (stale rs) e e) (sym (drop_of_length-le ds {i = i} h))
         (joins_same (λ px py. sym (stale_none px py)) (joins_none refl)))

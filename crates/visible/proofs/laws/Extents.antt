@@ -1,17 +1,13 @@
 -- Extents are told by their pixels alone: there is one smallest rectangle, and joining two tests in turn joins both.
-use Prim.Native.Nat.{ℕ, ◌-◌, ◌≤◌, ◌<◌, min, max}
-use mathlib.Core.Bool.{Bool, true, false, ◌||◌, or_assoc}
-use mathlib.Core.Path.{◌≡◌, refl, sym, ap, subst, ◌∙◌}
-use mathlib.Core.Logic.{inl, inr, ⊎_elim}
-use native.Mathlib.Omega.{arith}
+use Rattle.std.proofs.Common.{ℕ, ◌-◌, ◌≤◌, ◌<◌, min, max, Bool, true, false, ◌||◌, ◌≡◌, refl, sym, ap, subst, ◌∙◌, inl, inr, ⊎_elim, arith}
+use mathlib.Core.Bool.{or_assoc}
 use Rattle.geom.specs.declared.Rect.{Rect}
 use Rattle.geom.specs.Geom.{left, top, right, bottom, contains}
-use Rattle.geom.specs.inner.Fits.{Fits}
-use Rattle.geom.proofs.basics.Tests.{Says, says_and, says_le, is_false, clash, or_left, or_right, or_cases, lt_or_le}
+use Rattle.geom.specs.inner.Fits.{Fits, Within}
+use Rattle.geom.proofs.basics.Tests.{is_false, clash, or_left, or_right, or_cases, lt_or_le}
 use Rattle.geom.proofs.geometry.Facts.{In, Solid, says_in}
 use Rattle.visible.specs.declared.extents.Extents.{Extents}
 use Rattle.visible.specs.inner.Extents.{nothing, Inside, Sides, Spans, Joins}
-use Rattle.visible.specs.inner.Held.{holds_all}
 
 abbrev Test : Type 0
 Test = ℕ → ℕ → Bool
@@ -120,11 +116,10 @@ joins_all n j = j.spans (λ x y. false) (spans_none n)
 
 -- A rectangle joins ---------------------------------------------------------------------------------------------------
 
-pub says_holds : (e : Extents) (r : Rect)
-    → Says (holds_all e r) (((e.left ≤ left r) × (right r ≤ e.right)) × ((e.top ≤ top r) × (bottom r ≤ e.bottom)))
-says_holds e r =
-    says_and (says_and (says_le e.left (left r)) (says_le (right r) e.right))
-    (says_and (says_le e.top (top r)) (says_le (bottom r) e.bottom))
+-- where nothing of a lies outside, no part of it adds anything
+pub joins_part : {e : Extents} {a : Rect} → (e.left ≤ left a) × ((right a ≤ e.right) × ((e.top ≤ top a) × (bottom a ≤ e.bottom)))
+    → (r : Rect) → Within a r → Joins (contains r) e e
+joins_part k r w = joins_held (λ x y h. let i = (says_in r x y).fact h in omega arith)
 
 -- r are the sides of e and of a
 pub record Around (e : Extents) (a : Rect) (r : Extents) : Type 0 where

@@ -1,23 +1,15 @@
 -- Entries in turn, each drawn outside the one before it: all together have the points that the entries have.
-use Prim.Native.Nat.{ℕ, ◌+◌, ◌-◌, ◌≤◌, ◌<◌}
-use mathlib.Core.Path.{◌≡◌, refl, sym, ap, ap₂, subst, ◌∙◌}
-use mathlib.Core.Bool.{Bool, true, false, not, ◌&&◌, ◌||◌, or-false}
-use mathlib.Core.List.{List, [], ◌∷◌, ◌++◌, append-nil}
-use native.Mathlib.Omega.{arith}
-use native.Mathlib.Numerals.{add-one}
-use lib.ListN.{length, take}
-use lib.Seq.{take-suc, take_all}
+use Rattle.std.proofs.Common.{ℕ, ◌+◌, ◌-◌, ◌≤◌, ◌<◌, ◌≡◌, refl, sym, ap, ap₂, subst, ◌∙◌, Bool, true, false, not, ◌&&◌, ◌||◌, List, [], ◌∷◌, ◌++◌, append-nil, arith, add-one, length, take, get_or, take-suc, take_all}
+use mathlib.Core.Bool.{or-false}
 use Rattle.geom.specs.declared.Rect.{Rect}
 use Rattle.geom.specs.Geom.{rect, left, top, contains}
 use Rattle.geom.specs.inner.Fits.{Fits, Within}
-use Rattle.geom.specs.Lists.{outside, meets_of, list_intersect, rect_at, any_has}
+use Rattle.geom.specs.Lists.{outside, meets_of, list_intersect, any_has}
 use Rattle.geom.proofs.basics.Tests.{clash, or_right, or_left}
 use Rattle.geom.proofs.basics.Lists.{all_append}
 use Rattle.geom.proofs.geometry.Facts.{not_in}
 use Rattle.geom.proofs.geometry.Pieces.{outside_all_lem}
 use Rattle.geom.proofs.geometry.Cover.{any_has_append, outside_has, list_intersect_has}
-use Rattle.rules.specs.Visible.{rects_of}
-use Rattle.rules.proofs.Lent.{length_rects, rects_at}
 use Rattle.visible.specs.declared.region.View.{View}
 use Rattle.visible.specs.inner.Seen.{Drawable, own, drawn}
 use Rattle.visible.proofs.laws.Parts.{within_trans}
@@ -96,38 +88,38 @@ module _ (v : View) (store : List ℕ) (r : Rect) where
     covered = λ x y h. clash h (ap (λ (q : Rect). contains q x y) e ∙ not_in (rect 0 0 0 0) x y (λ k. omega arith));
   }
 
-  module _ (m : ℕ) (l screen₀ : List ℕ) (b : Rect) (screen : List ℕ) (i : ℕ) (o : Once v store r (rects_of m l) screen₀ b screen i) where
+  module _ (ds : List Rect) (screen₀ : List ℕ) (b : Rect) (screen : List ℕ) (i : ℕ) (o : Once v store r ds screen₀ b screen i) where
     -- one entry more
-    pub once_turn : (e : Rect) (screen' : List ℕ) → Drawable v store screen₀ → Within (own v) r → i < m → e ≡ rect_at l i → Fits e
+    pub once_turn : (e : Rect) (screen' : List ℕ) → Drawable v store screen₀ → Within (own v) r → i < length ds → e ≡ get_or ds i (rect 0 0 0 0) → Fits e
         → screen' ≡ drawn v store (outside (meets_of r (e ∷ [])) b) screen → length screen' ≡ length screen
-        → Once v store r (rects_of m l) screen₀ e screen' (i + 1)
+        → Once v store r ds screen₀ e screen' (i + 1)
     once_turn e screen' d w h ee f es size = record {
       so_far =
           es
           ∙ ap (drawn v store new) o.so_far
           ∙ sym (drawn_append v store (meets_of r before) new screen₀)
           ∙ once_drawn r e b before o.covered v store screen₀ d w
-          ∙ ap (λ (ds : List Rect). drawn v store (meets_of r ds) screen₀) (sym next);
+          ∙ ap (λ (es : List Rect). drawn v store (meets_of r es) screen₀) (sym next);
       size = size ∙ o.size;
       fits = f;
       covered = λ x y k.
-          ap (λ (ds : List Rect). any_has ds x y) next
+          ap (λ (es : List Rect). any_has es x y) next
           ∙ any_has_append before (e ∷ []) x y
           ∙ or_right (any_has before x y) (contains e x y || false) (or_left (contains e x y) false k);
     }
       where
         before : List Rect
-        before = take i (rects_of m l)
+        before = take i ds
 
         new : List Rect
         new = outside (meets_of r (e ∷ [])) b
 
-        next : take (i + 1) (rects_of m l) ≡ before ++ (e ∷ [])
+        next : take (i + 1) ds ≡ before ++ (e ∷ [])
         next =
-            ap (λ (j : ℕ). take j (rects_of m l)) (add-one i)
-            ∙ take-suc (rects_of m l) i (rect 0 0 0 0) (rw (length_rects m l) h)
-            ∙ ap (λ (q : Rect). before ++ (q ∷ [])) (rects_at m l i h ∙ sym ee)
+            ap (λ (j : ℕ). take j ds) (add-one i)
+            ∙ take-suc ds i (rect 0 0 0 0) h
+            ∙ ap (λ (q : Rect). before ++ (q ∷ [])) (sym ee)
 
     -- no entry is left
-    pub once_all : m ≤ i → screen ≡ drawn v store (meets_of r (rects_of m l)) screen₀
-    once_all h = o.so_far ∙ ap (λ (ds : List Rect). drawn v store (meets_of r ds) screen₀) (take_all i (rects_of m l) (rw (length_rects m l) h))
+    pub once_all : length ds ≤ i → screen ≡ drawn v store (meets_of r ds) screen₀
+    once_all h = o.so_far ∙ ap (λ (es : List Rect). drawn v store (meets_of r es) screen₀) (take_all i ds h)

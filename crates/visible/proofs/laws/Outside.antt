@@ -1,12 +1,5 @@
 -- The pieces of a region outside a rectangle, drawn one after the other: a piece without a pixel draws nothing.
-use Prim.Native.Nat.{ℕ, zero, suc, ◌+◌, ◌-◌, ◌≤◌, ◌<◌, min}
-use mathlib.Core.Path.{◌≡◌, refl, sym, ap, subst, ◌∙◌}
-use mathlib.Core.Bool.{Bool, true, false, cond}
-use mathlib.Core.List.{List, [], ◌∷◌, ◌++◌, append-nil}
-use native.Mathlib.Omega.{arith}
-use native.Mathlib.Numerals.{add-one}
-use lib.ListN.{length, take, drop, get_or, length-take, drop_of_length-le}
-use lib.Seq.{drop-cons, get_or-take}
+use Rattle.std.proofs.Common.{ℕ, zero, suc, ◌+◌, ◌-◌, ◌≤◌, ◌<◌, min, ◌≡◌, refl, sym, ap, subst, ◌∙◌, Bool, true, false, cond, List, [], ◌∷◌, ◌++◌, append-nil, arith, add-one, length, take, drop, get_or, length-take, drop_of_length-le, drop-cons, get_or-take}
 use Rattle.geom.specs.declared.Rect.{Rect}
 use Rattle.geom.specs.Geom.{rect, left, top, width, height, bottom, meets, common, if_any, piece_above, piece_left, piece_right, piece_below, around, pieces}
 use Rattle.geom.specs.inner.Fits.{Within}
@@ -26,12 +19,20 @@ use Rattle.visible.proofs.laws.Shown.{placed, screen_rect, region_off}
 pub hole_within : (a b i : Rect) → i ≡ hole_of a b → Within a i
 hole_within a b i e = subst (Within a) (sym e) (by_test (Within a) (says_meet a b) (λ m. (common_within a b m).0) (λ n. omega arith))
 
-pub four_within : (a i : Rect) (k : ℕ) → Within a i → k < 4 → Within a (get_or (four a i) k (rect 0 0 0 0))
+four_within : (a i : Rect) (k : ℕ) → Within a i → k < 4 → Within a (get_or (four a i) k (rect 0 0 0 0))
 four_within a i zero w h = above_within a i w
 four_within a i (suc zero) w h = left_within a i w
 four_within a i (suc (suc zero)) w h = right_within a i w
 four_within a i (suc (suc (suc zero))) w h = below_within a i w
 four_within a i (suc (suc (suc (suc k)))) w h = absurd (omega arith)
+
+-- one of the first n
+pub piece_within : (a i : Rect) (rs : List Rect) (n k : ℕ) → rs ≡ four a i → Within a i → k < length (take n rs) → Within a (get_or (take n rs) k (rect 0 0 0 0))
+piece_within a i rs n k e w h =
+    let l = length-take n rs in
+    subst (Within a)
+    (sym (get_or-take n rs k (rect 0 0 0 0) (omega (arith, l)) ∙ ap (λ (l : List Rect). get_or l k (rect 0 0 0 0)) e))
+    (four_within a i k w (omega (arith, l, ap length e)))
 
 -- What they draw ---------------------------------------------------------------------------------------------------------
 
@@ -74,31 +75,25 @@ module _ (v : View) (store : List ℕ) where
 
   -- The loop over them -------------------------------------------------------------------------------------------------
 
-  module _ (rs : List Rect) (n k : ℕ) where
+  module _ (rs : List Rect) (k : ℕ) where
     -- one more is drawn
-    pub piece_turn : (p : Rect) (screen screen' all : List ℕ) → k < n → n ≤ length rs → p ≡ get_or rs k (rect 0 0 0 0)
-        → drawn v store (drop k (take n rs)) screen ≡ all
-        → screen' ≡ draw_region v.dim v.at v.base store v.sw v.sh p screen
-        → drawn v store (drop (k + 1) (take n rs)) screen' ≡ all
+    pub piece_turn : (screen screen' all : List ℕ) → k < length rs → drawn v store (drop k rs) screen ≡ all
+        → screen' ≡ draw_region v.dim v.at v.base store v.sw v.sh (get_or rs k (rect 0 0 0 0)) screen
+        → drawn v store (drop (k + 1) rs) screen' ≡ all
     unfolding drawn
-    piece_turn p screen screen' all h l ep e es =
-        let next = drop-cons (take n rs) k (rect 0 0 0 0) (omega (arith, length-take n rs)) in
-        ap (λ (j : ℕ). drawn v store (drop j (take n rs)) screen') (add-one k)
-        ∙ ap (drawn v store (drop (suc k) (take n rs)))
-        (es
-        ∙ ap (λ (q : Rect). draw_region v.dim v.at v.base store v.sw v.sh q screen) (ep ∙ sym (get_or-take n rs k (rect 0 0 0 0) h)))
+    piece_turn screen screen' all h e es =
+        let next = drop-cons rs k (rect 0 0 0 0) h in
+        ap (λ (j : ℕ). drawn v store (drop j rs) screen') (add-one k)
+        ∙ ap (drawn v store (drop (suc k) rs)) es
         ∙ ap (λ (qs : List Rect). drawn v store qs screen) (sym next)
         ∙ e
 
     -- none is left
-    pub piece_all : (screen all : List ℕ) → n ≤ k → drawn v store (drop k (take n rs)) screen ≡ all → screen ≡ all
+    pub piece_all : (screen all : List ℕ) → length rs ≤ k → drawn v store (drop k rs) screen ≡ all → screen ≡ all
     piece_all screen all h e =
         sym (drawn_none v store screen)
-        ∙ ap (λ (qs : List Rect). drawn v store qs screen) (sym (drop_of_length-le (take n rs) {i = k} (omega (arith, length-take n rs))))
+        ∙ ap (λ (qs : List Rect). drawn v store qs screen) (sym (drop_of_length-le rs {i = k} h))
         ∙ e
-
-pub count_few : (a b : Rect) (n : ℕ) → n ≡ cond (meets a b) 4 1 → n ≤ 4
-count_few a b n e = rw e (by_test (λ k. k ≤ 4) (says_meet a b) (λ m. omega arith) (λ m. omega arith))
 
 -- What a region has in common with an entry, outside b -------------------------------------------------------------------
 

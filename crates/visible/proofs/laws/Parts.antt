@@ -1,6 +1,6 @@
 -- Parts that lie within a window: their sides fit, and their own parts lie within it too.
 use Rattle.geom.specs.declared.Rect.{Rect}
-use native.Mathlib.Omega.{arith}
+use Rattle.std.proofs.Common.{arith}
 use Rattle.geom.specs.Geom.{piece_above, piece_left, piece_right, piece_below}
 use Rattle.geom.specs.inner.Fits.{Fits, Within}
 

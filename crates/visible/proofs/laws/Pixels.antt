@@ -1,13 +1,6 @@
 -- What drawing leaves at one point of the screen: regions that have the same points of the screen draw the same.
-use Prim.Native.Nat.{ℕ, ◌+◌, ◌-◌, ◌*◌, ◌≤◌, ◌<◌, ◌/◌, ◌%◌, min}
-use mathlib.Core.Bool.{Bool, true, false, cond, ◌||◌}
-use mathlib.Core.Path.{◌≡◌, refl, sym, ap, subst, ◌∙◌}
-use mathlib.Core.List.{List, [], ◌∷◌, map}
-use mathlib.Core.Logic.{⊎_elim}
-use native.Mathlib.Nat.{zero-add, mod-lt, div-add-mod', mul_comm, mul-le-mul_right}
-use native.Mathlib.Omega.{arith}
-use lib.ListN.{length, get_or, length-map, get_or-map}
-use lib.Seq.{ext_get_or}
+use Rattle.std.proofs.Common.{ℕ, ◌+◌, ◌-◌, ◌*◌, ◌≤◌, ◌<◌, ◌/◌, ◌%◌, min, Bool, true, false, cond, ◌||◌, ◌≡◌, refl, sym, ap, subst, ◌∙◌, List, [], ◌∷◌, map, ⊎_elim, zero-add, mod-lt, div-add-mod', mul_comm, mul-le-mul_right, arith, length, get_or, ext_get_or}
+use lib.ListN.{length-map, get_or-map}
 use Rattle.geom.specs.declared.Rect.{Rect}
 use Rattle.geom.specs.Geom.{rect, left, top, width, height, right, contains, meets, common}
 use Rattle.geom.specs.inner.Fits.{Within}

@@ -1,23 +1,17 @@
 -- What lies off the screen or outside every dirty entry is not drawn, so a part that has all else draws what the window draws.
-use Prim.Native.Nat.{ℕ, ◌+◌, ◌-◌, ◌<◌}
-use mathlib.Core.Bool.{Bool, true, false, not, ◌&&◌, ◌||◌, or-false, and-false, and-or_distrib_left}
-use mathlib.Core.Path.{◌≡◌, refl, sym, ap, ap₂, subst, ◌∙◌}
-use mathlib.Core.List.{List, [], ◌∷◌, map}
-use native.Mathlib.Omega.{arith}
-use lib.Dec.{leb}
+use Rattle.std.proofs.Common.{ℕ, ◌+◌, ◌-◌, ◌<◌, Bool, true, false, not, ◌&&◌, ◌||◌, ◌≡◌, refl, sym, ap, ap₂, subst, ◌∙◌, List, [], ◌∷◌, map, arith, leb, length, get_or}
+use mathlib.Core.Bool.{or-false, and-false, and-or_distrib_left}
 use Rattle.geom.specs.declared.Rect.{Rect}
 use Rattle.geom.specs.Geom.{rect, left, top, width, height, is_empty, contains, meets, common}
-use Rattle.geom.specs.inner.Fits.{Fits, Within}
-use Rattle.geom.specs.Lists.{outside_all, relative, meets_of, list_intersect, rect_at, any_has}
+use Rattle.geom.specs.inner.Fits.{Within}
+use Rattle.geom.specs.Lists.{outside_all, relative, meets_of, list_intersect, any_has}
 use Rattle.geom.proofs.basics.Tests.{clash, both, fst, snd, by_test, says_and, says_le, same}
 use Rattle.geom.proofs.basics.Lists.{All, all_append, all_imp}
 use Rattle.geom.proofs.geometry.Facts.{says_in, says_empty, says_meet, common_has, common_within, unmet_has, not_in}
 use Rattle.geom.proofs.geometry.Pieces.{left_within}
 use Rattle.geom.proofs.geometry.Cover.{outside_all_has, list_intersect_has}
 use Rattle.rules.specs.Redraw.{onto}
-use Rattle.rules.specs.Visible.{rects_of}
-use Rattle.rules.specs.inner.Lent.{Lent}
-use Rattle.rules.proofs.Lent.{fits_at}
+use Rattle.rules.specs.inner.Lent.{AllFit}
 use Rattle.visible.specs.declared.region.View.{View}
 use Rattle.visible.specs.inner.Seen.{Drawable, Bounds, Reach, own, seen, regions, drawn}
 use Rattle.visible.proofs.laws.Parts.{within_refl, within_trans}
@@ -160,13 +154,11 @@ everything = rect 0 0 4294967295 4294967295
 pub everything_bounds : (ds : List Rect) → Bounds everything ds
 everything_bounds ds = record { fits = omega arith; has = λ x y a b h. (says_in everything x y).test (omega arith) }
 
-pub one_bounds : (m : ℕ) (l : List ℕ) (r : Rect) → Lent m l → m ≡ 1 → r ≡ rect_at l 0 → Bounds r (rects_of m l)
-one_bounds m l r k e er = record {
-  fits = subst Fits (sym er) (fits_at m l 0 k (omega arith));
-  has = λ x y a b h.
-      subst (λ (q : Rect). contains q x y ≡ true) (sym er)
-      (sym (or-false (contains (rect_at l 0) x y)) ∙ subst (λ (j : ℕ). any_has (rects_of j l) x y ≡ true) e h);
-}
+pub one_bounds : (ds : List Rect) → AllFit ds → length ds ≡ 1 → Bounds (get_or ds 0 (rect 0 0 0 0)) ds
+unfolding AllFit
+one_bounds [] f e = absurd (omega arith)
+one_bounds (d ∷ []) f e = record { fits = f.0; has = λ x y a b h. sym (or-false (contains d x y)) ∙ h }
+one_bounds (d ∷ c ∷ ds) f e = absurd (omega arith)
 
 -- The part as the code cuts it ------------------------------------------------------------------------------------------
 

@@ -1,8 +1,6 @@
 -- The visible list and the drawn regions, part by part.
-use Prim.Native.Nat.{ℕ}
-use mathlib.Core.Path.{◌≡◌, refl, ap, ◌∙◌}
-use mathlib.Core.List.{List, [], ◌∷◌, ◌++◌, map, map-append, append_assoc, append-nil}
-use lib.ListN.{length, length-map}
+use Rattle.std.proofs.Common.{ℕ, ◌≡◌, refl, ap, ◌∙◌, List, [], ◌∷◌, ◌++◌, map, append_assoc, append-nil}
+use mathlib.Core.List.{map-append}
 use Rattle.geom.specs.declared.Rect.{Rect}
 use Rattle.geom.specs.Lists.{outside_all, relative, meets_of, list_intersect}
 use Rattle.rules.specs.Redraw.{draw_region}
@@ -25,10 +23,6 @@ module _ (at : Rect) where
   unfolding seen
   seen_end p = ap (map (relative at)) (outside_all_end (p ∷ []))
 
-  pub length_seen : (rs bs : List Rect) → length (seen at rs bs) ≡ length (outside_all rs bs)
-  unfolding seen
-  length_seen rs bs = length-map (outside_all rs bs) (relative at)
-
 -- The regions --------------------------------------------------------------------------------------------------------
 
 intersect_append : (xs ys ds : List Rect) → list_intersect (xs ++ ys) ds ≡ list_intersect xs ds ++ list_intersect ys ds
@@ -45,11 +39,6 @@ module _ (at : Rect) where
   pub regions_none : (bs ds : List Rect) → regions at [] bs ds ≡ []
   unfolding regions list_intersect
   regions_none bs ds = ap (λ (rs : List Rect). list_intersect rs ds) (seen_none at bs)
-
-  -- rectangles that leave the same
-  pub regions_same : (rs rs' bs bs' ds : List Rect) → seen at rs bs ≡ seen at rs' bs' → regions at rs bs ds ≡ regions at rs' bs' ds
-  unfolding regions
-  regions_same rs rs' bs bs' ds e = ap (λ (v : List Rect). list_intersect v ds) e
 
   -- a part that no rectangle covers
   pub regions_end : (p : Rect) (ds : List Rect) → regions at (p ∷ []) [] ds ≡ meets_of (relative at p) ds

@@ -1,11 +1,5 @@
 -- One region on the screen: which rows are drawn, that they lie in the store and on the screen, and that they are the rule's.
-use Prim.Native.Nat.{ℕ, ◌+◌, ◌-◌, ◌*◌, ◌≤◌, ◌<◌}
-use mathlib.Core.Path.{◌≡◌, refl, sym, ap, ◌∙◌, subst}
-use mathlib.Core.Bool.{Bool, true, false}
-use mathlib.Core.List.{List, [], ◌∷◌, map}
-use native.Mathlib.Omega.{arith}
-use native.Mathlib.Nat.{mul-le-mul_right, mul_comm}
-use lib.ListN.{length}
+use Rattle.std.proofs.Common.{ℕ, ◌+◌, ◌-◌, ◌*◌, ◌≤◌, ◌<◌, ◌≡◌, refl, sym, ap, ◌∙◌, subst, Bool, true, false, List, [], ◌∷◌, map, arith, mul-le-mul_right, mul_comm, length}
 use Rattle.geom.specs.declared.Rect.{Rect}
 use Rattle.geom.specs.Geom.{rect, left, top, width, height, bottom, meets, common}
 use Rattle.geom.specs.inner.Fits.{Fits, Within}
@@ -35,11 +29,6 @@ screen_rect v = rect 0 0 v.sw v.sh
 pub record Cut (v : View) (k : Rect) : Type 0 where
   pub window : Within v.at k
   pub screen : Within (screen_rect v) k
-
-pub placed_fits : (v : View) (r on all : Rect) (store screen : List ℕ) → Drawable v store screen → Within (own v) r
-    → on ≡ placed v r → all ≡ screen_rect v → Fits on × Fits all
-placed_fits v r on all store screen d w e f =
-    (subst Fits (sym e) (let s = d.at in omega arith), subst Fits (sym f) (omega (arith, d.sw≤, d.sh≤)))
 
 pub cut : (v : View) (r on all k : Rect) → Within (own v) r → on ≡ placed v r → all ≡ screen_rect v → meets on all ≡ true → k ≡ common on all → Cut v k
 cut v r on all k w e f m ek =
@@ -117,16 +106,8 @@ own_fits v r store screen d w =
     let s = d.at in
     omega arith
 
-pub part_fits : (v : View) (p : Rect) (store screen : List ℕ) → Drawable v store screen → Within v.at p → Fits p
-part_fits v p store screen d w =
-    let s = d.at in
-    omega arith
-
 pub own_common : (v : View) (r e k : Rect) → Within (own v) r → meets r e ≡ true → k ≡ common r e → Within (own v) k
 own_common v r e k w m ek = within_trans (own v) r k w (subst (Within r) (sym ek) (common_within r e ((says_meet r e).fact m)).0)
-
-pub own_relative : (v : View) (p r : Rect) → Within v.at p → r ≡ relative v.at p → Within (own v) r
-own_relative v p r w e = subst (Within (own v)) (sym e) (omega arith)
 
 pub drawable_kept : (v : View) (store screen screen' : List ℕ) → Drawable v store screen → length screen' ≡ length screen → Drawable v store screen'
 drawable_kept v store screen screen' d e = record { at = d.at; pixels = d.pixels; sw≤ = d.sw≤; sh≤ = d.sh≤; size = e ∙ d.size }

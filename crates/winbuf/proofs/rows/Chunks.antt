@@ -1,12 +1,8 @@
 -- The rows of a blit: some take full chunks of the data, the next one what is left, and those after it nothing.
-use mathlib.Core.Path.{◌≡◌, sym, ap, ◌∙◌}
-use mathlib.Core.List.{List, []}
-use mathlib.Core.Logic.{◌⊎◌, inl, inr}
-use Prim.Native.Nat.{ℕ, zero, suc, ◌+◌, ◌-◌, ◌*◌, ◌/◌, ◌≤◌, ◌<◌, min}
-use native.Mathlib.Omega.{arith}
-use native.Mathlib.Nat.{add-zero, add-suc, mul-div-le, lt-div-mul-add}
-use lib.ListN.{length, take, drop, length-drop, drop_of_length-le}
-use lib.Seq.{sets, take-nil}
+use Rattle.std.proofs.Common.{◌≡◌, sym, ap, ◌∙◌, List, [], ◌⊎◌, inl, inr, ℕ, zero, suc, ◌+◌, ◌-◌, ◌*◌, ◌/◌, ◌≤◌, ◌<◌, min, arith, add-zero, add-suc, length, take, drop, length-drop, drop_of_length-le}
+use Rattle.std.proofs.lemmas.List.Edits.{sets}
+use native.Mathlib.Nat.{mul-div-le, lt-div-mul-add}
+use lib.Seq.{take-nil}
 use Rattle.scanline.specs.Pixels.{write_rows, part}
 use Rattle.scanline.specs.inner.Rows.{Counted}
 use Rattle.geom.proofs.basics.Tests.{lt_or_le}
@@ -42,9 +38,6 @@ rows_behind n (suc d) at row s h =
 module _ (src : List ℕ) (stride n full : ℕ) (is : full ≡ min n (length src / stride)) where
   pub chunks_in : full * stride ≤ length src
   chunks_in = rows_room (length src) stride (length src / stride) full (omega arith) (mul-div-le (length src) stride)
-
-  pub chunk_in : (r m : ℕ) → r < full → m ≤ stride → r * stride + m ≤ length src
-  chunk_in r m l h = omega (arith, chunks_in, row_end stride full r l)
 
   -- one more row takes what is left, and the rows after it nothing
   none_left : (w r : ℕ) → full < r → r < n → take w (part (r * stride) stride src) ≡ []

@@ -1,11 +1,7 @@
 -- Rows that leave no gap: one list after the other.
-use mathlib.Core.Path.{◌≡◌, sym, ap, ◌∙◌}
-use mathlib.Core.List.{List, [], ◌++◌, append_assoc, append-nil}
-use Prim.Native.Nat.{ℕ, zero, suc, ◌+◌, ◌-◌, ◌*◌, ◌≤◌, ◌<◌}
-use native.Mathlib.Omega.{arith}
-use native.Mathlib.Nat.{suc-mul}
-use lib.ListN.{length, drop, replicate, length-drop, length-append, length-replicate, replicate-append-replicate, drop_of_length-le}
-use lib.Seq.{sets, drop-drop, drop_at}
+use Rattle.std.proofs.Common.{◌≡◌, sym, ap, ◌∙◌, List, [], ◌++◌, append_assoc, append-nil, ℕ, zero, suc, ◌+◌, ◌-◌, ◌*◌, ◌≤◌, ◌<◌, arith, suc-mul, length, drop, replicate, length-drop, length-append, drop_of_length-le, drop-drop, drop_at}
+use Rattle.std.proofs.lemmas.List.{length-replicate, replicate-append-replicate}
+use Rattle.std.proofs.lemmas.List.Edits.{sets}
 use Rattle.scanline.specs.Pixels.{write_rows}
 use Rattle.scanline.proofs.rows.Runs.{sets_behind}
 

@@ -1,11 +1,7 @@
 -- Rows written in a part of a store.
-use mathlib.Core.Path.{◌≡◌, refl, sym, ap, ◌∙◌}
-use mathlib.Core.List.{List, [], ◌∷◌}
-use Prim.Native.Nat.{ℕ, zero, suc, ◌+◌, ◌*◌, ◌≤◌, ◌<◌, min}
-use native.Mathlib.Omega.{arith}
-use native.Mathlib.Nat.{add-zero, not-suc-le-zero}
-use lib.ListN.{length, take, drop, set, replicate, length-set, length-take, length-replicate}
-use lib.Seq.{sets, set_comm, set-set, take-take, drop-drop}
+use Rattle.std.proofs.Common.{◌≡◌, refl, sym, ap, ◌∙◌, List, [], ◌∷◌, ℕ, zero, suc, ◌+◌, ◌*◌, ◌≤◌, ◌<◌, min, arith, add-zero, not-suc-le-zero, length, take, drop, set, replicate, length-set, length-take, set-set, take-take, drop-drop}
+use Rattle.std.proofs.lemmas.List.{length-replicate, set_comm}
+use Rattle.std.proofs.lemmas.List.Edits.{sets}
 use Rattle.scanline.specs.Pixels.{write_rows, part, resized_at}
 use Rattle.winbuf.specs.inner.Rows.{resized}
 use Rattle.scanline.proofs.rows.Runs.{full_part}

@@ -1,19 +1,12 @@
 -- Rows at a new width, in place: one turn of `narrow` and of `widen`, and the end of a resize.
-use mathlib.Core.Path.{◌≡◌, refl, sym, ap, ◌∙◌}
-use mathlib.Core.List.{List, ◌++◌, append-nil}
-use Prim.Native.Nat.{ℕ, zero, suc, ◌+◌, ◌-◌, ◌*◌, ◌≤◌, ◌<◌, min, max}
-use native.Mathlib.Omega.{arith}
-use native.Mathlib.Numerals.{add-one}
-use lib.ListN.{length, take, drop, replicate, length-take, length-append, length-replicate}
-use lib.Seq.{sets}
+use Rattle.std.proofs.Common.{◌≡◌, sym, ap, ◌∙◌, List, ◌++◌, append-nil, ℕ, suc, ◌+◌, ◌-◌, ◌*◌, ◌≤◌, ◌<◌, min, arith, add-one, length, take, drop, replicate, length-take, length-append}
+use Rattle.std.proofs.lemmas.List.{length-replicate}
+use Rattle.std.proofs.lemmas.List.Edits.{sets}
 use Rattle.scanline.specs.Pixels.{write_rows, part}
-use Rattle.scanline.proofs.rows.Runs.{full_part, sets_append, sets_self, part_sets_after}
-use Rattle.scanline.proofs.rows.Written.{rows_none, rows_same, rows_self, rows_comm, drop_rows}
+use Rattle.scanline.proofs.rows.Runs.{full_part, sets_append, part_sets_after}
+use Rattle.scanline.proofs.rows.Written.{rows_same, rows_self, rows_comm, drop_rows}
 use Rattle.scanline.proofs.rows.Rows.{row_end, row_le, rows_room}
 use Rattle.winbuf.proofs.rows.Flat.{finish}
-use Prim.Native.Nat.{ℕ, zero, suc, ◌+◌, ◌-◌, ◌*◌, ◌≤◌, ◌<◌, min}
-use lib.ListN.{length, take, drop, replicate, length-take, length-append, length-replicate}
-use lib.Seq.{sets}
 use Rattle.winbuf.specs.inner.Rows.{resized}
 
 -- Narrow -------------------------------------------------------------------------------------------------------------
@@ -30,27 +23,6 @@ narrow_turn s w0 w1 r h =
   where
     ends : (k : ℕ) → k < r → k * w1 + length (part (k * w0) w1 s) ≤ r * w0
     ends k l = omega (arith, length-take w1 (drop (k * w0) s), row_end w1 r k l, row_le r w1 w0 h)
-
--- the first row stays
-pub narrow_one : (s : List ℕ) (w0 w1 : ℕ) → s ≡ write_rows 1 (λ k. k * w1) (λ k. part (k * w0) w1 s) s
-unfolding write_rows
-narrow_one s w0 w1 =
-    let x : 0 * w0 ≡ 0 = omega arith in
-    let y : 0 * w1 ≡ 0 = omega arith in
-    rw (x, y) (sym (sets_self s 0 w1 (omega arith)))
-
--- all rows, or none: the first row was never moved
-pub narrow_all : (s p : List ℕ) (w0 w1 n r : ℕ) → p ≡ write_rows r (λ k. k * w1) (λ k. part (k * w0) w1 s) s
-    → 1 ≤ r → n ≤ r → r ≤ max 1 n → p ≡ write_rows n (λ k. k * w1) (λ k. part (k * w0) w1 s) s
-narrow_all s p w0 w1 zero r e a b l =
-    let k : r ≡ 1 = omega arith in
-    e
-    ∙ ap (λ (j : ℕ). write_rows j (λ k. k * w1) (λ k. part (k * w0) w1 s) s) k
-    ∙ sym (narrow_one s w0 w1)
-    ∙ rows_none (λ k. k * w1) (λ k. part (k * w0) w1 s) s
-narrow_all s p w0 w1 (suc n) r e a b l =
-    let k : r ≡ suc n = omega arith in
-    e ∙ ap (λ (j : ℕ). write_rows j (λ k. k * w1) (λ k. part (k * w0) w1 s) s) k
 
 -- Widen --------------------------------------------------------------------------------------------------------------
 
@@ -96,18 +68,6 @@ widen_step s s1 s2 w0 w1 n r h l m e1 e2 =
     ∙ sets_append s (r * w1) (part (r * w0) w0 s) (replicate (w1 - w0) 0) in
     ap (λ (x : List ℕ). write_rows r (λ j. j * w1) (wide w0 w1 x) x) e ∙ widen_turn s w0 w1 r h
 
--- the first row is where it was: only zeros
-pub widen_one : (s s2 : List ℕ) (w0 w1 n : ℕ) → w0 ≤ w1 → n * w1 ≤ length s → 0 < n
-    → s2 ≡ sets s w0 (replicate (w1 - w0) 0)
-    → s2 ≡ write_rows 1 (λ k. k * w1) (wide w0 w1 s) s
-widen_one s s2 w0 w1 n h l m e2 =
-    let x : 0 * w0 ≡ 0 = omega arith in
-    let y : 0 * w1 ≡ 0 = omega arith in
-    let same : s ≡ sets s (0 * w1) (part (0 * w0) w0 s) = rw (x, y) (sym (sets_self s 0 w0 (omega arith))) in
-    let z : w0 ≡ 0 * w1 + w0 = omega arith in
-    rows_none (λ k. k * w1) (wide w0 w1 s2) s2 ∙ widen_step s s s2 w0 w1 n 0 h l m same
-    (e2 ∙ ap (λ (k : ℕ). sets s k (replicate (w1 - w0) 0)) z)
-
 -- Resize -------------------------------------------------------------------------------------------------------------
 
 -- a row of w0 as a row of w1
@@ -129,15 +89,6 @@ fitted_same s w0 w1 n e l =
     sym (rows_self n w1 s l)
     ∙ ap (λ (j : ℕ). write_rows n (λ r. r * w1) (λ r. part (r * j) w1 s) s) e
     ∙ fitted_narrow s w0 w1 n (omega arith)
-
-pub fitted_wide : (s : List ℕ) (w0 w1 n : ℕ) → w0 ≤ w1
-    → write_rows n (λ r. r * w1) (wide w0 w1 s) s ≡ write_rows n (λ r. r * w1) (fitted w0 w1 s) s
-fitted_wide s w0 w1 n h = rows_same n (λ r. r * w1) (wide w0 w1 s) (fitted w0 w1 s) s each
-  where
-    each : (r : ℕ) → r < n → wide w0 w1 s r ≡ fitted w0 w1 s r
-    each r l =
-        let e : min w1 w0 ≡ w0 = omega arith in
-        rw e refl
 
 pub resize_end : (s s1 s2 : List ℕ) (w0 h0 w1 h1 n : ℕ) → n ≡ min h1 h0 → w0 * h0 ≤ length s → w1 * h1 ≤ length s → length s1 ≡ length s
     → s1 ≡ write_rows n (λ r. r * w1) (fitted w0 w1 s) s

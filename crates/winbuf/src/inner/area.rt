@@ -1,9 +1,9 @@
-// The rows of a rectangle of pixels: filled, or set from lent data. Each function returns how many pixels differ afterwards.
+// The rows of a rectangle of pixels: filled, or set from lent data. Each function returns how many pixels differ
+// afterwards.
 ghost use Rattle.std.specs.Prelude.{◌≡◌, ◌+◌, ◌*◌, ◌/◌, ◌≤◌, min, length, take, replicate};
 ghost use Rattle.scanline.specs.Pixels.{write_rows, part};
 ghost use Rattle.scanline.specs.inner.Rows.{Fit, Inside, Counted};
 
-use super::least;
 use scanline::row::{fill_part, set_part};
 
 // n rows of w pixels become `v`.
@@ -12,10 +12,8 @@ pub fn fill_rows(px: &mut [u32], at: usize, pitch: usize, w: u16, n: usize, v: u
     ensures { Counted (write_rows n (λ r. at + r * pitch) (λ r. replicate w v) px.old) px.old px.new result }
 {
     let mut altered: usize = 0;
-    let mut r: usize = 0;
-    while r < n {
+    for r in 0..n {
         altered += fill_part(px, at + r * pitch, w, v);
-        r += 1;
     }
     altered
 }
@@ -27,7 +25,7 @@ fn full_chunks(len: usize, stride: usize, n: usize) -> usize
     if stride == 0 {
         return 0;
     }
-    least(n, len / stride)
+    n.min(len / stride)
 }
 
 // Row r of n takes w of the data, from r * stride on. Where a row lies is a product with r, in the data too, and no sum
@@ -45,10 +43,8 @@ fn full_rows(
     ensures { Counted (write_rows n (λ r. at + r * pitch) (λ r. part (r * stride) w src.now) px.old) px.old px.new result }
 {
     let mut altered: usize = 0;
-    let mut r: usize = 0;
-    while r < n {
+    for r in 0..n {
         altered += set_part(px, at + r * pitch, src, r * stride, w);
-        r += 1;
     }
     altered
 }
@@ -67,18 +63,19 @@ pub fn blit_rows(
     ensures { Counted (write_rows n (λ r. at + r * pitch) (λ r. take w (part (r * stride) stride src.now)) px.old) px.old px.new result }
 {
     let full = full_chunks(src.len(), stride, n);
-    let m = least(w as usize, stride) as u16;
+    let m = stride.min(w as usize) as u16;
     let altered = full_rows(px, at, pitch, src, stride, m, full);
     if full == n {
         return altered;
     }
     // one more row takes what is left of the data, a short chunk or nothing; the rows after it take nothing
     let from = full * stride;
-    let rest = least(m as usize, src.len() - from) as u16;
+    let rest = (src.len() - from).min(m as usize) as u16;
     altered + set_part(px, at + full * pitch, src, from, rest)
 }
 
-// An area of a window becomes `v`.
+// An area of a window becomes `v`. Here and below, the area's numbers are worked out by the caller for this one call: a
+// struct of them would be made there and taken apart here.
 pub fn fill_area(
     px: &mut [u32],
     base: usize,

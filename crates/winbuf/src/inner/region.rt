@@ -6,10 +6,7 @@ ghost use Rattle.winbuf.specs.Pixels.{region_fits};
 pub fn region_fits(total: usize, stride: usize, x: u32, y: u32, w: u32, h: u32) -> bool
     ensures { result ≡ region_fits total stride x y w h }
 {
-    if h == 0 {
-        return false;
-    }
-    if stride < w as usize {
+    if h == 0 || stride < w as usize {
         return false;
     }
     let columns = x as usize + w as usize;
@@ -17,8 +14,5 @@ pub fn region_fits(total: usize, stride: usize, x: u32, y: u32, w: u32, h: u32) 
         return false;
     }
     let rows = y as usize + (h as usize - 1);
-    if rows == 0 {
-        return true;
-    }
-    stride <= (total - columns) / rows
+    rows == 0 || stride <= (total - columns) / rows
 }

@@ -3,8 +3,6 @@ ghost use Rattle.std.specs.Prelude.{◌≡◌, ◌++◌, ◌+◌, ◌-◌, ◌*�
 ghost use Rattle.scanline.specs.Pixels.{write_rows, part, resized_at};
 ghost use Rattle.winbuf.specs.inner.Rows.{resized};
 
-use super::least;
-use scanline::row::{fill_all, fill_part};
 use scanline::shift::{move_down, move_up};
 
 // n rows of w0 pixels become rows of w1, no more than w0: of each row the first w1.
@@ -12,11 +10,8 @@ pub fn narrow(px: &mut [u32], w0: u16, w1: u16, n: usize)
     requires { (w1 ≤ w0) × (n * w0 ≤ length px.old) }
     ensures { px.new ≡ write_rows n (λ r. r * w1) (λ r. part (r * w0) w1 px.old) px.old }
 {
-    // row 0 is in place
-    let mut r: usize = 1;
-    while r < n {
+    for r in 0..n {
         move_down(px, r * w1 as usize, r * w0 as usize, w1);
-        r += 1;
     }
 }
 
@@ -25,17 +20,11 @@ pub fn widen(px: &mut [u32], w0: u16, w1: u16, n: usize)
     requires { (w0 ≤ w1) × (n * w1 ≤ length px.old) }
     ensures { px.new ≡ write_rows n (λ r. r * w1) (λ r. part (r * w0) w0 px.old ++ replicate (w1 - w0) 0) px.old }
 {
-    if n > 0 {
-        // the last row first: no row is written over before it has moved
-        let mut left = n;
-        while left > 1 {
-            let r = left - 1;
-            move_up(px, r * w1 as usize, r * w0 as usize, w0);
-            fill_part(px, r * w1 as usize + w0 as usize, w1 - w0, 0);
-            left -= 1;
-        }
-        // row 0 is in place
-        fill_part(px, w0 as usize, w1 - w0, 0);
+    // the last row first: no row is written over before it has moved
+    for r in (0..n).rev() {
+        let at = r * w1 as usize;
+        move_up(px, at, r * w0 as usize, w0);
+        px[at + w0 as usize..at + w1 as usize].fill(0);
     }
 }
 
@@ -46,10 +35,8 @@ pub fn set_width(px: &mut [u32], w0: u16, w1: u16, n: usize)
 {
     if w1 < w0 {
         narrow(px, w0, w1, n)
-    } else {
-        if w0 < w1 {
-            widen(px, w0, w1, n)
-        }
+    } else if w0 < w1 {
+        widen(px, w0, w1, n)
     }
 }
 
@@ -58,10 +45,10 @@ pub fn resize_rows(px: &mut [u32], w0: u16, h0: usize, w1: u16, h1: usize)
     requires { (w0 * h0 ≤ length px.old) × (w1 * h1 ≤ length px.old) }
     ensures { px.new ≡ resized (length px.old) w0 h0 w1 h1 px.old }
 {
-    let n = least(h1, h0);
+    let n = h1.min(h0);
     set_width(px, w0, w1, n);
     let used = n * w1 as usize;
-    fill_all(&mut px[used..], 0)
+    px[used..].fill(0);
 }
 
 // The same in a store, where the window's c pixels begin at `base`.

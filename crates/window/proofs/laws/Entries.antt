@@ -1,26 +1,23 @@
 -- Damage as the code holds it: the search for an entry that contains the area, the search for one that merges with it, and the area added.
 -- Both searches say of the entries that are left what the rule says of them all.
-use Prim.Native.Nat.{ℕ, suc, ◌+◌, ◌≤◌, ◌<◌}
-use mathlib.Core.Path.{◌≡◌, refl, sym, ap, subst, ◌∙◌}
-use mathlib.Core.Bool.{Bool, true, false, cond}
-use mathlib.Core.List.{List, [], ◌∷◌, ◌++◌, map, map-append}
-use native.Mathlib.Omega.{arith}
-use native.Mathlib.Numerals.{add-one}
-use lib.ListN.{length, get_or, set, take, drop, length-set, length-map, length-append, take-append-drop, replicate, get_or-replicate, get_or-map}
-use lib.Seq.{drop-cons, drop-length, take-length, take-suc, append_snoc, get_or-take, length-take-le, take-set-lt, take-suc-set, drop-set-lt, set_split}
-use borrow.Author.Tests.{le-leb, lt-leb}
+use Rattle.std.proofs.Common.{ℕ, suc, ◌+◌, ◌-◌, ◌≤◌, ◌<◌, ◌≡◌, refl, sym, ap, subst, ◌∙◌, Bool, true, false, cond, ◌||◌, Some, None, List, [], ◌∷◌, ◌++◌, map, length, get_or, set, take, drop, replicate, arith, add-one, length-set, length-append, take-append-drop, get_or-take, length-take-le, take-suc-set, drop-set-lt, le-leb}
+use Rattle.std.proofs.lemmas.List.{map-append}
+use Rattle.std.proofs.Math.ListN.{length-map, get_or-replicate}
+use Rattle.std.proofs.Math.Seq.{take-set-lt}
+use borrow.Author.Tests.{lt-leb}
+use Rattle.std.specs.List.{list_any}
+use Rattle.std.proofs.lemmas.List.Recursion.{is_position_or_len}
+use Rattle.std.proofs.lemmas.List.Sums.{position_or_len_is}
 use Rattle.geom.specs.declared.Rect.{Rect}
 use Rattle.geom.specs.declared.inner.rect16.Rect16.{Rect16}
 use Rattle.geom.specs.Geom.{rect, is_empty, contains_rect, union}
 use Rattle.geom.specs.inner.Fits.{Fits}
 use Rattle.geom.specs.Rect16.{Small, rect_of, no_rect16, rect16_of}
-use Rattle.geom.proofs.basics.Tests.{clash}
 use Rattle.geom.proofs.basics.Lists.{set_in, set_case, map_set}
 use Rattle.window.specs.declared.damage.Damage.{Damage}
-use Rattle.window.specs.declared.damage.Merged.{Merged}
 use Rattle.window.specs.Window.{any_contains, merges, merge_or_append, add_dirty}
 use Rattle.window.specs.Represents.{Low, rects, RepDamage, with_entries}
-use Rattle.window.specs.inner.Changes.{PastAs, MergedInto, at_most16, JoinedTo, Dirtied}
+use Rattle.window.specs.inner.Changes.{PastAs, MergesAt, JoinedTo, Dirtied}
 
 -- Rectangles in 16 bits ----------------------------------------------------------------------------------------------
 
@@ -43,22 +40,6 @@ module _ (d : Damage) (ok : RepDamage d) where
   pub rects_count : length (rects d) ≡ d.len
   rects_count = length-map (take d.len d.areas) rect_of ∙ length-take-le d.len d.areas (omega (arith, ok.areas, ok.len))
 
-  at : (i : ℕ) → i < d.len → get_or (rects d) i (rect_of no_rect16) ≡ entry d i
-  at i h = get_or-map rect_of (take d.len d.areas) i no_rect16 ∙ ap rect_of (get_or-take d.len d.areas i no_rect16 h)
-
-  next : (i : ℕ) → i < d.len → drop i (rects d) ≡ entry d i ∷ drop (suc i) (rects d)
-  next i h = drop-cons (rects d) i (rect_of no_rect16) (omega (arith, rects_count)) ∙ ap (λ (e : Rect). e ∷ drop (suc i) (rects d)) (at i h)
-
-  last : (i : ℕ) → i ≡ d.len → drop i (rects d) ≡ []
-  last i e =
-      let n : i ≡ length (rects d) = omega (arith, rects_count) in
-      rw n (drop-length (rects d))
-
-  all : (i : ℕ) → i ≡ d.len → take i (rects d) ≡ rects d
-  all i e =
-      let n : i ≡ length (rects d) = omega (arith, rects_count) in
-      rw n (take-length (rects d))
-
 -- what is past the entries, and the entries, are all of it
 pub all_of : (d r : Damage) → RepDamage r → PastAs d r → r ≡ with_entries (rects r) d
 all_of d r ok e =
@@ -73,124 +54,66 @@ all_of d r ok e =
     areas_again [] = refl
     areas_again (x ∷ l) = ap (λ (m : List Rect16). x ∷ m) (areas_again l)
 
--- Does an entry contain the area? ------------------------------------------------------------------------------------
+-- The searches ------------------------------------------------------------------------------------------------------
 
--- none of the first i does
-pub record Passed (d : Damage) (a : Rect) (n i : ℕ) : Type 0 where
-  pub ok : RepDamage d
-  pub count_is : n ≡ d.len
-  pub within : i ≤ n
-  pub so_far : any_contains (rects d) a ≡ any_contains (drop i (rects d)) a
+pub any_is : (a : Rect) (l : List Rect16) → list_any (λ e. contains_rect (rect_of e) a) l ≡ any_contains (map rect_of l) a
+unfolding any_contains
+any_is a [] = refl
+any_is a (e ∷ l) = ap (λ (b : Bool). contains_rect (rect_of e) a || b) (any_is a l)
 
-module _ {d : Damage} {a : Rect} {n i : ℕ} (q : Passed d a n i) where
-  pub contains_hit : i < n → contains_rect (entry d i) a ≡ true → true ≡ any_contains (rects d) a
-  unfolding any_contains
-  contains_hit h e = sym (q.so_far ∙ rw (next d q.ok i (omega (arith, q.count_is)), e) refl)
+-- how many entries stand before the first that merges with the area
+abbrev before : Rect → List Rect16 → ℕ
+before a [] = 0
+before a (e ∷ l) = cond (merges (rect_of e) a) 0 (1 + before a l)
 
-  pub contains_miss : i < n → contains_rect (entry d i) a ≡ false → Passed d a n (i + 1)
-  unfolding any_contains
-  contains_miss h e =
-      record {
-        ok = q.ok;
-        count_is = q.count_is;
-        within = omega arith;
-        so_far = q.so_far ∙ rw (next d q.ok i (omega (arith, q.count_is)), e, add-one) refl;
-      }
+merged_at : (a : Rect) (l : List Rect16) (i : ℕ) → i ≡ before a l → i < length l
+    → merge_or_append (map rect_of l) a ≡ set (map rect_of l) i (union (rect_of (get_or l i no_rect16)) a)
+unfolding merge_or_append
+merged_at a [] i is h = absurd (omega arith)
+merged_at a (e ∷ l) i is h = go (merges (rect_of e) a) is (merged_at a l)
+  where
+    go : (b : Bool) → i ≡ cond b 0 (1 + before a l)
+        → ((j : ℕ) → j ≡ before a l → j < length l → merge_or_append (map rect_of l) a ≡ set (map rect_of l) j (union (rect_of (get_or l j no_rect16)) a))
+        → cond b (union (rect_of e) a ∷ map rect_of l) (rect_of e ∷ merge_or_append (map rect_of l) a) ≡ set (map rect_of (e ∷ l)) i (union (rect_of (get_or (e ∷ l) i no_rect16)) a)
+    go true j ih = rw j refl
+    go false j ih =
+        let s : i ≡ suc (i - 1) = omega arith in
+        rw s (ap (λ (r : List Rect). rect_of e ∷ r) (ih (i - 1) (omega arith) (omega arith)))
 
-  pub contains_none : n ≤ i → false ≡ any_contains (rects d) a
-  unfolding any_contains
-  contains_none h = sym (q.so_far ∙ rw (last d q.ok i (omega (arith, q.count_is, q.within))) refl)
+none_merges : (a : Rect) (l : List Rect16) → length l ≤ before a l → merge_or_append (map rect_of l) a ≡ map rect_of l ++ (a ∷ [])
+unfolding merge_or_append
+none_merges a [] h = refl
+none_merges a (e ∷ l) h = go (merges (rect_of e) a) h (none_merges a l)
+  where
+    go : (b : Bool) → suc (length l) ≤ cond b 0 (1 + before a l)
+        → (length l ≤ before a l → merge_or_append (map rect_of l) a ≡ map rect_of l ++ (a ∷ []))
+        → cond b (union (rect_of e) a ∷ map rect_of l) (rect_of e ∷ merge_or_append (map rect_of l) a) ≡ rect_of e ∷ (map rect_of l ++ (a ∷ []))
+    go true j ih = absurd (omega arith)
+    go false j ih = ap (λ (r : List Rect). rect_of e ∷ r) (ih (omega arith))
 
--- Which entry merges with the area? ----------------------------------------------------------------------------------
+-- the entries as the code reads them, with the first i seen: none of these merges with the area
+module _ (d : Damage) (ok : RepDamage d) (a : Rect) (es : List Rect16) (is : es ≡ take d.len d.areas) (i : ℕ) (within : i ≤ length es)
+    (none : (k : ℕ) → k < i → merges (rect_of (get_or es k no_rect16)) a ≡ false) where
+  seen : (i < length es → merges (rect_of (get_or es i no_rect16)) a ≡ true) → before a es ≡ i
+  seen here =
+      is_position_or_len (before a) (λ e. merges (rect_of e) a) refl (λ x xs. refl) es
+      ∙ position_or_len_is (λ e. merges (rect_of e) a) es i no_rect16 within none here
 
--- none of the first i does, and nothing is changed yet
-pub record Sought (d : Damage) (a : Rect) (n : ℕ) (now : Damage) (done : Bool) (i : ℕ) : Type 0 where
-  pub ok : RepDamage d
-  pub small : Small a
-  pub same : now ≡ d
-  pub not_yet : done ≡ false
-  pub count_is : n ≡ d.len
-  pub within : i ≤ n
-  pub so_far : merge_or_append (rects d) a ≡ take i (rects d) ++ merge_or_append (drop i (rects d)) a
+  pub none_found : length es ≤ i → MergesAt d a None
+  none_found past =
+      subst (λ (l : List Rect16). merge_or_append (map rect_of l) a ≡ map rect_of l ++ (a ∷ [])) is
+      (none_merges a es (omega (arith, seen (λ l. absurd (omega (arith, l))))))
 
-module _ {d : Damage} {a : Rect} {n : ℕ} {now : Damage} {done : Bool} {i : ℕ} (q : Sought d a n now done i) where
-  -- the entry that the code reads
-  pub sought_low : i < n → Low (entry now i)
-  sought_low h = rw q.same (q.ok.low i (omega (arith, q.count_is)))
-
-  -- what the rule does with that entry
-  here : {t : Bool} → i < n → merges (entry now i) a ≡ t
-      → merge_or_append (rects d) a
-      ≡ take i (rects d) ++ cond t (union (entry d i) a ∷ drop (suc i) (rects d)) (entry d i ∷ merge_or_append (drop (suc i) (rects d)) a)
-  unfolding merge_or_append
-  here {t} h e =
-      q.so_far
-      ∙ ap (λ (l : List Rect). take i (rects d) ++ merge_or_append l a) (next d q.ok i (omega (arith, q.count_is)))
-      ∙ ap (λ (u : Bool). take i (rects d) ++ cond u (union (entry d i) a ∷ drop (suc i) (rects d)) (entry d i ∷ merge_or_append (drop (suc i) (rects d)) a))
-      (subst (λ (x : Damage). merges (entry x i) a ≡ t) q.same e)
-
-  pub merge_miss : i < n → merges (entry now i) a ≡ false → Sought d a n now done (i + 1)
-  merge_miss h e =
-      let rest : List Rect = merge_or_append (drop (suc i) (rects d)) a in
-      let l : i < d.len = omega (arith, q.count_is) in
-      record {
-        ok = q.ok;
-        small = q.small;
-        same = q.same;
-        not_yet = q.not_yet;
-        count_is = q.count_is;
-        within = omega arith;
-        so_far =
-            here h e
-            ∙ sym (append_snoc (take i (rects d)) (entry d i) rest)
-            ∙ ap (λ (x : Rect). (take i (rects d) ++ (x ∷ [])) ++ rest) (sym (at d q.ok i l))
-            ∙ ap (λ (m : List Rect). m ++ rest) (sym (take-suc (rects d) i (rect_of no_rect16) (omega (arith, rects_count d q.ok))))
-            ∙ ap (λ (k : ℕ). take k (rects d) ++ merge_or_append (drop k (rects d)) a) (sym (add-one i));
-      }
-
-  pub merge_hit : i < n → merges (entry now i) a ≡ true → (v : Rect16) → rect_of v ≡ union (entry now i) a
-      → MergedInto d a (record { damage = record { areas = set now.areas i v; len = now.len }; done = true })
-  merge_hit h e v is =
-      let l : i < d.len = omega (arith, q.count_is) in
-      let u : rect_of v ≡ union (entry d i) a = subst (λ (x : Damage). rect_of v ≡ union (entry x i) a) q.same is in
-      subst (λ (x : Damage). MergedInto d a (record { damage = record { areas = set x.areas i v; len = x.len }; done = true })) (sym q.same)
-      (record {
-        rep =
-            record {
-              areas = length-set d.areas i v ∙ q.ok.areas;
-              len = q.ok.len;
-              low =
-                  λ j k.
-                  set_case (λ (x : Rect16). Low (rect_of x)) d.areas i j v no_rect16
-                  (λ _. subst Low (sym u) (low_union (entry d i) a (q.ok.low i l) q.small)) (q.ok.low j k);
-            };
-        past = drop-set-lt d.len d.areas i v l;
-        found =
-            λ _.
-            ap (map rect_of) (take-set-lt d.len d.areas i v l)
-            ∙ map_set rect_of (take d.len d.areas) i v
-            ∙ ap (set (rects d) i) u
-            ∙ set_split (rects d) i (union (entry d i) a) (omega (arith, rects_count d q.ok))
-            ∙ sym (here h e);
-        none = λ f. clash refl f;
-      })
-
-  pub merge_none : n ≤ i → MergedInto d a (record { damage = now; done = done })
-  unfolding merge_or_append
-  merge_none h =
-      let z : i ≡ d.len = omega (arith, q.count_is, q.within) in
-      record {
-        rep = subst RepDamage (sym q.same) q.ok;
-        past = ap (λ (x : Damage). drop now.len x.areas) q.same;
-        found = λ t. clash t q.not_yet;
-        none =
-            λ _. (
-              q.same,
-              q.so_far
-                  ∙ ap (λ (l : List Rect). take i (rects d) ++ merge_or_append l a) (last d q.ok i z)
-                  ∙ ap (λ (l : List Rect). l ++ (a ∷ [])) (all d q.ok i z),
-            );
-      }
+  pub first_found : i < length es → merges (rect_of (get_or es i no_rect16)) a ≡ true → MergesAt d a (Some i)
+  first_found inside here =
+      let many : length es ≡ d.len = ap (λ (l : List Rect16). length l) is ∙ length-take-le d.len d.areas (omega (arith, ok.areas, ok.len)) in
+      let l : i < d.len = omega arith in (
+        l,
+        subst (λ (l : List Rect16). merge_or_append (map rect_of l) a ≡ set (map rect_of l) i (union (rect_of (get_or es i no_rect16)) a)) is
+            (merged_at a es i (sym (seen (λ _. here))) inside)
+            ∙ ap (λ (x : Rect16). set (map rect_of (take d.len d.areas)) i (union (rect_of x) a))
+            (ap (λ (l : List Rect16). get_or l i no_rect16) is ∙ get_or-take d.len d.areas i no_rect16 l),
+      )
 
 -- The area added -----------------------------------------------------------------------------------------------------
 
@@ -255,18 +178,29 @@ module _ (w h : ℕ) (d : Damage) (a : Rect) (ok : RepDamage d) where
     unfolding add_dirty
     dirty_inside f = record { rep = ok; past = refl; is = rw (solid, f) }
 
-    module _ (away : any_contains (rects d) a ≡ false) (m : Merged) (into : MergedInto d a m) where
-      pub dirty_merged : m.done ≡ true → Dirtied w h d a m.damage
+    module _ (away : any_contains (rects d) a ≡ false) where
+      pub dirty_merged : (i : ℕ) → MergesAt d a (Some i) → Small a → (v : Rect16) → rect_of v ≡ union (entry d i) a
+          → Dirtied w h d a (record { areas = set d.areas i v; len = d.len })
       unfolding add_dirty
-      dirty_merged t =
-          let few : length (rects m.damage) ≤ 16 = omega (arith, rects_count m.damage into.rep, into.rep.len) in
-          record { rep = into.rep; past = into.past; is = rw (solid, away, ← into.found t, le-leb (length (rects m.damage)) 16 few) }
-
-      pub dirty_joined : m.done ≡ false → (r : Damage) → JoinedTo w h m.damage a r → Dirtied w h d a r
-      unfolding add_dirty
-      dirty_joined f r j =
+      dirty_merged i (l, is) small v e =
+          let is_rects : map rect_of (take d.len (set d.areas i v)) ≡ merge_or_append (rects d) a =
+          ap (map rect_of) (take-set-lt d.len d.areas i v l) ∙ map_set rect_of (take d.len d.areas) i v ∙ ap (set (rects d) i) e ∙ sym is in
+          let few : length (merge_or_append (rects d) a) ≤ 16 =
+          omega (arith, ap length is, length-set (rects d) i (union (entry d i) a), rects_count d ok, ok.len) in
           record {
-            rep = j.rep;
-            past = j.past ∙ ap (λ (x : Damage). drop r.len x.areas) (into.none f).0;
-            is = rw (solid, away, (into.none f).1) (subst (λ (x : Damage). rects r ≡ at_most16 w h (rects x ++ (a ∷ []))) (into.none f).0 j.is);
+            rep =
+                record {
+                  areas = length-set d.areas i v ∙ ok.areas;
+                  len = ok.len;
+                  low =
+                      λ j k.
+                      set_case (λ (x : Rect16). Low (rect_of x)) d.areas i j v no_rect16
+                      (λ _. subst Low (sym e) (low_union (entry d i) a (ok.low i l) small)) (ok.low j k);
+                };
+            past = drop-set-lt d.len d.areas i v l;
+            is = rw (solid, away, is_rects, le-leb (length (merge_or_append (rects d) a)) 16 few) refl;
           }
+
+      pub dirty_joined : MergesAt d a None → (r : Damage) → JoinedTo w h d a r → Dirtied w h d a r
+      unfolding add_dirty
+      dirty_joined none r j = record { rep = j.rep; past = j.past; is = rw (solid, away, none) j.is }

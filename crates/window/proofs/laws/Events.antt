@@ -1,26 +1,8 @@
 -- The queue of events: its slots are the events again, and what a push and a pop do to those from the head on.
-use Prim.Native.Nat.{ℕ, suc, ◌+◌, ◌-◌, ◌≤◌, ◌<◌}
-use mathlib.Core.Path.{◌≡◌, refl, sym, ap, ◌∙◌}
-use mathlib.Core.List.{List, [], ◌∷◌, ◌++◌, map, map-append, append_assoc, append-nil}
-use native.Mathlib.Omega.{arith}
-use native.Mathlib.Numerals.{add-one}
-use native.Mathlib.Nat.{zero-add, suc-add}
-use lib.Dec.{ltb}
-use lib.ListN.{length, get_or, set, take, drop, length-set, length-map, length-append, length-drop, drop_of_length-le}
-use lib.Seq.{
-  length-take-le,
-  take_all,
-  take-append-le,
-  take-suc,
-  take-suc-set,
-  take-set-le,
-  take-set-lt,
-  drop-cons,
-  drop-set-add,
-  drop-set-lt,
-  set-append_left,
-}
-use borrow.Author.Tests.{ltb-true, ltb-false, lt-ltb, le-ltb}
+use Rattle.std.proofs.Common.{ℕ, suc, ◌+◌, ◌-◌, ◌≤◌, ◌<◌, ◌≡◌, refl, sym, ap, ◌∙◌, List, [], ◌∷◌, ◌++◌, map, append_assoc, append-nil, arith, add-one, zero-add, suc-add, ltb, length, get_or, set, take, drop, length-set, length-append, length-drop, drop_of_length-le, length-take-le, take_all, take-suc, take-suc-set, drop-cons, drop-set-lt, ltb-true, ltb-false, lt-ltb, le-ltb}
+use Rattle.std.proofs.lemmas.List.{map-append}
+use Rattle.std.proofs.Math.ListN.{length-map}
+use Rattle.std.proofs.Math.Seq.{take-append-le, take-set-le, take-set-lt, drop-set-add, set-append_left}
 use Rattle.geom.proofs.basics.Tests.{on_cond}
 use Rattle.window.specs.declared.Event.{Event}
 use Rattle.window.specs.declared.Event.TheVariants.{Resize, KeyDown, KeyUp, KeyFire, Text, MouseMove, MouseDown, MouseClick, MouseUp}

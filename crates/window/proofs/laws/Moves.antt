@@ -1,13 +1,7 @@
 -- The difference of two points up to 32,767, worked out in 16 bits with a sign, is the difference.
-use Prim.Native.Nat.{ℕ, zero, suc, ◌-◌, ◌≤◌}
-use mathlib.Core.Path.{◌≡◌, refl, ap, ◌∙◌}
-use native.Mathlib.Omega.{arith}
-use lib.Dec.{ltb}
-use lib.IntN.{pos, negsuc, sub_ℕ, ◌-ℤ◌}
-use borrow.Author.Tests.{le-ltb}
-use mir.Syntax.{w16}
-use mir.Val.{SFits, to_z, of_z}
-use mir.Facts.{to_z_pos, to_z-of_z}
+use Rattle.std.proofs.Common.{ℕ, zero, suc, ◌-◌, ◌≤◌, ◌≡◌, refl, ap, ◌∙◌, arith, ltb, pos, negsuc, ◌-ℤ◌, le-ltb, w16, SFits, to_z, of_z, to_z-of_z}
+use Rattle.std.proofs.Math.IntN.{sub_ℕ}
+use Rattle.std.proofs.Math.Facts.{to_z_pos}
 use Rattle.geom.proofs.basics.Tests.{on_cond}
 
 -- the difference of two naturals in the integers

@@ -1,14 +1,13 @@
 -- What the functions of this crate say beside the rules: an event as a slot, and what pushing, popping and adding to damage do.
-use Rattle.std.specs.Prelude.{ℕ, ◌≤◌, true, false, cond, ◌≡◌, List, [], ◌∷◌, ◌++◌, leb, length, drop}
+use Rattle.std.specs.Prelude.{ℕ, ◌≤◌, ◌<◌, cond, ◌≡◌, Option, Some, None, List, [], ◌∷◌, ◌++◌, leb, length, set, get_or, drop}
 use Rattle.geom.specs.declared.Rect.{Rect}
-use Rattle.geom.specs.Geom.{rect}
+use Rattle.geom.specs.Geom.{rect, union}
+use Rattle.geom.specs.Rect16.{rect_of, no_rect16}
 use Rattle.window.specs.declared.Event.{Event}
 use Rattle.window.specs.declared.Event.TheVariants.{Resize, KeyDown, KeyUp, KeyFire, Text, MouseMove, MouseDown, MouseClick, MouseUp}
 use Rattle.window.specs.declared.slots.Slot.{Slot}
 use Rattle.window.specs.declared.queue.Queue.{Queue}
-use Rattle.window.specs.declared.queue.Popped.{Popped}
 use Rattle.window.specs.declared.damage.Damage.{Damage}
-use Rattle.window.specs.declared.damage.Merged.{Merged}
 use Rattle.window.specs.Window.{pushed, merge_or_append, add_dirty}
 use Rattle.window.specs.Represents.{events, RepQueue, rects, RepDamage}
 
@@ -47,6 +46,11 @@ pub record PushedTo (q : Queue) (e : Event) (r : Queue) : Type 0 where
   pub rep : RepQueue r
   pub is : events r ≡ pushed (events q) e
 
+-- the oldest event, and the queue without it
+pub record Popped : Type 0 where
+  pub queue : Queue
+  pub event : Event
+
 -- the oldest event was popped
 pub record PoppedFrom (q : Queue) (r : Popped) : Type 0 where
   pub rep : RepQueue r.queue
@@ -58,12 +62,10 @@ pub record PoppedFrom (q : Queue) (r : Popped) : Type 0 where
 abbrev pub PastAs : Damage → Damage → Type 0
 PastAs d r = drop r.len r.areas ≡ drop r.len d.areas
 
--- the first entry that merges with the area became the union, or there is none
-pub record MergedInto (d : Damage) (a : Rect) (m : Merged) : Type 0 where
-  pub rep : RepDamage m.damage
-  pub past : PastAs d m.damage
-  pub found : m.done ≡ true → rects m.damage ≡ merge_or_append (rects d) a
-  pub none : m.done ≡ false → (m.damage ≡ d) × (merge_or_append (rects d) a ≡ rects d ++ (a ∷ []))
+-- an area with each entry in turn: the first that merges with it becomes the union, or it joins the end where none does
+abbrev pub MergesAt : Damage → Rect → Option ℕ → Type 0
+MergesAt d a None = merge_or_append (rects d) a ≡ rects d ++ (a ∷ [])
+MergesAt d a (Some i) = (i < d.len) × (merge_or_append (rects d) a ≡ set (rects d) i (union (rect_of (get_or d.areas i no_rect16)) a))
 
 -- "a 17th entry makes the list the one entry (0,0,w,h)"
 abbrev pub at_most16 : ℕ → ℕ → List Rect → List Rect

@@ -15,14 +15,8 @@ use Rattle.rules.specs.Demand1 as Rule
 use Rattle.rules.specs.Demand1.{Unchanged, Answers, Query, Reply, reply, replies, Replies, bit, located_numbers, stale_numbers}
 use Rattle.rules.proofs.demand.Demand1.{demand_1}
 use Rattle.windows.specs.declared.Session.{Session}
-use Rattle.windows.specs.declared.Done.{Done}
-use Rattle.windows.specs.declared.NewId.{NewId}
-use Rattle.windows.specs.declared.NextEvent.{NextEvent}
-use Rattle.windows.specs.declared.Placed.{Placed}
-use Rattle.windows.specs.declared.Stale.{Stale}
-use Rattle.windows.specs.declared.WindowState.{WindowState}
 use Rattle.windows.specs.declared.SessionState.{SessionState}
-use Rattle.windows.specs.View.{group, Meets, id_of, event_in, is_due, rect_in}
+use Rattle.windows.specs.View.{Done, Placed, Stale, WindowState, group, Meets, is_due, rect_in}
 use Rattle.windows.specs.Run.{calls, LeftAs, AsRuled}
 use Rattle.windows.specs.Demand1.{WasAnswered, RunAnswered, Answered, Replied, window_numbers, session_numbers, NextCall, ProgramDemand1}
 use Rattle.windows.proofs.demand.Runs.{ruled_from, reached, ruled}
@@ -45,14 +39,6 @@ was_answered c ms m rest h =
     }
 
 -- The next call -----------------------------------------------------------------------------------------------------
-
-no_id : (i : NewId) → id_of i ≡ none → i ≡ NewId.Absent
-no_id (NewId.Id i) e = absurd (none-ne-some i.0 (sym e))
-no_id NewId.Absent e = refl
-
-no_event : (n : NextEvent) → event_in n ≡ none → n ≡ NextEvent.Absent
-no_event (NextEvent.Event v) e = absurd (none-ne-some v (sym e))
-no_event NextEvent.Absent e = refl
 
 stale_numbers_lem : (o : Option Rect) → bit (is_due o) ∷ numbers (rect_in o ∷ []) ≡ stale_numbers o
 stale_numbers_lem none = refl
@@ -81,8 +67,8 @@ module _ (s : Session) (rules : (k : Call) → Answers (group s) k) (queries : (
             (answered k _ m, λ ne. let o = unchanged k _ m ne in (h.meets.stored ∙ o.store lent l, h.altered ∙ o.altered));
         marked = λ id r h. answered (Mark id) r h.meets;
         drawn = λ k r lent left l h. (answered k r h.meets, λ ne. h.shown ∙ (unchanged k r h.meets ne).screen lent l);
-        created = λ k r h. (answered k _ h.meets, λ ne. no_id r.id (h.id ∙ (unchanged k _ h.meets ne).id));
-        popped = λ k r h. (answered k _ h.meets, λ ne. no_event r.event (h.event ∙ (unchanged k _ h.meets ne).event));
+        created = λ k r h. (answered k _ h.meets, λ ne. h.id ∙ (unchanged k _ h.meets ne).id);
+        popped = λ k r h. (answered k _ h.meets, λ ne. h.event ∙ (unchanged k _ h.meets ne).event);
         visible = λ id lent left r h. replied (Rule.Visible id lent) _ (λ i. reply (h.answer i) (h.list i) (h.count i ∷ []));
         share = λ id r h. replied (Rule.Share id) _ (λ i. reply (h.answer i) [] (h.percent i ∷ h.remainder i ∷ []));
         sheet = λ id lent left r h. replied (Rule.Sheet id lent) _ (λ i. reply (h.answer i) (h.bytes i) (h.count i ∷ []));

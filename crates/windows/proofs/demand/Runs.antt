@@ -8,8 +8,7 @@ use Rattle.rules.specs.Calls.{Call, Made, does, run, after}
 use Rattle.rules.specs.Conditions.{lent_store, lent_screen}
 use Rattle.rules.proofs.group.Runs.{after_snoc}
 use Rattle.windows.specs.declared.Session.{Session}
-use Rattle.windows.specs.declared.Done.{Done}
-use Rattle.windows.specs.View.{group, Meets, MeetsStore, MeetsScreen}
+use Rattle.windows.specs.View.{Done, group, Meets, MeetsStore, MeetsScreen}
 use Rattle.windows.specs.Run.{calls, LeftAs, Kept, Run, started, called, AsRuled}
 
 -- By its contract a call is kept -------------------------------------------------------------------------------------

@@ -15,9 +15,7 @@ use Rattle.rules.specs.Stale as Rule
 use Rattle.rules.specs.Stale.{StaleRect, is_stale, IsSmallest, meant, Untouched, Overwritten}
 use Rattle.rules.proofs.demand.Stale.{stale_promise}
 use Rattle.windows.specs.declared.Session.{Session}
-use Rattle.windows.specs.declared.Done.{Done}
-use Rattle.windows.specs.declared.Stale.{Stale}
-use Rattle.windows.specs.View.{group, MeetsScreen, stale_of}
+use Rattle.windows.specs.View.{Done, Stale, group, MeetsScreen, stale_of}
 use Rattle.windows.specs.Run.{calls}
 use Rattle.windows.specs.Stale.{handed, RunUntouched, RunOverwritten, ProgramStale}
 use Rattle.windows.proofs.demand.Runs.{reached}

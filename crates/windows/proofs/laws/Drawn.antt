@@ -1,45 +1,40 @@
--- A redraw: each window of the order is drawn from what the code lends; and the ends of its first half.
-use Prim.Native.Nat.{ℕ, suc, ◌+◌, ◌-◌, ◌*◌, ◌≤◌, ◌<◌}
+-- A redraw: each window of the order is drawn from what the code lends; and the ends of the call.
+use Prim.Native.Nat.{ℕ, zero, suc, ◌+◌, ◌-◌, ◌*◌, ◌≤◌, ◌<◌}
 use mathlib.Core.Path.{◌≡◌, refl, sym, ap, subst, ◌∙◌}
 use mathlib.Core.Bool.{Bool, true, false, cond, ◌||◌}
 use mathlib.Core.List.{List, [], ◌∷◌, map}
 use native.Mathlib.Omega.{arith}
-use native.Mathlib.Nat.{mul-le-mul_right, suc-ne-zero}
+use native.Mathlib.Nat.{mul-le-mul_right}
 use native.Mathlib.Numerals.{add-one}
-use lib.ListN.{length, get_or, take, drop, drop_of_length-le, length-map}
-use lib.Seq.{drop-cons, drop-drop}
-use borrow.Author.Tests.{leb-true, eqb-true}
+use lib.ListN.{length, get_or, take, drop, drop_of_length-le, length-map, length-drop}
+use lib.Seq.{drop-cons}
+use Rattle.std.proofs.lemmas.List.{drop-take}
 use Rattle.geom.specs.declared.Rect.{Rect}
 use Rattle.geom.specs.Lists.{outside_all, relative, list_intersect}
 use Rattle.geom.specs.Rect16.{rect_of}
-use Rattle.geom.proofs.basics.Tests.{fst, snd}
 use Rattle.window.specs.declared.ids.WinId.{WinId}
 use Rattle.window.specs.Window.{Win}
 use Rattle.window.specs.Represents.{win_of, rects}
 use Rattle.window.specs.inner.Ids.{no_id}
 use Rattle.rules.specs.Group.{Group, win}
-use Rattle.rules.specs.Visible.{visible, rects_of}
-use Rattle.rules.specs.Redraw.{none?, regions, is_drawn, draw_window, draw_all, paid, screen_fits}
+use Rattle.rules.specs.Visible.{visible}
+use Rattle.rules.specs.Redraw.{none?, regions, is_drawn, draw_window, draw_all, clean_all, paid, screen_fits}
 use Rattle.rules.specs.Redraw as Draw
-use Rattle.rules.specs.Store.{whole}
-use Rattle.rules.specs.Calls.{Redraw, does}
-use Rattle.rules.specs.inner.Lent.{Lent}
+use Rattle.rules.specs.Calls.{Call, Redraw, does}
+use Rattle.rules.specs.inner.Lent.{AllFit}
 use Rattle.rules.proofs.group.Invariant.{WinOk}
-use Rattle.rules.proofs.Lent.{behind, rects_split, rest_lent}
 use Rattle.windows.specs.declared.Session.{Session}
 use Rattle.order.specs.declared.rects.Rects.{Rects}
-use Rattle.windows.specs.View.{walk_of, group, window_at, Rep, Given, Meets, MeetsScreen, done}
+use Rattle.windows.specs.View.{walk_of, group, window_at, Rep, Given, MeetsScreen, done}
 use Rattle.windows.specs.inner.Sharing.{noted, sharing}
 use Rattle.due.specs.inner.Due.{walk_at}
-use Rattle.windows.specs.declared.inner.redraw.Drawn.{Drawn}
-use Rattle.windows.specs.inner.Drawing.{painted, Draws}
+use Rattle.windows.specs.inner.Drawing.{Painting, painted}
 use Rattle.order.specs.inner.Rects.{Holds}
-use Rattle.windows.proofs.laws.Session.{given_ok, refuses, gives}
+use Rattle.windows.proofs.laws.Session.{is_whole, isnt_whole, given_ok, refuses, gives}
 use Rattle.windows.proofs.laws.Places.{order_length, id_at, shown_at, id_low, win_there, above_there}
 use Rattle.order.proofs.laws.Order.{drop_map}
-use Rattle.order.proofs.laws.Rects.{lends}
 use Rattle.windows.proofs.laws.Above.{higher}
-use Rattle.windows.proofs.laws.Listed.{visible_is}
+use Rattle.windows.proofs.laws.Above.{visible_is}
 
 -- One window ---------------------------------------------------------------------------------------------------------
 
@@ -47,6 +42,12 @@ use Rattle.windows.proofs.laws.Listed.{visible_is}
 regions_lent : (full : Bool) (damage vis : List Rect) → cond (none? (cond full [] damage)) vis (list_intersect vis (cond full [] damage)) ≡ cond (full || none? damage) vis (list_intersect vis damage)
 regions_lent true damage vis = refl
 regions_lent false damage vis = refl
+
+pub fit_drop : (k : ℕ) (rs : List Rect) → AllFit rs → AllFit (drop k rs)
+unfolding AllFit
+fit_drop zero rs h = h
+fit_drop (suc k) [] h = h
+fit_drop (suc k) (r ∷ rs) h = fit_drop k rs h.1
 
 -- the id v was read at place i
 module _ (s : Session) (h : Given s) (i : ℕ) (l : i < s.shared.shown) (v : WinId) (read : v ≡ get_or s.shared.order i no_id) where
@@ -63,13 +64,6 @@ module _ (s : Session) (h : Given s) (i : ℕ) (l : i < s.shared.shown) (v : Win
       let b : suc v.0 * s.shared.c ≤ 16 * s.shared.c = mul-le-mul_right s.shared.c (id_low s h i l v read) in
       omega (arith, size.area≤, b)
 
-  -- the place of its pixels is a number of 64 bits
-  pub base_fits : v.0 * s.shared.c ≤ 16 * 1048576
-  unfolding group
-  base_fits =
-      let b : suc v.0 * s.shared.c ≤ 16 * s.shared.c = mul-le-mul_right s.shared.c (id_low s h i l v read) in
-      omega (arith, b, (given_ok s h).c_high)
-
   -- it is drawn under the rectangles above it
   pub drawn_under : (above : List Rect) → above ≡ higher s (suc i) → (full : Bool) (store screen : List ℕ) (sw sh : ℕ) (screen' : List ℕ)
       → screen' ≡ cond (full || (window_at s v.0).marked) (painted s.shared.dimmed (window_at s v.0) full (v.0 * s.shared.c) above store sw sh screen) screen
@@ -84,39 +78,39 @@ module _ (s : Session) (h : Given s) (i : ℕ) (l : i < s.shared.shown) (v : Win
       q ∙ rw (a, regions_lent full (rects (window_at s v.0).damage) vis, marked_there full, e, win_there s h i l v read)
 
   -- of the rectangles of all shown windows, those behind its own are the ones above it
-  module _ (all : Rects) (held : Holds all (higher s 0)) where
-    count : all.len ≡ s.shared.shown
-    count = held.count ∙ length-map (group s).order (λ j. (win (group s) j).at) ∙ order_length s h
+  module _ {all : Rects} (held : Holds all (higher s 0)) where
+    abbrev pub rest : List Rect
+    rest = take (s.shared.shown - (i + 1)) (drop (i + 1) all.rects)
 
-    -- the numbers that the code lends, of the array's 64
-    abbrev pub rest : List ℕ
-    rest = take (64 - 4 * (i + 1)) (drop (4 * (i + 1)) all.numbers)
+    pub rest_is : rest ≡ higher s (suc i)
+    rest_is =
+        let n : all.len ≡ s.shared.shown = held.count ∙ length-map (group s).order (λ j. (win (group s) j).at) ∙ order_length s h in
+        let m : (i + 1) + (s.shared.shown - (i + 1)) ≡ all.len = omega (arith, n, l) in
+        sym (drop-take (i + 1) (s.shared.shown - (i + 1)) all.rects)
+        ∙ ap (λ (k : ℕ). drop (i + 1) (take k all.rects)) m
+        ∙ ap (drop (i + 1)) held.list
+        ∙ drop_map (i + 1) (λ j. (win (group s) j).at) (group s).order
+        ∙ ap (higher s) (add-one i)
 
-    rest_is : behind i all.numbers ≡ rest
-    rest_is = ap (λ (n : ℕ). take (n - 4 * (i + 1)) (drop (4 * (i + 1)) all.numbers)) held.room
+    -- what the drawing of the window asks
+    pub paints : (store : List ℕ) → length store ≡ 16 * s.shared.c → Painting s v.0 rest store
+    paints store e =
+        let low : v.0 < 16 = id_low s h i l v read in
+        let fits : AllFit (drop (suc i) (higher s 0)) = fit_drop (suc i) (higher s 0) held.fit in
+        let over : rest ≡ drop (suc i) (higher s 0) = rest_is ∙ sym (drop_map (suc i) (λ j. (win (group s) j).at) (group s).order) in
+        record {
+          inside = low;
+          rep = h.rep.each v.0 low;
+          pixels = omega (arith, in_store, e);
+          fit = subst AllFit (sym over) fits;
+          few = let n = ap length over in omega (arith, n, length-drop (suc i) (higher s 0), held.few);
+        }
 
-    pub all_lent : Lent (s.shared.shown - i - 1) rest
-    all_lent =
-        subst (Lent (s.shared.shown - i - 1)) rest_is
-        (rest_lent s.shared.shown all.numbers i l (subst (λ (n : ℕ). Lent n all.numbers) count (lends all (higher s 0) held)))
-
-    pub lent_above : rects_of (s.shared.shown - i - 1) rest ≡ higher s (suc i)
-    lent_above =
-        let n : i + 1 ≡ suc i = omega arith in
-        ap (rects_of (s.shared.shown - i - 1)) (sym rest_is)
-        ∙ ap (drop 1) (sym (rects_split s.shared.shown all.numbers i l))
-        ∙ drop-drop 1 i (rects_of s.shared.shown all.numbers)
-        ∙ ap (λ (k : ℕ). drop k (rects_of s.shared.shown all.numbers)) n
-        ∙ ap (λ (k : ℕ). drop (suc i) (rects_of k all.numbers)) (sym count)
-        ∙ ap (drop (suc i)) held.list
-        ∙ drop_map (suc i) (λ j. (win (group s) j).at) (group s).order
-
-    module _ (full : Bool) (store screen : List ℕ) (sw sh : ℕ) where
-      pub window_drawn : (screen' : List ℕ)
-          → screen' ≡ cond (full || (window_at s v.0).marked) (painted s.shared.dimmed (window_at s v.0) full (v.0 * s.shared.c) (rects_of (s.shared.shown - i - 1) rest) store sw sh screen) screen
-          → screen' ≡ draw_window (group s) full store sw sh (get_or (group s).order i 0) screen
-      window_drawn screen' q =
-          drawn_under _ lent_above full store screen sw sh screen' q ∙ ap (λ (k : ℕ). draw_window (group s) full store sw sh k screen) (sym (id_at s h i l v read))
+    pub window_drawn : (full : Bool) (store screen : List ℕ) (sw sh : ℕ) (screen' : List ℕ)
+        → screen' ≡ cond (full || (window_at s v.0).marked) (painted s.shared.dimmed (window_at s v.0) full (v.0 * s.shared.c) rest store sw sh screen) screen
+        → screen' ≡ draw_window (group s) full store sw sh (get_or (group s).order i 0) screen
+    window_drawn full store screen sw sh screen' q =
+        drawn_under rest rest_is full store screen sw sh screen' q ∙ ap (λ (k : ℕ). draw_window (group s) full store sw sh k screen) (sym (id_at s h i l v read))
 
 -- All windows --------------------------------------------------------------------------------------------------------
 
@@ -142,10 +136,6 @@ module _ {s : Session} {full : Bool} {store : List ℕ} {sw sh : ℕ} {first scr
 
 -- The call -------------------------------------------------------------------------------------------------------------
 
--- question 8 as facts
-pub screen_facts : (sw sh : ℕ) (screen : List ℕ) → screen_fits sw sh screen ≡ true → (sw ≤ 32767) × (sh ≤ 32767) × (length screen ≡ sw * sh)
-screen_facts sw sh screen e = search (fst, snd, leb-true, eqb-true)
-
 -- a session that pays its debt and drops its walk
 abbrev pub without_debt : Session → Session
 without_debt s = sharing (noted (record { walk = walk_at s.shared.due.walk.next.0 false s.shared.due.walk.full; owed = false }) s.shared) s
@@ -154,32 +144,26 @@ pub pays : (s : Session) (g : Group) → (group s ≡ g) × Rep s → (group (wi
 unfolding group walk_of
 pays s g e = let r = e.1 in (ap paid e.0, record { windows = r.windows; order = r.order; shown = r.shown; each = r.each; displays = r.displays })
 
-module _ (s : Session) (forced : Bool) (sw sh : ℕ) (store screen : List ℕ) (h : Given s) (full : Bool) (is : full ≡ forced || s.shared.due.owed) where
-  abbrev half : ℕ → Drawn
-  half n = record { full = full; answer = n }
+-- The call ------------------------------------------------------------------------------------------------------------
 
-  pub draws : (screen' : List ℕ) → whole (group s) store ≡ true → screen_fits sw sh screen ≡ true
-      → screen' ≡ draw_all (group s) full store sw sh (group s).order screen → Draws (Redraw forced sw sh store screen) s (half 0) screen'
+module _ (s : Session) (forced : Bool) (sw sh : ℕ) (store screen : List ℕ) (h : Given s) where
+  abbrev call : Call
+  call = Redraw forced sw sh store screen
+
+  -- the session t has the windows that were drawn cleaned
+  pub draws : (full : Bool) → full ≡ forced || s.shared.due.owed → (t : Session) (screen' : List ℕ) → length store ≡ 16 * s.shared.c
+      → screen_fits sw sh screen ≡ true → screen' ≡ draw_all (group s) full store sw sh (group s).order screen
+      → (group t ≡ clean_all full (group s).order (group s)) × Rep t → MeetsScreen call s (done (without_debt t) 0) screen'
   unfolding does Draw.redraw group
-  draws screen' w f d r q =
-      let c = q.clean refl in
-      record {
-        meets =
-            subst (λ (n : ℕ). Meets (Redraw forced sw sh store screen) s (done r.session n)) (sym q.answer)
-            (gives (Redraw forced sw sh store screen) s r.session h c.1 (rw (w, f)) (c.0 ∙ rw (is, w, f)));
-        shown = d ∙ rw (is, w, f);
-      }
+  draws full is t screen' l f d c =
+      let w = is_whole s store l in
+      let p = pays t _ c in
+      record { meets = gives call s (without_debt t) h p.1 (rw (w, f)) (p.0 ∙ rw (is, w, f)); shown = d ∙ rw (is, w, f) }
 
-  -- a half that was refused leaves the session and the screen
-  refused : (n : ℕ) → MeetsScreen (Redraw forced sw sh store screen) s (done s (suc n)) screen → Draws (Redraw forced sw sh store screen) s (half (suc n)) screen
-  refused n m r q =
-      subst (λ (a : ℕ). MeetsScreen (Redraw forced sw sh store screen) s (done r.session a) screen) (sym q.answer)
-      (subst (λ (t : Session). MeetsScreen (Redraw forced sw sh store screen) s (done t (suc n)) screen) (sym (q.same (suc-ne-zero n))) m)
-
-  pub no_screen : whole (group s) store ≡ true → screen_fits sw sh screen ≡ false → Draws (Redraw forced sw sh store screen) s (half 8) screen
+  pub no_screen : length store ≡ 16 * s.shared.c → screen_fits sw sh screen ≡ false → MeetsScreen call s (done s 8) screen
   unfolding does Draw.redraw
-  no_screen w f = refused 7 (record { meets = refuses (Redraw forced sw sh store screen) s 7 h (rw (w, f)); shown = rw (w, f) })
+  no_screen l f = let w = is_whole s store l in record { meets = refuses call s 7 h (rw (w, f)); shown = rw (w, f) }
 
-  pub no_store : whole (group s) store ≡ false → Draws (Redraw forced sw sh store screen) s (half 1) screen
+  pub no_store : (length store ≡ 16 * s.shared.c → ⊥) → MeetsScreen call s (done s 1) screen
   unfolding does Draw.redraw
-  no_store w = refused 0 (record { meets = refuses (Redraw forced sw sh store screen) s 0 h (rw w); shown = rw w })
+  no_store l = let w = isnt_whole s store l in record { meets = refuses call s 0 h (rw w); shown = rw w }

@@ -1,6 +1,6 @@
--- The frames of a session: one window after the other; where the windows of its order lie; and the window among them that an event at a point
+-- The frames of a session: where the windows of its order lie; and the window among them that an event at a point
 -- is for, the one that is remembered or the rule's topmost.
-use Prim.Native.Nat.{ℕ, ◌+◌, ◌<◌}
+use Prim.Native.Nat.{ℕ, ◌<◌}
 use mathlib.Core.Path.{◌≡◌, refl, sym, ap, subst, ◌∙◌}
 use mathlib.Core.Bool.{Bool, true, false, cond}
 use mathlib.Core.List.{List, [], ◌∷◌, map}
@@ -8,13 +8,12 @@ use mathlib.Core.Option.{Option, none, some, none-ne-some, some-ne-none}
 use mathlib.Core.Logic.{◌⊎◌, inl, inr}
 use native.Mathlib.Omega.{arith}
 use lib.Dec.{eqb}
-use lib.ListN.{get_or, set, length-set}
+use lib.ListN.{length, take, get_or}
 use Rattle.geom.specs.declared.Rect.{Rect}
 use Rattle.geom.specs.declared.inner.rect16.Rect16.{Rect16}
 use Rattle.geom.specs.Geom.{is_empty, contains}
-use Rattle.geom.specs.Rect16.{rect_of, no_rect16, Small}
+use Rattle.geom.specs.Rect16.{rect_of, Small}
 use Rattle.geom.proofs.basics.Tests.{or_right}
-use Rattle.geom.proofs.basics.Lists.{set_in}
 use Rattle.geom.proofs.geometry.Facts.{In, Solid, says_in, solid}
 use Rattle.window.specs.Window.{Win}
 use Rattle.window.specs.inner.Ids.{no_id}
@@ -27,6 +26,8 @@ use Rattle.rules.proofs.group.Topmost.{topmost_tops}
 use Rattle.rules.proofs.group.Steps.{grabber_grab}
 use Rattle.order.specs.declared.frames.Frames.{Frames}
 use Rattle.order.specs.Ids.{ids}
+use Rattle.order.proofs.laws.Order.{shown_front}
+use Rattle.window.specs.declared.ids.WinId.{WinId}
 use Rattle.order.specs.inner.Frames.{frame_at, Shown}
 use Rattle.topmost.specs.inner.Topmost.{topmost_at, taker_at}
 use Rattle.windows.specs.declared.Session.{Session}
@@ -34,20 +35,6 @@ use Rattle.windows.specs.View.{group, window_at, Given}
 use Rattle.windows.specs.inner.Frames.{Framed}
 use Rattle.windows.proofs.laws.Session.{used_at, win_at_lem, given_ok}
 use Rattle.windows.proofs.laws.Places.{id_low}
-
--- One window more ----------------------------------------------------------------------------------------------------
-
-pub frame_more : (s : Session) (i : ℕ) (areas : List Rect16) (used : List Bool) → i < 16 → Framed s i (record { areas = areas; used = used })
-    → Framed s (i + 1) (record { areas = set areas i (window_at s i).at; used = set used i (window_at s i).used })
-frame_more s i areas used low f =
-    record {
-      areas = length-set areas i (window_at s i).at ∙ f.areas;
-      flags = length-set used i (window_at s i).used ∙ f.flags;
-      at = λ j h. set_in (λ (a : Rect16). a ≡ (window_at s j).at) areas i j (window_at s i).at no_rect16 (λ _. omega (arith, f.areas))
-          (λ q. ap (λ (k : ℕ). (window_at s k).at) (sym q)) (λ n. f.at j (omega (arith, h, n)));
-      used = λ j h. set_in (λ (b : Bool). b ≡ (window_at s j).used) used i j (window_at s i).used false (λ _. omega (arith, f.flags))
-          (λ q. ap (λ (k : ℕ). (window_at s k).used) (sym q)) (λ n. f.used j (omega (arith, h, n)));
-    }
 
 -- Rectangles that agree on an order ------------------------------------------------------------------------------------
 
@@ -113,6 +100,12 @@ module _ (s : Session) (h : Given s) (f : Frames) (is : Framed s 16 f) where
         low = λ p l. id_low s h p l (get_or s.shared.order p no_id) refl;
         small = λ i l. subst Small (sym (ap rect_of (is.at i l))) (h.rep.each i l).at;
       }
+
+  -- so do those that are lent
+  pub order_lent : {l : List WinId} → l ≡ take s.shared.shown s.shared.order → Shown f.areas l (length l)
+  order_lent e =
+      subst (λ (l : List WinId). Shown f.areas l (length l)) (sym e)
+      (shown_front f.areas s.shared.order s.shared.shown order_lies h.rep.order)
 
   topmost_is : (x y : ℕ) → topmost_at (frame_at f.areas) x y (ids s.shared.shown s.shared.order) none ≡ topmost (group s) x y
   unfolding group

@@ -16,17 +16,12 @@ use Rattle.geom.proofs.geometry.Pieces.{left_within}
 use Rattle.window.specs.declared.Window.{Window}
 use Rattle.window.specs.Represents.{rects}
 use Rattle.rules.specs.Redraw.{none?, draw_region, draw_regions}
-use Rattle.rules.specs.inner.Lent.{AllFit, Lent}
+use Rattle.rules.specs.inner.Lent.{AllFit}
 use Rattle.visible.specs.declared.region.View.{View}
 use Rattle.visible.specs.inner.Seen.{drawn}
 use Rattle.visible.proofs.laws.Regions.{drawn_append}
 use Rattle.windows.specs.inner.Drawing.{painted}
 use Rattle.order.specs.inner.Rects.{full_rect, dirty_of}
-
--- the full rectangle as numbers
-pub lends_full : Lent 1 (0 ∷ 0 ∷ 4294967295 ∷ 4294967295 ∷ [])
-unfolding AllFit
-lends_full = record { room = omega arith; fit = (omega arith, tt) }
 
 -- One region ---------------------------------------------------------------------------------------------------------
 

@@ -8,51 +8,39 @@ use lib.Dec.{leb}
 use lib.ListN.{length, drop, length-map}
 use borrow.Author.Tests.{le-leb}
 use Rattle.geom.specs.declared.Rect.{Rect}
-use Rattle.geom.specs.declared.Listing.{Listing}
+use Rattle.geom.specs.Refusals.{Listing}
 use Rattle.geom.specs.Lists.{outside_all, relative, numbers}
 use Rattle.rules.specs.Group.{Group, used, win}
-use Rattle.rules.specs.Order.{shown, above}
-use Rattle.rules.specs.Visible.{rects_of, visible, visible_list}
-use Rattle.windows.specs.declared.inner.find.Found.{Found}
+use Rattle.rules.specs.Order.{shown}
+use Rattle.rules.specs.Visible.{visible, visible_list}
 use Rattle.windows.specs.View.{Lists}
-use Rattle.windows.specs.inner.Find.{Finds}
+use Rattle.windows.proofs.laws.Under.{higher_rects}
+use Rattle.windows.proofs.laws.Above.{visible_is}
 
 abbrev listing : ℕ → ℕ → Listing
 listing a n = record { answer = a; count = n }
 
--- the rule's list of a shown window at r under bs
-pub visible_is : (g : Group) (id : ℕ) (r : Rect) (bs : List Rect) → shown g id ≡ true → (win g id).at ≡ r
-    → map (λ i. (win g i).at) (above id g.order) ≡ bs → visible g id ≡ map (relative r) (outside_all (r ∷ []) bs)
-unfolding visible
-visible_is g id r bs y w a = rw (y, w, a)
-
-module _ (g : Group) (id : ℕ) (f : Found) (e : Finds g id f) (before : List ℕ) where
-  pub no_window : f.used ≡ false → Lists g id before (listing 3 0) before
+module _ (g : Group) (id : ℕ) (before : List ℕ) where
+  pub no_window : used g id ≡ false → Lists g id before (listing 3 0) before
   unfolding visible_list
-  no_window u =
-      let q : used g id ≡ false = sym e.used ∙ u in
-      record { answer = rw q; count = rw q; list = rw q }
+  no_window q = record { answer = rw q; count = rw q; list = rw q }
 
-  pub hidden_list : f.used ≡ true → f.shown ≡ false → Lists g id before (listing 0 0) before
+  pub hidden_list : used g id ≡ true → shown g id ≡ false → Lists g id before (listing 0 0) before
   unfolding visible_list visible
-  hidden_list u y =
-      let q : used g id ≡ true = sym e.used ∙ u in
-      let n : shown g id ≡ false = sym e.shown ∙ y in
+  hidden_list q n =
       let z : leb 0 (length before) ≡ true = le-leb 0 (length before) (omega arith) in
       record { answer = rw (q, n, z); count = rw (q, n, z); list = rw (q, n, z) }
 
-  module _ (u : f.used ≡ true) (y : f.shown ≡ true) where
-    in_use : used g id ≡ true
-    in_use = sym e.used ∙ u
-
+  -- a shown window at this place, under these rectangles
+  module _ (u : used g id ≡ true) (y : shown g id ≡ true) (at : Rect) (at_is : at ≡ (win g id).at) (l : List Rect) (l_is : l ≡ higher_rects g id) where
     abbrev parts : List Rect
-    parts = outside_all (f.at ∷ []) (rects_of f.above.len f.above.numbers)
+    parts = outside_all (at ∷ []) l
 
-    list : visible g id ≡ map (relative f.at) parts
-    list = visible_is g id f.at (rects_of f.above.len f.above.numbers) (sym e.shown ∙ y) (sym e.at) (sym e.above.list)
+    list : visible g id ≡ map (relative at) parts
+    list = visible_is g id at l y (sym at_is) (sym l_is)
 
     long : length (visible g id) ≡ length parts
-    long = ap length list ∙ length-map parts (relative f.at)
+    long = ap length list ∙ length-map parts (relative at)
 
     -- question 9
     room : (t : Bool) → t ≡ leb (4 * length parts) (length before) → leb (4 * length (visible g id)) (length before) ≡ t
@@ -62,16 +50,16 @@ module _ (g : Group) (id : ℕ) (f : Found) (e : Finds g id f) (before : List �
     unfolding visible_list
     no_room t =
         let z = room false t in
-        record { answer = rw (in_use, z); count = rw (in_use, z); list = rw (in_use, z) }
+        record { answer = rw (u, z); count = rw (u, z); list = rw (u, z) }
 
     pub listed : (n : ℕ) (after : List ℕ) → true ≡ leb (4 * length parts) (length before) → n ≡ length parts
-        → after ≡ numbers (map (relative f.at) parts) ++ drop (4 * n) before → Lists g id before (listing 0 n) after
+        → after ≡ numbers (map (relative at) parts) ++ drop (4 * n) before → Lists g id before (listing 0 n) after
     unfolding visible_list
     listed n after t k w =
         let z = room true t in
         let q : n ≡ length (visible g id) = k ∙ sym long in
         record {
-          answer = rw (in_use, z);
-          count = rw (in_use, z) q;
-          list = rw (in_use, z) (w ∙ ap₂ (λ (rs : List Rect) (o : ℕ). numbers rs ++ drop (4 * o) before) (sym list) q);
+          answer = rw (u, z);
+          count = rw (u, z) q;
+          list = rw (u, z) (w ∙ ap₂ (λ (rs : List Rect) (o : ℕ). numbers rs ++ drop (4 * o) before) (sym list) q);
         }

@@ -1,32 +1,24 @@
 -- A law of the window that lies at an id's place, in every session that holds it.
 use Prim.Native.Nat.{ℕ, ◌<◌}
 use mathlib.Core.Path.{◌≡◌, refl, sym, ap, subst, ◌∙◌}
-use mathlib.Core.Bool.{Bool, true, false, ◌&&◌}
+use mathlib.Core.Bool.{true, false, ◌&&◌}
 use mathlib.Core.List.{List}
 use mathlib.Core.Logic.{⊎_elim}
 use mathlib.Core.Option.{Option}
 use lib.Dec.{ltb}
 use lib.Seq.{set-get_or}
 use borrow.Author.Tests.{ltb-true, lt-ltb, le-ltb}
-use Rattle.geom.specs.declared.inner.rect16.Rect16.{Rect16}
 use Rattle.geom.proofs.basics.Tests.{fst, snd, lt_or_le}
 use Rattle.window.specs.declared.Window.{Window}
-use Rattle.window.specs.declared.damage.Damage.{Damage}
 use Rattle.window.specs.Represents.{win_of, RepWindow}
 use Rattle.order.specs.Ids.{ids}
 use Rattle.order.specs.inner.Order.{render_idx}
 use Rattle.rules.specs.Group.{used}
-use Rattle.rules.specs.Calls.{Call}
 use Rattle.rules.specs.Panels.{Write}
 use Rattle.windows.specs.declared.Shared.{Shared}
 use Rattle.windows.specs.declared.Session.{Session}
-use Rattle.windows.specs.declared.Changed.{Changed}
-use Rattle.windows.specs.declared.Done.{Done}
-use Rattle.windows.specs.declared.Written.{Written}
-use Rattle.windows.specs.declared.inner.store.Painted.{Painted}
-use Rattle.windows.specs.View.{blank, group, window_at, holding, ruled, rewritten, done, written, Given, Meets, MeetsStore, MeetsAltered, MeetsMark}
-use Rattle.windows.specs.inner.One.{At, Holds, Held, HeldAs, with_window, MeetsAt, MeetsStoreAt, MeetsAlteredAs, MeetsMarkAt}
-use Rattle.windows.specs.inner.Pixels.{set_damage}
+use Rattle.windows.specs.View.{blank, group, window_at, holding, ruled, rewritten, Given}
+use Rattle.windows.specs.inner.One.{At, Holds, Held, with_window}
 use Rattle.windows.proofs.laws.Session.{used_at, used_past}
 
 -- Parts of a session ---------------------------------------------------------------------------------------------------
@@ -45,35 +37,6 @@ put_back s at {w} {k} is same =
 -- a place that was found in what is shared is the session's
 pub same_place : (id : ℕ) (o : Option ℕ) {k m : Shared} → m ≡ k → o ≡ render_idx id (ids k.shown k.order) → o ≡ render_idx id (ids m.shown m.order)
 same_place id o same = subst (λ (j : Shared). o ≡ render_idx id (ids j.shown j.order)) (sym same)
-
--- Fields of a window --------------------------------------------------------------------------------------------------
-
--- the window with another use, place and damage
-abbrev pub fields : Bool → Rect16 → Damage → Window → Window
-fields u a d w = record { queue = w.queue; damage = d; at = a; cursor = w.cursor; used = u; marked = w.marked }
-
--- what holds of it holds of a window that has them
-pub by_fields : (P : Window → Type 0) {u : Bool} {a : Rect16} {d : Damage} (w : Window) → w.used ≡ u → w.at ≡ a
-    → w.damage ≡ d → P (fields u a d w) → P w
-by_fields P w u a d = subst P (λ i. fields (sym u i) (sym a i) (sym d i) w)
-
--- what is shared, with another C
-abbrev pub sized : ℕ → Shared → Shared
-sized c k =
-    record {
-      order = k.order;
-      shown = k.shown;
-      c = c;
-      focus = k.focus;
-      dimmed = k.dimmed;
-      grab = k.grab;
-      due = k.due;
-      layers = k.layers;
-      maximised = k.maximised;
-    }
-
-pub by_c : (P : Shared → Type 0) {c : ℕ} (k : Shared) → k.c ≡ c → P (sized c k) → P k
-by_c P k e = subst P (λ i. sized (sym e i) k)
 
 -- Sessions that hold a window -----------------------------------------------------------------------------------------
 
@@ -150,37 +113,3 @@ module _ {id at : ℕ} {s : Session} (h : Given s) (p : At id at) where
 
   pub held : Held id (window_at s at) s.shared
   held = record { session = s; at = at; holds = own }
-
-  -- what the function of one window made of it is put in its place
-  pub by_meets : {call : Call} {r : Done} (d : Changed) → MeetsAt call id (window_at s at) s.shared d
-      → r ≡ done (with_window at d.window d.shared s) d.answer → Meets call s r
-  by_meets {call} d m e = subst (Meets call s) (sym e) (m s at own)
-
-  pub by_store : {call : Call} {t : List ℕ} {r : Done} (d : Changed) → MeetsStoreAt call id (window_at s at) s.shared d t
-      → r ≡ done (with_window at d.window d.shared s) d.answer → MeetsStore call s r t
-  by_store {call} {t} d m e = subst (λ (r : Done). MeetsStore call s r t) (sym e) (m s at own)
-
-  -- a fill or a blit is handed fields of the window
-  pub held_as : HeldAs id (window_at s at).used (window_at s at).at (window_at s at).damage s.shared.c
-  held_as =
-      record {
-        window = window_at s at;
-        shared = s.shared;
-        held = held;
-        is_used = refl;
-        is_at = refl;
-        is_damage = refl;
-        is_c = refl;
-      }
-
-  pub by_altered : {u : Write} {p t : List ℕ} {r : Written} (d : Painted)
-      → MeetsAlteredAs id u p (window_at s at).used (window_at s at).at (window_at s at).damage s.shared.c d t
-      → r ≡ written (with_window at (set_damage d.damage (window_at s at)) s.shared s) d.result
-      → MeetsAltered id u p s r t
-  by_altered {u} {p} {t} d m e =
-      subst (λ (r : Written). MeetsAltered id u p s r t) (sym e)
-      (m (window_at s at) s.shared refl refl refl refl s at own)
-
-  pub by_mark : {r : Done} (d : Changed) → MeetsMarkAt id (window_at s at) s.shared d → r ≡ done (with_window at d.window d.shared s) d.answer
-      → MeetsMark id s r
-  by_mark d m e = subst (MeetsMark id s) (sym e) (m s at own)

@@ -1,7 +1,7 @@
 -- One window's pixels in the store: the part of an area that lies in the window, and what fill and blit make of it.
 use Prim.Native.Nat.{ℕ, ◌+◌, ◌*◌, ◌-◌, ◌≤◌, ◌<◌, min, max}
 use mathlib.Core.Path.{◌≡◌, refl, sym, ap, subst, ◌∙◌}
-use mathlib.Core.Bool.{Bool, true, false}
+use mathlib.Core.Bool.{true, false}
 use mathlib.Core.List.{List}
 use mathlib.Core.Logic.{⊎_elim}
 use native.Mathlib.Nat.{mul-le-mul_right, mul_comm}
@@ -12,7 +12,7 @@ use borrow.Author.Tests.{ltb-true, lt-ltb}
 use Rattle.geom.specs.declared.Rect.{Rect}
 use Rattle.geom.specs.declared.inner.rect16.Rect16.{Rect16}
 use Rattle.geom.specs.Geom.{rect, left, top, width, height, is_empty, meets, common}
-use Rattle.geom.specs.inner.Fits.{Fits, Within}
+use Rattle.geom.specs.inner.Fits.{Within}
 use Rattle.geom.specs.Rect16.{Small}
 use Rattle.geom.proofs.basics.Tests.{clash, on_cond, lt_or_le}
 use Rattle.geom.proofs.geometry.Facts.{Meet, says_meet, solid, common_within}
@@ -27,9 +27,8 @@ use Rattle.window.specs.inner.Changes.{PastAs, Dirtied}
 use Rattle.window.proofs.laws.Entries.{all_of}
 use Rattle.rules.specs.Store.{with_damage, dirtied, bounds, filled_part, filled_at, blit_rows, blit_at}
 use Rattle.windows.specs.View.{filled_win, blit_win, holding}
-use Rattle.windows.specs.inner.Pixels.{Becomes, RowsIn, set_damage, Paints, PaintsAs, BlitsAs}
-use Rattle.windows.specs.declared.inner.store.Painted.{Painted}
-use Rattle.windows.proofs.laws.One.{fields, by_fields}
+use Rattle.windows.specs.inner.Pixels.{Becomes, RowsIn, Paints}
+use Rattle.windows.proofs.laws.Parts.{set_damage}
 
 -- the same window by a rule that gives the same
 becomes : {w r : Window} {v v' : Win} → Becomes w v r → v ≡ v' → Becomes w v' r
@@ -51,10 +50,6 @@ is_holding {w} {v} {d} b e =
     let marked = ap (λ (x : Win). x.marked) b.is in
     λ i. record { queue = w.queue; damage = damage i; at = w.at; cursor = w.cursor; used = w.used; marked = marked i }
 
--- a window left as it was
-kept : {w : Window} {v : Win} → RepWindow w → win_of w ≡ v → Becomes w v w
-kept r e = record { used = refl; rep = r; is = e }
-
 -- a side of the common part with (0,0,W,H)
 cut_low : (x : ℕ) → max x 0 ≡ x
 cut_low x = omega arith
@@ -70,20 +65,13 @@ counts c e = record { pixels = c.pixels ∙ e; altered = c.altered }
 uncounted : {rule s : List ℕ} → s ≡ rule → Counted rule s s 0
 uncounted {s = s} e = record { pixels = e; altered = sym (altered_same s) }
 
--- The window at a place -----------------------------------------------------------------------------------------------
+-- a window left as it was
+same_holding : {w : Window} {v : Win} → RepWindow w → win_of w ≡ v → w ≡ holding v w
+same_holding {w} r e = is_holding {w = w} {d = w.damage} (record { used = refl; rep = r; is = e }) refl
 
--- a law of the window with this place and this damage is one of every window that has them
-pub paints : {at : Rect16} {d : Damage} (f : Win → Win) (F : Win → List ℕ) {p t : List ℕ} {r : Painted}
-    → ((w : Window) → let v = fields w.used at d w in RepWindow v → Paints v (f (win_of v)) (F (win_of v)) p r t)
-    → PaintsAs at d f F p r t
-paints f F {p} {t} {r} law w rep a d =
-    by_fields (λ v. RepWindow v → Paints v (f (win_of v)) (F (win_of v)) p r t) w refl a d (law w) rep
-
-pub blits : {at : Rect16} (base : ℕ) (a : Rect) (datum : List ℕ) (stride : ℕ) (p : List ℕ) {t : List ℕ} {n : ℕ}
-    → ((w : Window) → Counted (blit_at base (win_of (fields w.used at w.damage w)) a datum stride p) p t n)
-    → BlitsAs base at a datum stride p t n
-blits base a datum stride p {t} {n} law w e =
-    by_fields (λ v. Counted (blit_at base (win_of v) a datum stride p) p t n) w refl e refl (law w)
+-- nothing written
+as_it_was : {w : Window} {v : Win} {rule store : List ℕ} → RepWindow w → win_of w ≡ v → store ≡ rule → Paints w v rule store w store 0
+as_it_was r e f = record { window = record { used = refl; rep = r; is = e }; whole = same_holding r e; counted = uncounted f }
 
 -- its own pixels, from its corner
 abbrev pub bounds_of : Rect16 → Rect
@@ -91,82 +79,66 @@ bounds_of at = rect 0 0 at.w at.h
 
 -- The area and the window --------------------------------------------------------------------------------------------
 
--- an area, and the window's own rectangle as the code has it
-pub record Cut (len base : ℕ) (at : Rect16) (a all : Rect) : Type 0 where
-  pub rows : RowsIn len base at
-  pub small : Small a
-  pub is : all ≡ bounds_of at
+pub in_window : (at : Rect16) (a : Rect) {k : Rect} → meets a (bounds_of at) ≡ true → k ≡ common a (bounds_of at) → Within (bounds_of at) k
+in_window at a m e = subst (Within (bounds_of at)) (sym e) (common_within a (bounds_of at) ((says_meet a (bounds_of at)).fact m)).1
 
-module _ {len base : ℕ} {at : Rect16} {a all : Rect} (q : Cut len base at a all) where
-  pub fits : Fits a × Fits all
-  fits =
-      let s = q.small in
-      let o = q.rows.small in
-      let e : Fits (bounds_of at) = omega arith in
-      (omega arith, subst Fits (sym q.is) e)
-
-  is_met : {t : Bool} → meets a all ≡ t → meets a (bounds_of at) ≡ t
-  is_met m = ap (meets a) (sym q.is) ∙ m
-
-  is_part : {k : Rect} → k ≡ common a all → k ≡ common a (bounds_of at)
-  is_part e = e ∙ ap (common a) q.is
-
-  pub in_window : meets a all ≡ true → {k : Rect} → k ≡ common a all → Within (bounds_of at) k
-  in_window m e =
-      subst (Within (bounds_of at)) (sym (is_part e))
-      (common_within a (bounds_of at) ((says_meet a (bounds_of at)).fact (is_met m))).1
-
+module _ {len base : ℕ} {at : Rect16} (q : RowsIn len base at) where
   module _ {k : Rect} (i : Within (bounds_of at) k) where
     pub room : Inside len base at.w (left k) (top k) (width k) (height k)
     room =
         let s : top k + height k ≤ at.h = omega arith in
         let m : (top k + height k) * at.w ≤ at.h * at.w = mul-le-mul_right at.w s in
-        let o = q.rows.small in
-        let r = q.rows.room in
+        let o = q.small in
+        let r = q.room in
         record { wide = omega arith; high = omega (arith, mul_comm at.h at.w); small = omega arith }
 
     pub part_small : Small k
-    part_small = let o = q.rows.small in omega arith
+    part_small = let o = q.small in omega arith
 
 -- Fill ----------------------------------------------------------------------------------------------------------------
 
-module _ {len base : ℕ} (w : Window) {a all : Rect} (q : Cut len base w.at a all) where
-  pub filled : (k : Rect) (r : Window) (v : ℕ) (store t : List ℕ) (n : ℕ) → meets a all ≡ true → k ≡ common a all → Becomes w (dirtied k (win_of w)) r
-      → Counted (filled_part base (win_of w) k v store) store t n
-      → Becomes w (filled_win a (win_of w)) r × Counted (filled_at base (win_of w) a v store) store t n
+module _ (base : ℕ) (w : Window) (a : Rect) where
+  pub filled : (k : Rect) (v : ℕ) (store t : List ℕ) (n : ℕ) {r : Window} → meets a (bounds_of w.at) ≡ true → k ≡ common a (bounds_of w.at)
+      → Becomes w (dirtied k (win_of w)) r → r ≡ holding (dirtied k (win_of w)) w → Counted (filled_part base (win_of w) k v store) store t n
+      → Paints w (filled_win a (win_of w)) (filled_at base (win_of w) a v store) store r t n
   unfolding filled_win filled_at
-  filled k r v store t n m e b f = (
-    becomes b (ap (λ (p : Rect). dirtied p (win_of w)) (is_part q e) ∙ rw (is_met q m)),
-    counts f (ap (λ (p : Rect). filled_part base (win_of w) p v store) (is_part q e) ∙ rw (is_met q m)),
-  )
+  filled k v store t n m e b h f =
+      let rule : dirtied k (win_of w) ≡ filled_win a (win_of w) = ap (λ (p : Rect). dirtied p (win_of w)) e ∙ rw m in
+      record {
+        window = becomes b rule;
+        whole = h ∙ ap (λ (x : Win). holding x w) rule;
+        counted = counts f (ap (λ (p : Rect). filled_part base (win_of w) p v store) e ∙ rw m);
+      }
 
-  pub not_filled : (v : ℕ) (store : List ℕ) → RepWindow w → meets a all ≡ false
-      → Becomes w (filled_win a (win_of w)) w × Counted (filled_at base (win_of w) a v store) store store 0
+  pub not_filled : (v : ℕ) (store : List ℕ) → RepWindow w → meets a (bounds_of w.at) ≡ false
+      → Paints w (filled_win a (win_of w)) (filled_at base (win_of w) a v store) store w store 0
   unfolding filled_win filled_at
-  not_filled v store r m = (kept r (rw (is_met q m)), uncounted (rw (is_met q m)))
+  not_filled v store r m = as_it_was r (rw m) (rw m)
 
 -- Blit -----------------------------------------------------------------------------------------------------------------
 
 -- an empty area
 pub not_blit : (base : ℕ) (w : Window) (a : Rect) (datum : List ℕ) (stride : ℕ) (store : List ℕ) → RepWindow w
     → is_empty a ≡ true
-    → Becomes w (blit_win a (win_of w)) w × Counted (blit_at base (win_of w) a datum stride store) store store 0
+    → Paints w (blit_win a (win_of w)) (blit_at base (win_of w) a datum stride store) store w store 0
 unfolding blit_win blit_at
-not_blit base w a datum stride store r e = (kept r (rw e), uncounted (rw e))
+not_blit base w a datum stride store r e = as_it_was r (rw e) (rw e)
 
 -- another
-pub blit_win_lem : (w : Window) (a : Rect) {r : Window} → is_empty a ≡ false → Becomes w (dirtied a (win_of w)) r
-    → Becomes w (blit_win a (win_of w)) r
+pub blit : (w : Window) (a : Rect) {rule s t : List ℕ} {n : ℕ} {r : Window} → is_empty a ≡ false → Becomes w (dirtied a (win_of w)) r
+    → r ≡ holding (dirtied a (win_of w)) w → Counted rule s t n → Paints w (blit_win a (win_of w)) rule s r t n
 unfolding blit_win
-blit_win_lem w a e b = becomes b (rw e)
+blit w a e b h f =
+    let same : dirtied a (win_of w) ≡ blit_win a (win_of w) = rw e in
+    record { window = becomes b same; whole = h ∙ ap (λ (x : Win). holding x w) same; counted = f }
 
-module _ {len base : ℕ} (w : Window) {a all : Rect} (q : Cut len base w.at a all) (e : is_empty a ≡ false) where
-  some_rows : meets a all ≡ true → blit_rows (win_of w) a ≡ min (height a) (w.at.h - top a)
+module _ (base : ℕ) (w : Window) (a : Rect) (e : is_empty a ≡ false) where
+  some_rows : meets a (bounds_of w.at) ≡ true → blit_rows (win_of w) a ≡ min (height a) (w.at.h - top a)
   some_rows m =
-      let i = (says_meet a (bounds (win_of w))).fact (is_met q m) in
+      let i = (says_meet a (bounds (win_of w))).fact m in
       rw (lt-ltb (left a) w.at.w (omega arith))
 
-  no_rows : meets a all ≡ false → blit_rows (win_of w) a ≡ 0
+  no_rows : meets a (bounds_of w.at) ≡ false → blit_rows (win_of w) a ≡ 0
   no_rows m =
       on_cond (λ (n : ℕ). n ≡ 0) (ltb (left a) w.at.w) (min (height a) (w.at.h - top a)) 0
       (λ t. ⊎_elim (λ l. absurd (met (ltb-true (left a) w.at.w t) l)) (λ l. omega arith) (lt_or_le (top a) w.at.h))
@@ -176,7 +148,7 @@ module _ {len base : ℕ} (w : Window) {a all : Rect} (q : Cut len base w.at a a
       met l h =
           let s = solid a e in
           let i : Meet a (bounds (win_of w)) = omega arith in
-          clash ((says_meet a (bounds (win_of w))).test i) (is_met q m)
+          clash ((says_meet a (bounds (win_of w))).test i) m
 
   module _ (datum : List ℕ) (stride : ℕ) (store : List ℕ) where
     -- rows of an area at (x,y), of m by n
@@ -195,10 +167,10 @@ module _ {len base : ℕ} (w : Window) {a all : Rect} (q : Cut len base w.at a a
         ap (λ (b : Rect). rows (left b) (top b) (width b) (height b)) p
         ∙ (λ i. rows (cut_low (left a) i) (cut_low (top a) i) (cut_size (left a) (width a) w.at.w i) (cut_size (top a) (height a) w.at.h i))
 
-    pub some_blit : (k : Rect) (t : List ℕ) (n : ℕ) → meets a all ≡ true → k ≡ common a all
+    pub some_blit : (k : Rect) (t : List ℕ) (n : ℕ) → meets a (bounds_of w.at) ≡ true → k ≡ common a (bounds_of w.at)
         → Counted (rows (left k) (top k) (width k) (height k)) store t n → Counted (blit_at base (win_of w) a datum stride store) store t n
-    some_blit k t n m p f = counts f (cut_rows k (is_part q p) ∙ at_blit (min (height a) (w.at.h - top a)) (some_rows m))
+    some_blit k t n m p f = counts f (cut_rows k p ∙ at_blit (min (height a) (w.at.h - top a)) (some_rows m))
 
-    pub no_blit : meets a all ≡ false → Counted (blit_at base (win_of w) a datum stride store) store store 0
+    pub no_blit : meets a (bounds_of w.at) ≡ false → Counted (blit_at base (win_of w) a datum stride store) store store 0
     unfolding write_rows
     no_blit m = uncounted (at_blit 0 (no_rows m))

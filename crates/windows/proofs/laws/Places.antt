@@ -3,7 +3,10 @@ use Prim.Native.Nat.{ℕ, zero, suc, ◌<◌}
 use mathlib.Core.Path.{◌≡◌, refl, sym, ap, ◌∙◌}
 use mathlib.Core.Bool.{Bool, true, false, cond}
 use mathlib.Core.List.{List, [], ◌∷◌}
-use mathlib.Core.Option.{none, some}
+use mathlib.Core.Option.{Option, none, some}
+use Rattle.std.specs.Prelude as Std
+use Rattle.std.specs.Prelude.{Some, None}
+use Rattle.std.specs.Option.{is_some}
 use native.Mathlib.Omega.{arith}
 use native.Mathlib.Nat.{not-suc-le-zero}
 use lib.Dec.{eqb}
@@ -11,6 +14,7 @@ use lib.ListN.{length, get_or, drop}
 use borrow.Author.Tests.{eqb-true, eq-eqb}
 use Rattle.geom.proofs.basics.Tests.{clash, is_false}
 use Rattle.window.specs.declared.ids.WinId.{WinId}
+use Rattle.window.specs.declared.ids.Place.{Place}
 use Rattle.window.specs.Represents.{win_of}
 use Rattle.window.specs.inner.Ids.{no_id}
 use Rattle.rules.specs.Group.{used, win}
@@ -20,7 +24,7 @@ use Rattle.rules.proofs.group.Invariant.{used_small}
 use Rattle.windows.specs.declared.Session.{Session}
 use Rattle.windows.specs.View.{group, window_at, Given}
 use Rattle.order.specs.Ids.{num, ids}
-use Rattle.order.specs.inner.Order.{render_idx}
+use Rattle.order.specs.inner.Order.{idx_of, render_idx}
 use Rattle.order.specs.inner.Layers.{Low}
 use Rattle.windows.proofs.laws.Session.{used_at, win_at_lem, given_ok}
 use Rattle.order.proofs.laws.Order.{ids_length, ids_at, is_in_at, is_at, is_nowhere, place_low}
@@ -44,6 +48,16 @@ above_place id (x ∷ o) = go (eqb x id) (above_place id o)
     go : (t : Bool) → above id o ≡ drop (suc (place_of id o)) o → cond t o (above id o) ≡ drop (cond t 0 (suc (place_of id o))) o
     go true e = refl
     go false e = e
+
+-- The place of a window, as the code looks it up ------------------------------------------------------------------------
+
+pub found : (o : Std.Option Place) {r : Option ℕ} → idx_of o ≡ r → is_some o ≡ true → (p : ℕ) × (some p ≡ r)
+found None e t = clash t refl
+found (Some p) e t = (p.0, e)
+
+pub not_found : (o : Std.Option Place) {r : Option ℕ} → idx_of o ≡ r → is_some o ≡ false → none ≡ r
+not_found None e t = e
+not_found (Some p) e t = clash refl t
 
 -- In a session -------------------------------------------------------------------------------------------------------
 

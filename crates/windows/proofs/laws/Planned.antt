@@ -1,41 +1,33 @@
--- The plan of update_dims: the lists by number that the code goes through say of each window what the rule says of it.
+-- The questions of update_dims, and the pixels: the lists by number that the code goes through say of each window what the rule says of it.
 use Prim.Native.Nat.{ℕ, suc, ◌+◌, ◌*◌, ◌≤◌, ◌<◌}
-use mathlib.Core.Path.{◌≡◌, refl, sym, ap, subst, subst₂, ◌∙◌}
+use mathlib.Core.Path.{◌≡◌, refl, sym, ap, subst, ◌∙◌}
 use mathlib.Core.Bool.{Bool, true, false, cond, not, ◌&&◌, ◌||◌}
 use mathlib.Core.List.{List, [], ◌∷◌}
 use mathlib.Core.Option.{Option, none, some}
-use native.Mathlib.Decide.{ℕ_discrete}
-use native.Mathlib.Nat.{not-suc-le-zero}
 use native.Mathlib.Omega.{arith}
 use lib.Dec.{eqb, eqb-suc-zero}
-use lib.ListN.{length, get_or, set, length-set, length-map}
-use lib.Seq.{get_or-set_same, get_or-set_other}
+use lib.ListN.{length, get_or, length-map}
 use borrow.Author.Tests.{leb-true}
 use Rattle.geom.specs.declared.inner.rect16.Rect16.{Rect16}
 use Rattle.geom.specs.Geom.{width, height}
 use Rattle.geom.specs.Rect16.{rect_of, no_rect16}
 use Rattle.geom.proofs.basics.Tests.{fst}
-use Rattle.geom.proofs.basics.Lists.{set_in}
-use Rattle.window.specs.declared.ids.WinId.{WinId}
 use Rattle.window.specs.Window.{Win}
 use Rattle.window.specs.Represents.{win_of}
-use Rattle.window.specs.inner.Ids.{no_id}
 use Rattle.rules.specs.Group.{Group, win_at, is_maximised}
 use Rattle.rules.specs.Displays as Rule
 use Rattle.rules.specs.Displays.{updated_at, resized_store, fits, every_by_id, update_fits, update_store, update_stores, every_fits}
 use Rattle.rules.specs.Calls.{UpdateDims, does}
 use Rattle.rules.proofs.group.Refused.{refused_store}
 use Rattle.rules.proofs.group.Displays.{fits_at}
-use Rattle.display.specs.declared.update.Moves.{Moves}
 use Rattle.display.specs.Represents.{regions}
-use Rattle.display.specs.inner.Update.{place, resizes, MovesTo, all_fit, Roomy, resized_one, all_resized}
+use Rattle.display.specs.inner.Update.{Moves, place, resizes, MovesTo, all_fit, Roomy, resized_one, all_resized}
 use Rattle.order.specs.declared.frames.Frames.{Frames}
 use Rattle.windows.specs.declared.Session.{Session}
-use Rattle.windows.specs.declared.inner.update.DimsPlan.{DimsPlan}
-use Rattle.windows.specs.View.{cell, group, window_at, Given}
+use Rattle.windows.specs.View.{cell, group, window_at, done, Given, MeetsStore}
 use Rattle.windows.specs.inner.Frames.{Framed}
-use Rattle.windows.specs.inner.Maximise.{MovesOf, StaysAt, Stays, Collects, Plans}
-use Rattle.windows.proofs.laws.Session.{cell_at, is_cell, no_cell, win_at_lem, is_whole, isnt_whole, given_ok}
+use Rattle.windows.specs.inner.Maximise.{MovesOf}
+use Rattle.windows.proofs.laws.Session.{cell_at, is_cell, no_cell, win_at_lem, is_whole, isnt_whole, given_ok, refuses}
 
 -- Two lists by number -------------------------------------------------------------------------------------------------
 
@@ -60,73 +52,19 @@ stores_same g c old flags (o ∷ ws) (a ∷ to) i s e h =
     ap (update_stores g (suc i) ws) (h 0 i (omega arith) (omega arith) s)
     ∙ stores_same g c old flags ws to (suc i) _ (omega (arith, e)) (λ j k l r. h (suc j) k (omega (arith, l)) (omega (arith, r)))
 
--- The windows that go -------------------------------------------------------------------------------------------------
+-- A refused call ------------------------------------------------------------------------------------------------------
 
-pub collects_none : {Stay : ℕ → Type 0} {order : List WinId} → length order ≡ 16 → Collects Stay 0 0 order
-collects_none e =
-    record {
-      size = e;
-      few = omega arith;
-      low = λ p l. absurd (not-suc-le-zero l);
-      rises = λ p q l k. absurd (not-suc-le-zero k);
-      only = λ p l. absurd (not-suc-le-zero l);
-      rest = λ i l out. absurd (not-suc-le-zero l);
-    }
-
-module _ {Stay : ℕ → Type 0} {k n : ℕ} {order : List WinId} (q : Collects Stay k n order) where
-  -- window k goes
-  pub collects_more : k < 16 → (Stay k → ⊥) → {w : WinId} {n' : ℕ} {order' : List WinId} → w.0 ≡ k → order' ≡ set order n w → n' ≡ n + 1
-      → Collects Stay (k + 1) n' order'
-  collects_more l goes {w} {n'} {order'} w_is order_is n_is = subst₂ (Collects Stay (k + 1)) (sym n_is) (sym order_is) more
-    where
-      inside : n < length order
-      inside = omega (arith, q.few, q.size, l)
-
-      before : (p : ℕ) → p < n → get_or (set order n w) p no_id ≡ get_or order p no_id
-      before p m = get_or-set_other order n p w no_id (λ e. absurd (not-suc-le-zero {n = 0} (omega (arith, m, e))))
-
-      last : (get_or (set order n w) n no_id).0 ≡ k
-      last = ap (λ (v : WinId). v.0) (get_or-set_same order n w no_id inside) ∙ w_is
-
-      among : (i : ℕ) → i < k + 1 → ((p : ℕ) → p < n + 1 → (get_or (set order n w) p no_id).0 ≡ i → ⊥) → Dec (i ≡ k) → Stay i
-      among i m out (yes e) = absurd (out n (omega arith) (last ∙ sym e))
-      among i m out (no d) =
-          q.rest i (omega (arith, m, d)) (λ p b e. out p (omega (arith, b)) (ap (λ (v : WinId). v.0) (before p b) ∙ e))
-
-      more : Collects Stay (k + 1) (n + 1) (set order n w)
-      more = record {
-        size = length-set order n w ∙ q.size;
-        few = omega (arith, q.few);
-        low = λ p m. set_in (λ (v : WinId). v.0 < k + 1) order n p w no_id (λ _. inside) (λ _. omega (arith, w_is))
-            (λ e. let b = q.low p (omega (arith, m, e)) in omega (arith, b));
-        rises = λ a b m j. subst (λ (v : WinId). v.0 < (get_or (set order n w) b no_id).0) (sym (before a (omega (arith, m, j))))
-            (set_in (λ (v : WinId). (get_or order a no_id).0 < v.0) order n b w no_id (λ _. inside)
-            (λ e. let x = q.low a (omega (arith, m, e)) in omega (arith, x, w_is)) (λ e. q.rises a b m (omega (arith, j, e))));
-        only = λ p m. set_in (λ (v : WinId). Stay v.0 → ⊥) order n p w no_id (λ _. inside) (λ _ stay. goes (subst Stay w_is stay))
-            (λ e. q.only p (omega (arith, m, e)));
-        rest = λ i m out. among i m out (ℕ_discrete i k);
+module _ (s : Session) (h : Given s) (store : List ℕ) where
+  refused : (n : ℕ) → (does (group s) (UpdateDims store)).answer ≡ suc n → MeetsStore (UpdateDims store) s (done s (suc n)) store
+  refused n e =
+      record {
+        meets = refuses (UpdateDims store) s n h e;
+        stored = sym (refused_store (group s) (UpdateDims store) store refl (ap (λ (a : ℕ). eqb a 0) e ∙ eqb-suc-zero n));
       }
 
-  -- window k stays
-  pub collects_past : Stay k → {n' : ℕ} {order' : List WinId} → order' ≡ order → n' ≡ n → Collects Stay (k + 1) n' order'
-  collects_past stay order_is n_is = subst₂ (Collects Stay (k + 1)) (sym n_is) (sym order_is) past
-    where
-      among : (i : ℕ) → i < k + 1 → ((p : ℕ) → p < n → (get_or order p no_id).0 ≡ i → ⊥) → Dec (i ≡ k) → Stay i
-      among i m out (yes e) = subst Stay (sym e) stay
-      among i m out (no d) = q.rest i (omega (arith, m, d)) out
-
-      past : Collects Stay (k + 1) n order
-      past = record {
-        size = q.size;
-        few = omega (arith, q.few);
-        low = λ p m. let b = q.low p m in omega (arith, b);
-        rises = q.rises;
-        only = q.only;
-        rest = λ i m out. among i m out (ℕ_discrete i k);
-      }
-
-  pub collects_all : k ≤ 16 → 16 ≤ k → Collects Stay 16 n order
-  collects_all l m = let e : k ≡ 16 = omega arith in subst (λ (j : ℕ). Collects Stay j n order) e q
+  pub no_store : (length store ≡ 16 * s.shared.c → ⊥) → MeetsStore (UpdateDims store) s (done s 1) store
+  unfolding does Rule.update_dims
+  no_store n = refused 0 (rw (isnt_whole s store n))
 
 -- The questions and the store -----------------------------------------------------------------------------------------
 
@@ -135,9 +73,9 @@ module _ (s : Session) (h : Given s) (f : Frames) (framed : Framed s 16 f) (m : 
   abbrev c : ℕ
   c = s.shared.c
 
-  pub moves_of : MovesOf s m
+  pub goes_to : MovesOf s m
   unfolding group
-  moves_of i l = record {
+  goes_to i l = record {
     flag = to.resized i l ∙ ap (λ (b : Bool). b && get_or s.shared.maximised i false) (framed.used i l);
     at = to.at i l ∙ ap (λ (a : Rect16). updated_at (regions s.displays) (resizes m i) (rect_of a)) (framed.at i l);
     small = to.small i l;
@@ -150,17 +88,17 @@ module _ (s : Session) (h : Given s) (f : Frames) (framed : Framed s 16 f) (m : 
   -- of one window: it is not in use, or it is
   module _ (i : ℕ) (l : i < 16) where
     unused : (window_at s i).used ≡ false → (win_at (group s) i ≡ none) × (resizes m i ≡ false)
-    unused u = (cell_at s i ∙ no_cell (window_at s i) u, (moves_of i l).flag ∙ rw u refl)
+    unused u = (cell_at s i ∙ no_cell (window_at s i) u, (goes_to i l).flag ∙ rw u refl)
 
     in_use : (window_at s i).used ≡ true → (win_at (group s) i ≡ some (win_of (window_at s i))) × (resizes m i ≡ is_maximised (group s) i)
-    in_use u = (cell_at s i ∙ is_cell (window_at s i) u, (moves_of i l).flag ∙ rw u refl)
+    in_use u = (cell_at s i ∙ is_cell (window_at s i) u, (goes_to i l).flag ∙ rw u refl)
 
     fits_one : update_fits (group s) i (win_at (group s) i) ≡ not (resizes m i) || fits c (place m.areas i)
     unfolding group
     fits_one = go (window_at s i).used refl
       where
         by : (b : Bool) → resizes m i ≡ b → not b || fits c (updated_at (regions s.displays) true (rect_of (window_at s i).at)) ≡ not b || fits c (place m.areas i)
-        by true e = ap (fits c) (sym ((moves_of i l).at ∙ ap (λ (t : Bool). updated_at (regions s.displays) t (rect_of (window_at s i).at)) e))
+        by true e = ap (fits c) (sym ((goes_to i l).at ∙ ap (λ (t : Bool). updated_at (regions s.displays) t (rect_of (window_at s i).at)) e))
         by false e = refl
 
         go : (b : Bool) → (window_at s i).used ≡ b → update_fits (group s) i (win_at (group s) i) ≡ not (resizes m i) || fits c (place m.areas i)
@@ -183,7 +121,7 @@ module _ (s : Session) (h : Given s) (f : Frames) (framed : Framed s 16 f) (m : 
         by : (b : Bool) → resizes m i ≡ b → ruled b t ≡ cond b (resized_store (i * c) c (place f.areas i) (place m.areas i) t) t
         by true e =
             let was = sym (framed.at i l) in
-            let goal = sym ((moves_of i l).at ∙ ap (λ (b : Bool). updated_at (regions s.displays) b (rect_of (window_at s i).at)) e) in
+            let goal = sym ((goes_to i l).at ∙ ap (λ (b : Bool). updated_at (regions s.displays) b (rect_of (window_at s i).at)) e) in
             λ j. resized_store (i * c) c (rect_of (was j)) (goal j) t
         by false e = refl
 
@@ -207,52 +145,19 @@ module _ (s : Session) (h : Given s) (f : Frames) (framed : Framed s 16 f) (m : 
       stores_same (group s) c f.areas m.resizes (group s).windows m.areas 0 store (sixteen ∙ sym to.all)
       (λ j k e l t. let q : k ≡ j = omega (arith, e) in rw q (store_one j (omega (arith, l, sixteen)) t))
 
-  -- The ends
-
-  -- the plan of a refused call, which has no turn
-  abbrev None : ℕ → DimsPlan → Type 0
-  None n t = (t.n ≡ 0) × (t.answer ≡ n) × (t.what.moves ≡ m)
-
-  refused : (store : List ℕ) (n : ℕ) → (does (group s) (UpdateDims store)).answer ≡ suc n → (t : DimsPlan) → None (suc n) t → Plans s store t store
-  refused store n e t (z, a, k) =
-      record {
-        answer = a ∙ sym e;
-        stored = sym (refused_store (group s) (UpdateDims store) store refl (ap (λ (a : ℕ). eqb a 0) e ∙ eqb-suc-zero n));
-        moves = subst (MovesOf s) (sym k) moves_of;
-        accepted = λ y. let f : ◌≡◌ {A = ℕ} (suc n) 0 = sym a ∙ y in absurd (omega (arith, f));
-        refused = λ _. z;
-      }
-
-  pub no_store : (store : List ℕ) → (length store ≡ 16 * c → ⊥) → (t : DimsPlan) → None 1 t → Plans s store t store
-  unfolding does Rule.update_dims
-  no_store store n = refused store 0 (rw (isnt_whole s store n))
-
   module _ (store : List ℕ) (whole : length store ≡ 16 * c) where
-    pub too_large : {b : Bool} → b ≡ all_fit c m → b ≡ false → (t : DimsPlan) → None 6 t → Plans s store t store
+    pub too_large : {b : Bool} → b ≡ all_fit c m → b ≡ false → MeetsStore (UpdateDims store) s (done s 6) store
     unfolding does Rule.update_dims
-    too_large e n = refused store 5 (rw (is_whole s store whole, fits_all ∙ sym e ∙ n))
+    too_large e n = refused s h store 5 (rw (is_whole s store whole, fits_all ∙ sym e ∙ n))
 
     module _ {b : Bool} (e : b ≡ all_fit c m) (y : b ≡ true) where
-      -- the plan of an accepted call, whose turns are of the windows that go
-      pub plans : (after : List ℕ) → after ≡ all_resized c f.areas m.resizes 0 m.areas store
-          → (t : DimsPlan) → Collects (StaysAt f.areas m) 16 t.n t.what.order × (t.answer ≡ 0) × (t.what.moves ≡ m) → Plans s store t after
+      pub accepted : (does (group s) (UpdateDims store)).answer ≡ 0
       unfolding does Rule.update_dims
-      plans after same t (o, a, k) =
-          let fit : every_fits (group s) ≡ true = fits_all ∙ sym e ∙ y in
-          record {
-            answer = a ∙ rw (is_whole s store whole, fit);
-            stored = same ∙ sym (stores_all store) ∙ rw (is_whole s store whole, fit);
-            moves = subst (MovesOf s) (sym k) moves_of;
-            accepted = λ _. subst (λ (x : Moves). Collects (Stays s x) 16 t.n t.what.order) (sym k) (record {
-              size = o.size;
-              few = o.few;
-              low = o.low;
-              rises = o.rises;
-              only = λ p l (g, q). o.only p l (g, q ∙ sym (ap rect_of (framed.at _ (o.low p l))));
-              rest = λ i l out. let (g, q) = o.rest i l out in (g, q ∙ ap rect_of (framed.at i l));
-            });
-            refused = λ n. absurd (n a);
-          }
+      accepted = rw (is_whole s store whole, fits_all ∙ sym e ∙ y)
+
+      pub stored : (after : List ℕ) → after ≡ all_resized c f.areas m.resizes 0 m.areas store → after ≡ (does (group s) (UpdateDims store)).store
+      unfolding does Rule.update_dims
+      stored after same = same ∙ sym (stores_all store) ∙ rw (is_whole s store whole, fits_all ∙ sym e ∙ y)
 
       -- a window that takes a display has its old and its new rows in its C pixels
       pub roomy : Roomy (length store) c f.areas m
@@ -262,7 +167,7 @@ module _ (s : Session) (h : Given s) (f : Frames) (framed : Framed s 16 f) (m : 
         whole = whole;
         c≤ = (given_ok s h).c_high;
         had = λ i l t.
-            let u : (window_at s i).used ≡ true = fst (window_at s i).used (is_maximised (group s) i) (sym (moves_of i l).flag ∙ t) in
+            let u : (window_at s i).used ≡ true = fst (window_at s i).used (is_maximised (group s) i) (sym (goes_to i l).flag ∙ t) in
             subst (λ (a : Rect16). width (rect_of a) * height (rect_of a) ≤ c) (sym (framed.at i l))
             (subst (λ (w : Win). width w.at * height w.at ≤ c) (win_at_lem s i u) ((given_ok s h).fits i).area≤);
         gets = λ i l t.

@@ -22,8 +22,7 @@ use Rattle.order.specs.inner.Order.{render_idx}
 use Rattle.order.specs.inner.Layers.{Raised}
 use Rattle.windows.specs.declared.Shared.{Shared}
 use Rattle.windows.specs.declared.Session.{Session}
-use Rattle.windows.specs.declared.Done.{Done}
-use Rattle.windows.specs.View.{walk_of, group, window_at, Rep, Given, Meets, done}
+use Rattle.windows.specs.View.{Done, walk_of, group, window_at, Rep, Given, Meets, done}
 use Rattle.windows.specs.inner.One.{Holds, with_window}
 use Rattle.windows.specs.inner.Pixels.{Becomes}
 use Rattle.windows.specs.inner.Sharing.{ordered, sharing, indebted}

@@ -1,10 +1,13 @@
 -- The rule of route by where the event goes, and each end of the call.
-use Prim.Native.Nat.{ℕ, zero, suc, ◌-◌, ◌≤◌}
+use Prim.Native.Nat.{ℕ, suc, ◌-◌, ◌≤◌}
 use mathlib.Core.Path.{◌≡◌, refl, sym, ap, subst, ◌∙◌}
 use mathlib.Core.Bool.{true, false, ◌&&◌}
 use mathlib.Core.List.{List, [], ◌∷◌}
 use mathlib.Core.Option.{Option, none, some}
-use lib.Dec.{eqb, eqb-suc-zero}
+use Rattle.std.specs.Prelude.{Result, Ok, Err, Some, None}
+use Rattle.std.specs.Prelude as Std
+use Rattle.geom.specs.declared.refusal.Refusal.{Refusal}
+use Rattle.geom.specs.Refusals.{number}
 use Rattle.geom.specs.Questions.{Question, ◌is◌, small}
 use Rattle.geom.specs.Geom.{left, top}
 use Rattle.window.specs.declared.Event.{Event}
@@ -21,7 +24,7 @@ use Rattle.order.specs.Ids.{grab_of}
 use Rattle.topmost.specs.inner.Topmost as Topmost
 use Rattle.windows.specs.declared.Session.{Session}
 use Rattle.windows.specs.declared.inner.events.Target.{Target}
-use Rattle.windows.specs.declared.inner.events.Target.TheVariants.{Nobody, Focus, Point}
+use Rattle.windows.specs.declared.inner.events.Target.TheVariants.{Focus, Point}
 use Rattle.windows.specs.View.{group, window_at, Given, Meets, done}
 use Rattle.windows.specs.inner.One.{with_window}
 use Rattle.windows.specs.inner.Events.{target_of, at_point, grab_after, Tellable, takes, told, ToldTo}
@@ -29,13 +32,24 @@ use Rattle.windows.specs.inner.Aimed.{remembered}
 use Rattle.windows.proofs.laws.Session.{refuses, gives}
 use Rattle.windows.proofs.laws.Telling.{tells}
 
+-- what the code finds of where an event goes
+abbrev pub Goes : Type 0
+Goes = Result (Std.Option Target) Refusal
+
+abbrev pub to_focus : Goes
+to_focus = Ok (Some Focus)
+
+abbrev pub to_a_point : WinId → ℕ → ℕ → Goes
+to_a_point m x y = Ok (Some (Point m x y))
+
 -- What can be told ---------------------------------------------------------------------------------------------------
 
 -- an event that goes to a window has no point beyond 32,767 if its target has none
-abbrev Low : Target → Type 0
-Low (Nobody n) = ⊥
-Low Focus = Unit {0}
-Low (Point m x y) = (x ≤ 32767) × (y ≤ 32767)
+abbrev Low : Goes → Type 0
+Low (Err refusal) = ⊥
+Low (Ok None) = ⊥
+Low (Ok (Some Focus)) = Unit {0}
+Low (Ok (Some (Point m x y))) = (x ≤ 32767) × (y ≤ 32767)
 
 tellable : (e : Event) (m : WinId) → Low (target_of e m) → Tellable e
 tellable Resize m h = absurd h
@@ -48,14 +62,15 @@ tellable (MouseDown x y b) m h = h
 tellable (MouseClick x y b n) m h = h
 tellable (MouseUp x y b) m h = h
 
-pub key_tellable : (e : Event) (m : WinId) → target_of e m ≡ Focus → Tellable e
+pub key_tellable : (e : Event) (m : WinId) → target_of e m ≡ to_focus → Tellable e
 key_tellable e m k = tellable e m (subst Low (sym k) tt)
 
 -- a pointer event may be told at any point of a window
-abbrev IsPoint : Target → Type 0
-IsPoint (Nobody n) = ⊥
-IsPoint Focus = ⊥
-IsPoint (Point m x y) = Unit {0}
+abbrev IsPoint : Goes → Type 0
+IsPoint (Err refusal) = ⊥
+IsPoint (Ok None) = ⊥
+IsPoint (Ok (Some Focus)) = ⊥
+IsPoint (Ok (Some (Point m x y))) = Unit {0}
 
 at_point_lem : (e : Event) (m : WinId) → IsPoint (target_of e m) → (x y : ℕ) → x ≤ 32767 → y ≤ 32767 → Tellable (at_point e x y)
 at_point_lem Resize m p x y h k = absurd p
@@ -68,14 +83,15 @@ at_point_lem (MouseDown _ _ b) m p x y h k = (h, k)
 at_point_lem (MouseClick _ _ b n) m p x y h k = (h, k)
 at_point_lem (MouseUp _ _ b) m p x y h k = (h, k)
 
-pub point_tellable : (e : Event) (m : WinId) {n : WinId} {px py : ℕ} → target_of e m ≡ Point n px py → (x y : ℕ) → x ≤ 32767 → y ≤ 32767 → Tellable (at_point e x y)
+pub point_tellable : (e : Event) (m : WinId) {n : WinId} {px py : ℕ} → target_of e m ≡ to_a_point n px py → (x y : ℕ) → x ≤ 32767 → y ≤ 32767 → Tellable (at_point e x y)
 point_tellable e m p = at_point_lem e m (subst IsPoint (sym p) tt)
 
 -- at a point an event is for nobody that is remembered, or for the one that is
-abbrev AtPoint : (WinId → Type 0) → Target → Type 0
-AtPoint P (Nobody n) = Unit {0}
-AtPoint P Focus = Unit {0}
-AtPoint P (Point m x y) = P m
+abbrev AtPoint : (WinId → Type 0) → Goes → Type 0
+AtPoint P (Err refusal) = Unit {0}
+AtPoint P (Ok None) = Unit {0}
+AtPoint P (Ok (Some Focus)) = Unit {0}
+AtPoint P (Ok (Some (Point m x y))) = P m
 
 by_point : (P : WinId → Type 0) (e : Event) (m : WinId) → P Topmost.nobody → P m → AtPoint P (target_of e m)
 by_point P Resize m p q = tt
@@ -88,7 +104,7 @@ by_point P (MouseDown x y b) m p q = p
 by_point P (MouseClick x y b n) m p q = p
 by_point P (MouseUp x y b) m p q = q
 
-pub grab_point : (P : WinId → Type 0) (e : Event) {m n : WinId} {x y : ℕ} → target_of e m ≡ Point n x y → P Topmost.nobody → P m → P n
+pub grab_point : (P : WinId → Type 0) (e : Event) {m n : WinId} {x y : ℕ} → target_of e m ≡ to_a_point n x y → P Topmost.nobody → P m → P n
 grab_point P e {m} k p q = subst (AtPoint P) k (by_point P e m p q)
 
 -- The rule by the target ---------------------------------------------------------------------------------------------
@@ -123,10 +139,11 @@ abbrev pub released : Group → Event → ℕ → ℕ → Option ℕ → Outcome
 released g e x y none = topped g e x y (topmost g x y)
 released g e x y (some id) = pointed g (near g e x y) x y (some id) (grab_after e (some id) g.grab)
 
-abbrev routed : Group → Event → Target → Outcome
-routed g e (Nobody n) = leaves ((n is eqb n 0) ∷ []) g g
-routed g e Focus = keyed g e g.focus
-routed g e (Point m x y) = released g e x y (grabber g (grab_of m))
+abbrev routed : Group → Event → Goes → Outcome
+routed g e (Err refusal) = leaves ((number refusal is false) ∷ []) g g
+routed g e (Ok None) = leaves [] g g
+routed g e (Ok (Some Focus)) = keyed g e g.focus
+routed g e (Ok (Some (Point m x y))) = released g e x y (grabber g (grab_of m))
 
 route_is : (g : Group) (e : Event) (m : WinId) → grab_of m ≡ g.grab → does g (Route e) ≡ routed g e (target_of e m)
 unfolding does Rule.route
@@ -148,22 +165,27 @@ route_is g (MouseUp x y b) m q =
 -- The ends of the call -----------------------------------------------------------------------------------------------
 
 module _ (s : Session) (e : Event) (h : Given s) where
-  aimed : {t : Target} → target_of e s.shared.grab ≡ t → does (group s) (Route e) ≡ routed (group s) e t
+  aimed : {t : Goes} → target_of e s.shared.grab ≡ t → does (group s) (Route e) ≡ routed (group s) e t
   unfolding group
   aimed k = route_is (group s) e s.shared.grab refl ∙ ap (routed (group s) e) k
 
-  -- to no window, with the answer n
-  pub nobody : (n : ℕ) → target_of e s.shared.grab ≡ Nobody n → Meets (Route e) s (done s n)
-  nobody zero k = gives (Route e) s s h h.rep (ap (λ (o : Outcome). o.answer) (aimed k)) (sym (ap (λ (o : Outcome). o.group) (aimed k)))
-  nobody (suc n) k = refuses (Route e) s n h (ap (λ (o : Outcome). o.answer) (aimed k) ∙ rw (eqb-suc-zero n))
+  -- to no window
+  pub nobody : target_of e s.shared.grab ≡ Ok None → Meets (Route e) s (done s 0)
+  nobody k = gives (Route e) s s h h.rep (ap (λ (o : Outcome). o.answer) (aimed k)) (sym (ap (λ (o : Outcome). o.group) (aimed k)))
 
-  module _ (k : target_of e s.shared.grab ≡ Focus) where
-    to_focus : does (group s) (Route e) ≡ keyed (group s) e s.shared.focus.0
+  -- refused before any window is looked for
+  pub unroutable : (n : ℕ) {refusal : Refusal} → number refusal ≡ suc n → target_of e s.shared.grab ≡ Err refusal
+      → Meets (Route e) s (done s (suc n))
+  unroutable n {refusal} q k =
+      refuses (Route e) s n h (ap (λ (o : Outcome). o.answer) (aimed k) ∙ ap (λ (j : ℕ). (leaves ((j is false) ∷ []) (group s) (group s)).answer) q)
+
+  module _ (k : target_of e s.shared.grab ≡ to_focus) where
+    keyed_there : does (group s) (Route e) ≡ keyed (group s) e s.shared.focus.0
     unfolding group
-    to_focus = aimed k
+    keyed_there = aimed k
 
     pub no_focus : shown (group s) s.shared.focus.0 ≡ false → Meets (Route e) s (done s 11)
-    no_focus n = refuses (Route e) s 10 h (ap (λ (o : Outcome). o.answer) to_focus ∙ rw n)
+    no_focus n = refuses (Route e) s 10 h (ap (λ (o : Outcome). o.answer) keyed_there ∙ rw n)
 
     pub focus_told : shown (group s) s.shared.focus.0 ≡ true → (window_at s s.shared.focus.0).used ≡ true
         → (v : Window) (a : ℕ) → ToldTo (window_at s s.shared.focus.0) e v a
@@ -171,9 +193,9 @@ module _ (s : Session) (e : Event) (h : Given s) where
     unfolding group
     focus_told n u v a to =
         tells (Route e) s s.shared.focus.0 e v a h u to s.shared.grab (group s).grab refl
-        (key_asks (group s) e s.shared.focus.0) to_focus (rw n)
+        (key_asks (group s) e s.shared.focus.0) keyed_there (rw n)
 
-  module _ (m : WinId) (x y : ℕ) (k : target_of e s.shared.grab ≡ Point m x y) where
+  module _ (m : WinId) (x y : ℕ) (k : target_of e s.shared.grab ≡ to_a_point m x y) where
     pub to_point : {o : Option ℕ} → grabber (group s) (grab_of m) ≡ o → does (group s) (Route e) ≡ released (group s) e x y o
     to_point q = aimed k ∙ ap (released (group s) e x y) q
 

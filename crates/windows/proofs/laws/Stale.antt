@@ -1,58 +1,60 @@
 -- What is stale: each window has the regions that the code lends, those of the course have all that would be written,
 -- and the sides that were found are those of the smallest rectangle.
 use Prim.Native.Nat.{ℕ, suc, ◌+◌, ◌-◌, ◌≤◌, ◌<◌}
-use mathlib.Core.Path.{◌≡◌, refl, sym, ap, subst, subst₂, ◌∙◌}
-use mathlib.Core.Bool.{Bool, true, false, cond, not, ◌&&◌, ◌||◌, and-false, or-false}
+use mathlib.Core.Path.{◌≡◌, refl, sym, ap, subst, ◌∙◌}
+use mathlib.Core.Bool.{Bool, true, false, cond, not, ◌&&◌, ◌||◌, and-false, or-false, or_assoc}
 use mathlib.Core.Logic.{⊎_elim}
-use mathlib.Core.List.{List, [], ◌∷◌, map, map-append}
+use mathlib.Core.List.{List, [], ◌∷◌, ◌++◌, map, map-append}
 use mathlib.Core.Option.{Option, none, some}
 use native.Mathlib.Omega.{arith}
-use lib.Dec.{leb, ltb, eqb}
-use lib.ListN.{get_or, set, length-set}
-use lib.Seq.{take_all}
-use borrow.Author.Tests.{lt-ltb, ltb-true, ltb-false, leb-true, le-leb, eq-eqb}
+use lib.Dec.{leb, ltb, eqb, eqb-suc-zero}
+use lib.ListN.{length, get_or, take, drop, length-drop}
+use lib.Seq.{take_all, take-suc}
+use Rattle.std.proofs.lemmas.List.{get_or-drop}
+use Rattle.std.specs.Prelude.{Err}
+use Rattle.geom.specs.declared.refusal.Refusal.{Refusal}
+use Rattle.geom.specs.declared.refusal.Refusal.TheVariants.{TooLarge}
+use Rattle.geom.specs.Refusals.{number}
+use Rattle.geom.specs.Questions.{◌is◌, asked}
+use borrow.Author.Tests.{ltb-true, ltb-false, leb-true, le-leb, eq-eqb}
 use Rattle.geom.specs.declared.Rect.{Rect}
 use Rattle.geom.specs.Geom.{rect, small_rect, contains, meets}
 use Rattle.geom.specs.inner.Fits.{Fits}
 use Rattle.geom.specs.Lists.{outside_all, meets_of, list_intersect, any_has}
-use Rattle.geom.specs.declared.inner.rect16.Rect16.{Rect16}
 use Rattle.geom.specs.Rect16.{Small, rect_of}
-use Rattle.geom.proofs.basics.Tests.{is_false, clash, fst, snd, both, on_cond}
-use Rattle.geom.proofs.basics.Lists.{set_in}
+use Rattle.geom.proofs.basics.Tests.{is_false, clash, fst, snd, on_cond}
 use Rattle.geom.proofs.geometry.Cover.{any_has_append}
 use Rattle.geom.proofs.geometry.Facts.{says_in, says_meet}
 use Rattle.geom.proofs.geometry.Pieces.{left_within}
 use Rattle.window.specs.declared.Window.{Window}
-use Rattle.window.specs.declared.damage.Damage.{Damage}
 use Rattle.window.specs.declared.ids.WinId.{WinId}
 use Rattle.window.specs.Window.{Win}
 use Rattle.window.specs.Represents.{rects}
 use Rattle.window.specs.inner.Ids.{no_id}
 use Rattle.rules.specs.Group.{Group, win}
-use Rattle.rules.specs.Order.{is_in}
 use Rattle.rules.specs.Redraw.{none?, onto, hit}
 use Rattle.rules.specs.Stale.{goes_through, in_full, is_stale, smallest, Smallest, IsSmallest, can_be_meant, stale}
 use Rattle.rules.specs.Visible.{visible}
 use Rattle.rules.specs.Walk.{begun, hit_any}
 use Rattle.rules.specs.inner.Lent.{AllFit}
 use Rattle.rules.proofs.demand.Smallest.{smallest_is, smallest_unique}
-use Rattle.order.specs.inner.Order.{Places}
-use Rattle.order.specs.inner.Rects.{full_rect}
+use Rattle.order.specs.declared.rects.Rects.{Rects}
+use Rattle.order.specs.inner.Rects.{Holds, full_rect, dirty_of}
+use Rattle.windows.proofs.laws.Drawn.{fit_drop, rest_is}
+use Rattle.order.proofs.laws.Order.{drop_map}
 use Rattle.visible.specs.declared.extents.Extents.{Extents}
 use Rattle.visible.specs.inner.Extents.{nothing, Spans, Joins}
 use Rattle.visible.proofs.laws.Extents.{spans_none, spans_same, joins_same}
 use Rattle.windows.specs.declared.Session.{Session}
-use Rattle.windows.specs.declared.Stale.{Stale}
 use Rattle.windows.specs.declared.stale_rect.Course.{Course}
-use Rattle.windows.specs.View.{walk_of, group, blank, window_at, Given, stale_of}
-use Rattle.windows.specs.inner.Stale.{Gathered, between, course_of, seen, written, found_by}
-use Rattle.windows.proofs.laws.Session.{given_ok}
-use Rattle.windows.proofs.laws.Places.{order_length, order_low, id_at, shown_at, win_there, above_there}
+use Rattle.windows.specs.View.{walk_of, group, window_at, Given, stale_in, stale_of}
+use Rattle.windows.specs.inner.Stale.{between, course_of, seen, written, written_in, found_by}
+use Rattle.windows.proofs.laws.Refused.{before}
+use Rattle.windows.proofs.laws.Places.{order_length, id_at, shown_at, win_there, above_there}
 use Rattle.windows.proofs.laws.Above.{higher}
-use Rattle.windows.proofs.laws.Listed.{visible_is}
+use Rattle.windows.proofs.laws.Above.{visible_is}
 use Rattle.windows.proofs.laws.Full.{cut_whole, parts_fit}
 use Rattle.windows.proofs.laws.Portions.{place_low, walk_is}
-use Rattle.windows.proofs.laws.Course.{below, below_none, below_all, below_more, in_between, not_between, is_among}
 
 -- One window ------------------------------------------------------------------------------------------------------------
 
@@ -88,23 +90,34 @@ module _ (at : Rect) (px py : ℕ) where
 abbrev pub Parts : Rect → Rect → List Rect → Extents → Extents → Type 0
 Parts at area rs e r = Joins (λ px py. contains area px py && any_has (map (onto at) rs) px py) e r
 
-module _ (at area : Rect) (above : List Rect) (e r : Extents) where
-  -- the full rectangle was lent, for a window that lies there
-  pub whole_joins : Small at → (q : Rect) → q ≡ at → Parts q area (list_intersect (seen q above) (full_rect ∷ [])) e r → Parts at area (seen at above) e r
-  whole_joins s q is j =
-      joins_same (λ px py. ap (λ (t : Bool). contains area px py && t) (whole_has at px py s above))
-      (subst (λ (x : Rect). Parts x area (list_intersect (seen x above) (full_rect ∷ [])) e r) is j)
+-- the entries that a redraw takes for dirty were lent
+pub written_joins : (at area : Rect) (above : List Rect) (e r : Extents) → Small at → (full : Bool) (damage : List Rect) {ds : List Rect}
+    → ds ≡ dirty_of full damage → Parts at area (list_intersect (seen at above) ds) e r → Parts at area (written at damage full above) e r
+written_joins at area above e r s full damage same j = go (full || none? damage) (subst (λ (d : List Rect). Parts at area (list_intersect (seen at above) d) e r) same j)
+  where
+    go : (t : Bool) → Parts at area (list_intersect (seen at above) (cond t (full_rect ∷ []) damage)) e r
+        → Parts at area (cond t (seen at above) (list_intersect (seen at above) damage)) e r
+    go true j = joins_same (λ px py. ap (λ (t : Bool). contains area px py && t) (whole_has at px py s above)) j
+    go false j = j
 
-  module _ (full : Bool) (damage : List Rect) where
-    -- all that is seen is written
-    pub all_joins : full || none? damage ≡ true → Parts at area (seen at above) e r → Parts at area (written at damage full above) e r
-    all_joins t j = rw t j
+-- a window under some rectangles, if it is drawn
+module _ (area : Rect) (full : Bool) (w : Window) (above : List Rect) where
+  pub undrawn : {e : Extents} → full || w.marked ≡ false → Joins (written_in area full w above) e e
+  undrawn n =
+      record {
+        spans = λ p q.
+            spans_same
+            (λ px py.
+            sym (ap (λ (t : Bool). p px py || (contains area px py && (t && any_has (map (onto (rect_of w.at)) (written (rect_of w.at) (rects w.damage) full above)) px py))) n
+            ∙ ap (λ (t : Bool). p px py || t) (and-false (contains area px py)) ∙ or-false (p px py))) q;
+      }
 
-    -- the entries were lent
-    pub part_joins : full || none? damage ≡ false → (q : Rect) (ds : List Rect) → q ≡ at → ds ≡ damage
-        → Parts q area (list_intersect (seen q above) ds) e r → Parts at area (written at damage full above) e r
-    part_joins t q ds is same j =
-        rw t (subst₂ (λ (x : Rect) (d : List Rect). Parts x area (list_intersect (seen x above) d) e r) is same j)
+  pub drawn : {e r : Extents} → full || w.marked ≡ true → Small (rect_of w.at) → {ds : List Rect} → ds ≡ dirty_of full (rects w.damage)
+      → Parts (rect_of w.at) area (list_intersect (seen (rect_of w.at) above) ds) e r → Joins (written_in area full w above) e r
+  drawn {e} {r} y small dirty j =
+      joins_same
+      (λ px py. ap (λ (t : Bool). contains area px py && (t && any_has (map (onto (rect_of w.at)) (written (rect_of w.at) (rects w.damage) full above)) px py)) (sym y))
+      (written_joins (rect_of w.at) area above e r small full (rects w.damage) dirty j)
 
 -- the id v was read at place i of a session: what the rule writes of its window
 hit_at : (s : Session) (h : Given s) (i : ℕ) (l : i < s.shared.shown) (v : WinId) → v ≡ get_or s.shared.order i no_id → (full : Bool) (px py : ℕ)
@@ -116,156 +129,80 @@ hit_at s h i l v read full px py =
     (ap (map (λ j. (win (group s) j).at)) (above_there s h i l v read)) in
     rw (e, win_there s h i l v read) refl
 
--- One window more -------------------------------------------------------------------------------------------------------
-
-pub dirty_more : (s : Session) (i : ℕ) (marked : List Bool) (damage : List Damage) → i < 16 → Gathered s i (record { marked = marked; damage = damage })
-    → Gathered s (i + 1) (record { marked = set marked i (window_at s i).marked; damage = set damage i (window_at s i).damage })
-dirty_more s i marked damage low f =
-    record {
-      flags = length-set marked i (window_at s i).marked ∙ f.flags;
-      lists = length-set damage i (window_at s i).damage ∙ f.lists;
-      marked = λ j h. set_in (λ (b : Bool). b ≡ (window_at s j).marked) marked i j (window_at s i).marked false (λ _. omega (arith, f.flags))
-          (λ q. ap (λ (k : ℕ). (window_at s k).marked) (sym q)) (λ n. f.marked j (omega (arith, h, n)));
-      damage = λ j h. set_in (λ (d : Damage). d ≡ (window_at s j).damage) damage i j (window_at s i).damage blank.damage (λ _. omega (arith, f.lists))
-          (λ q. ap (λ (k : ℕ). (window_at s k).damage) (sym q)) (λ n. f.damage j (omega (arith, h, n)));
-    }
-
 -- The windows of a course -----------------------------------------------------------------------------------------------
-
--- the extents of what would be written of those whose numbers are below i, inside the area
-pub record Joining (s : Session) (full : Bool) (area : Rect) (a b : ℕ) (e : Extents) (i : ℕ) : Type 0 where
-  pub within : i ≤ 16
-  pub spans : Spans (λ px py. contains area px py && hit_any (group s) full (below i (between a b (group s).order)) px py) e
 
 split : (c u v : Bool) → (c && u) || (c && v) ≡ c && (u || v)
 split true u v = refl
 split false u v = refl
 
-module _ (s : Session) (h : Given s) (full : Bool) (area : Rect) (a b : ℕ) where
-  abbrev os : List ℕ
-  os = between a b (group s).order
+any_append : (g : Group) (full : Bool) (os rest : List ℕ) (px py : ℕ)
+    → hit_any g full (os ++ rest) px py ≡ hit_any g full os px py || hit_any g full rest px py
+any_append g full [] rest px py = refl
+any_append g full (i ∷ os) rest px py =
+    ap (λ (t : Bool). hit g full i px py || t) (any_append g full os rest px py) ∙ sym (or_assoc (hit g full i px py) _ _)
 
-  abbrev any : ℕ → ℕ → ℕ → Bool
-  any i px py = hit_any (group s) full (below i os) px py
+-- the extents of what would be written of the windows from place a on to before p, inside the area
+abbrev pub Joining : Session → Bool → Rect → ℕ → ℕ → Extents → Type 0
+Joining s full area a p e = Spans (λ px py. contains area px py && hit_any (group s) full (between a p (group s).order) px py) e
 
-  pub join_none : (e : Extents) → e ≡ nothing → Joining s full area a b e 0
-  join_none e n =
-      record {
-        within = omega arith;
-        spans = spans_same (λ px py. sym (ap (λ (o : List ℕ). contains area px py && hit_any (group s) full o px py) (below_none os) ∙ and-false (contains area px py))) (spans_none n);
-      }
+module _ (s : Session) (h : Given s) (full : Bool) (area : Rect) (a : ℕ) where
+  abbrev os : ℕ → List ℕ
+  os p = between a p (group s).order
 
-  order_below : (i : ℕ) → is_in i os ≡ true → i < 16
-  unfolding group
-  order_below i e = order_low s h i (is_among a b (group s).order i e)
-
-  pub join_end : {e : Extents} {i : ℕ} → Joining s full area a b e i → 16 ≤ i
-      → Spans (λ px py. contains area px py && hit_any (group s) full os px py) e
-  join_end {e} {i} q l =
-      let n : i ≡ 16 = omega (arith, q.within) in
+  pub join_none : {e : Extents} → e ≡ nothing → Joining s full area a a e
+  join_none n =
+      let z : a - a ≡ 0 = omega arith in
       spans_same
-      (λ px py. ap (λ (o : List ℕ). contains area px py && hit_any (group s) full o px py) (ap (λ (k : ℕ). below k os) n ∙ below_all 16 os order_below))
-      q.spans
+      (λ px py. sym (ap (λ (k : ℕ). contains area px py && hit_any (group s) full (take k (drop a (group s).order)) px py) z ∙ and-false (contains area px py)))
+      (spans_none n)
 
-  -- a window joins, or has nothing that would be written
-  module _ {e : Extents} {i : ℕ} (q : Joining s full area a b e i) (l : i < 16) where
-    joins_next : (t : ℕ → ℕ → Bool) (r : Extents) → Joins t e r
-        → ((px py : ℕ) → t px py ≡ contains area px py && (is_in i os && hit (group s) full i px py)) → Joining s full area a b r (i + 1)
-    joins_next t r j is =
-        record {
-          within = omega arith;
-          spans = spans_same
-              (λ px py.
-              let c = contains area px py in
-              ap (λ (u : Bool). (c && any i px py) || u) (is px py)
-              ∙ split c (any i px py) (is_in i os && hit (group s) full i px py)
-              ∙ ap (λ (u : Bool). c && u) (sym (below_more (group s) full px py i os)))
-              (j.spans (λ px py. contains area px py && any i px py) q.spans);
-        }
+  -- one window more
+  module _ (p : ℕ) (from : a ≤ p) (l : p < s.shared.shown) where
+    abbrev v : WinId
+    v = get_or s.shared.order p no_id
 
-    skips : ((px py : ℕ) → is_in i os && hit (group s) full i px py ≡ false) → Joining s full area a b e (i + 1)
-    skips unhit =
-        record {
-          within = omega arith;
-          spans = spans_same
-              (λ px py.
-              ap (λ (u : Bool). contains area px py && u)
-              (sym (below_more (group s) full px py i os ∙ ap (λ (u : Bool). any i px py || u) (unhit px py) ∙ or-false (any i px py))))
-              q.spans;
-        }
+    abbrev w : Window
+    w = window_at s v.0
 
-    -- the place of the window of number i
-    module _ (places : List ℕ) (at : Places s.shared.order s.shared.shown places) where
-      abbrev p : ℕ
-      p = get_or places i 0
+    more : os (p + 1) ≡ os p ++ (v.0 ∷ [])
+    more =
+        let n : p + 1 - a ≡ suc (p - a) = omega (arith, from) in
+        let there : a + (p - a) ≡ p = omega (arith, from) in
+        ap (λ (k : ℕ). take k (drop a (group s).order)) n
+        ∙ take-suc (drop a (group s).order) (p - a) 0 (omega (arith, from, length-drop a (group s).order, order_length s h))
+        ∙ ap (λ (i : ℕ). os p ++ (i ∷ []))
+        (get_or-drop a (group s).order (p - a) 0 ∙ ap (λ (k : ℕ). get_or (group s).order k 0) there ∙ id_at s h p l v refl)
 
-      abbrev w : Window
-      w = window_at s i
+    any_more : (px py : ℕ) → hit_any (group s) full (os (p + 1)) px py ≡ hit_any (group s) full (os p) px py || hit (group s) full v.0 px py
+    any_more px py =
+        ap (λ (o : List ℕ). hit_any (group s) full o px py) more
+        ∙ any_append (group s) full (os p) (v.0 ∷ []) px py
+        ∙ ap (λ (t : Bool). hit_any (group s) full (os p) px py || t) (or-false (hit (group s) full v.0 px py))
 
-      stands : (p < s.shared.shown) → (get_or s.shared.order p no_id).0 ≡ i → get_or (group s).order p 0 ≡ i
-      stands k e = id_at s h p k (get_or s.shared.order p no_id) refl ∙ e
+    -- what would be written of it joins
+    pub joined : {e r : Extents} {above : List Rect} → above ≡ higher s (suc p) → Joins (written_in area full w above) e r
+        → Joining s full area a p e → Joining s full area a (p + 1) r
+    joined {e} {r} {above} over j q =
+        spans_same
+        (λ px py.
+        let c = contains area px py in
+        ap (λ (t : Bool). (c && hit_any (group s) full (os p) px py) || t)
+        (ap (λ (bs : List Rect). written_in area full w bs px py) over ∙ ap (λ (t : Bool). c && t) (sym (hit_at s h p l v refl full px py)))
+        ∙ split c (hit_any (group s) full (os p) px py) (hit (group s) full v.0 px py)
+        ∙ ap (λ (t : Bool). c && t) (sym (any_more px py)))
+        (j.spans (λ px py. contains area px py && hit_any (group s) full (os p) px py) q)
 
-      not_there : leb a p && ltb p b ≡ false → is_in i os ≡ false
-      unfolding group
-      not_there n =
-          ⊎_elim
-          (λ k.
-          subst (λ (j : ℕ). is_in j os ≡ false) (stands k.0 k.1)
-          (not_between a b (group s).order (given_ok s h).distinct p (omega (arith, k.0, order_length s h))
-          (λ x y. clash (both (le-leb a p x) (lt-ltb p b y)) n)))
-          (λ k. is_false (λ e. clash (is_among a b (group s).order i e) k.1)) (at.each i l)
+    -- of the rectangles of all shown windows, those behind its own are lent
+    module _ {all : Rects} (held : Holds all (higher s 0)) where
+      pub lent_over : take (s.shared.shown - (p + 1)) (drop (p + 1) all.rects) ≡ higher s (suc p)
+      lent_over = rest_is s h p l v refl held
 
-      pub outside : leb a p && ltb p b ≡ false → Joining s full area a b e (i + 1)
-      outside n = skips (λ px py. ap (λ (t : Bool). t && hit (group s) full i px py) (not_there n))
-
-      module _ (inside : leb a p && ltb p b ≡ true) (few : b ≤ 16) where
-        pub here : (p < s.shared.shown) × ((get_or s.shared.order p no_id).0 ≡ i)
-        here =
-            ⊎_elim (λ k. k)
-            (λ k. let y = ltb-true p b (snd (leb a p) (ltb p b) inside) in absurd (omega (arith, k.0)))
-            (at.each i l)
-
-        among : is_in i os ≡ true
-        among =
-            subst (λ (j : ℕ). is_in j os ≡ true) (stands here.0 here.1)
-            (in_between a b (group s).order p (leb-true a p (fst (leb a p) (ltb p b) inside)) (ltb-true p b (snd (leb a p) (ltb p b) inside))
-            (omega (arith, here.0, order_length s h)))
-
-        -- what the rule has of it
-        hit_is : (px py : ℕ) → hit (group s) full i px py
-            ≡ (full || w.marked) && any_has (map (onto (rect_of w.at)) (written (rect_of w.at) (rects w.damage) full (higher s (suc p)))) px py
-        hit_is px py =
-            subst
-            (λ (j : ℕ). let v = window_at s j in hit (group s) full j px py
-            ≡ (full || v.marked) && any_has (map (onto (rect_of v.at)) (written (rect_of v.at) (rects v.damage) full (higher s (suc p)))) px py)
-            here.1 (hit_at s h p here.0 (get_or s.shared.order p no_id) refl full px py)
-
-        pub unmarked : full || w.marked ≡ false → Joining s full area a b e (i + 1)
-        unmarked n =
-            skips
-            (λ px py. ap (λ (t : Bool). is_in i os && t) (hit_is px py ∙ ap (λ (t : Bool). t && any_has (map (onto (rect_of w.at)) (written (rect_of w.at) (rects w.damage) full (higher s (suc p)))) px py) n)
-            ∙ and-false (is_in i os))
-
-        pub joined : full || w.marked ≡ true → (above : List Rect) → above ≡ higher s (suc p) → (r : Extents)
-            → Joins (λ px py. contains area px py && any_has (map (onto (rect_of w.at)) (written (rect_of w.at) (rects w.damage) full above)) px py) e r
-            → Joining s full area a b r (i + 1)
-        joined y above is r j =
-            joins_next _ r j
-            (λ px py. ap (λ (t : Bool). contains area px py && t)
-            (ap (λ (bs : List Rect). any_has (map (onto (rect_of w.at)) (written (rect_of w.at) (rects w.damage) full bs)) px py) is
-            ∙ sym (rw (among, hit_is px py, y) refl)))
-
-        -- the same by what was read of the window before
-        module _ (m : Bool) (marks : m ≡ w.marked) where
-          pub unmarked_as : full || m ≡ false → Joining s full area a b e (i + 1)
-          unmarked_as n = unmarked (sym (ap (λ (t : Bool). full || t) marks) ∙ n)
-
-          pub joined_as : (x : Rect16) → x ≡ w.at → (d : Damage) → d ≡ w.damage → full || m ≡ true → (above : List Rect) → above ≡ higher s (suc p) → (r : Extents)
-              → Joins (λ px py. contains area px py && any_has (map (onto (rect_of x)) (written (rect_of x) (rects d) full above)) px py) e r
-              → Joining s full area a b r (i + 1)
-          joined_as x lies d dirty y above is r j =
-              joined (sym (ap (λ (t : Bool). full || t) marks) ∙ y) above is r
-              (subst₂ (λ (x : Rect16) (d : Damage). Joins (λ px py. contains area px py && any_has (map (onto (rect_of x)) (written (rect_of x) (rects d) full above)) px py) e r) lies dirty j)
+      pub lent_there : AllFit (take (s.shared.shown - (p + 1)) (drop (p + 1) all.rects)) × (length (take (s.shared.shown - (p + 1)) (drop (p + 1) all.rects)) ≤ 16)
+      lent_there =
+          let over = lent_over ∙ sym (drop_map (suc p) (λ j. (win (group s) j).at) (group s).order) in (
+            subst AllFit (sym over) (fit_drop (suc p) (higher s 0) held.fit),
+            omega (arith, ap length over, length-drop (suc p) (higher s 0), held.few),
+          )
 
 -- The call --------------------------------------------------------------------------------------------------------------
 
@@ -317,8 +254,8 @@ module _ (s : Session) (h : Given s) (which : ℕ) where
   course = course_of s.shared.due s.shared.shown which
 
   -- question 20, as the code asks it
-  pub meant_is : (b : Bool) → b ≡ not (eqb which 2) || s.shared.due.walk.on → can_be_meant (group s) which ≡ b
-  meant_is b e = ap (λ (t : Bool). not (eqb which 2) || t) (begun_is s) ∙ sym e
+  pub meant_is : can_be_meant (group s) which ≡ not (eqb which 2) || s.shared.due.walk.on
+  meant_is = ap (λ (t : Bool). not (eqb which 2) || t) (begun_is s)
 
   -- the next portion is meant, and has a window
   pub on_portion : which ≤ 2 → can_be_meant (group s) which ≡ true → ltb which 2 ≡ false → s.shared.due.walk.on ≡ true
@@ -327,12 +264,13 @@ module _ (s : Session) (h : Given s) (which : ℕ) where
       sym (begun_is s) ∙ (rw (eq-eqb which 2 e) at m)
 
   module _ (l : which ≤ 2) (m : can_be_meant (group s) which ≡ true) where
-    pub next_low : ltb which 2 ≡ false → s.shared.due.walk.next.0 < 16
-    next_low n = omega (arith, place_low s h (on_portion l m n), h.rep.shown)
+    pub next_low : ltb which 2 ≡ false → s.shared.due.walk.next.0 < s.shared.shown
+    next_low n = place_low s h (on_portion l m n)
 
-    pub course_low : course.to ≤ 16
+    pub course_low : (course.from ≤ course.to) × (course.to ≤ s.shared.shown)
     course_low =
-        on_cond (λ (c : Course). c.to ≤ 16) (ltb which 2) _ _ (λ e. h.rep.shown) (λ n. omega (arith, next_low n))
+        on_cond (λ (c : Course). (c.from ≤ c.to) × (c.to ≤ s.shared.shown)) (ltb which 2) _ _ (λ e. (omega arith, omega arith))
+        (λ n. (omega arith, omega (arith, next_low n)))
 
     pub goes : (between course.from course.to (group s).order ≡ goes_through (group s) which) × (course.full ≡ in_full (group s) which)
     unfolding group
@@ -357,19 +295,22 @@ module _ (s : Session) (h : Given s) (which : ℕ) where
         smallest_unique t (found_by e).rect (smallest t area) (found_smallest r) (smallest_is t area (λ px py. fst (contains area px py) _)) in
         ap (λ (o : Option Rect). stale_of (record { answer = 0; rect = o })) u ∙ sym (rw (sm, le-leb which 2 l, m) refl)
 
--- the calls that are refused
-abbrev refused : ℕ → Stale
-refused n = record { answer = n; due = false; rect = rect 0 0 0 0 }
+-- a call that is refused: question 5, or one of the others where the area passed
+pub too_large : (g : Group) (which : ℕ) (area : Rect) → small_rect area ≡ false → stale_in (Err TooLarge) ≡ stale_of (stale g which area)
+unfolding stale
+too_large g which area e = rw e refl
 
-module _ (g : Group) (which : ℕ) (area : Rect) where
-  pub too_large : small_rect area ≡ false → refused 5 ≡ stale_of (stale g which area)
+module _ (s : Session) (h : Given s) (which : ℕ) (area : Rect) where
+  pub not_meant : (refusal : Refusal) → small_rect area ≡ true
+      → asked ((28 is leb which 2) ∷ (20 is (not (eqb which 2) || s.shared.due.walk.on)) ∷ []) ≡ number refusal
+      → stale_in (Err refusal) ≡ stale_of (stale (group s) which area)
   unfolding stale
-  too_large e = rw e refl
-
-  pub no_such_call : small_rect area ≡ true → leb which 2 ≡ false → refused 28 ≡ stale_of (stale g which area)
-  unfolding stale
-  no_such_call e n = rw (e, n) refl
-
-  pub no_walk : small_rect area ≡ true → leb which 2 ≡ true → can_be_meant g which ≡ false → refused 20 ≡ stale_of (stale g which area)
-  unfolding stale
-  no_walk e n m = rw (e, n, m) refl
+  not_meant refusal e n =
+      let k = before refusal in
+      let a : asked ((5 is small_rect area) ∷ (28 is leb which 2) ∷ (20 is can_be_meant (group s) which) ∷ []) ≡ number refusal =
+      ap (λ (t : Bool). asked ((5 is t) ∷ (28 is leb which 2) ∷ (20 is can_be_meant (group s) which) ∷ [])) e
+      ∙ ap (λ (t : Bool). asked ((28 is leb which 2) ∷ (20 is t) ∷ [])) (meant_is s h which) ∙ n in
+      let no : eqb (asked ((5 is small_rect area) ∷ (28 is leb which 2) ∷ (20 is can_be_meant (group s) which) ∷ [])) 0 ≡ false =
+      ap (λ (j : ℕ). eqb j 0) (a ∙ k.1) ∙ eqb-suc-zero k.0 in
+      sym
+      ((λ i. stale_of (record { answer = a i; rect = cond (no i) (smallest (is_stale (group s) which area) area) none })))

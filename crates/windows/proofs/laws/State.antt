@@ -9,6 +9,8 @@ use lib.Dec.{ltb}
 use lib.ListN.{length, get_or, take, length-map}
 use lib.Seq.{length-take-le}
 use borrow.Author.Tests.{lt-ltb}
+use Rattle.std.specs.Prelude.{Err}
+use Rattle.geom.specs.declared.refusal.Refusal.TheVariants.{UnknownId}
 use Rattle.geom.specs.Rect16.{rect_of}
 use Rattle.window.specs.declared.ids.WinId.{WinId}
 use Rattle.window.specs.Window.{Win}
@@ -18,25 +20,22 @@ use Rattle.rules.specs.Group.{Group, used, win, id_or}
 use Rattle.rules.specs.Order.{shown, place_of}
 use Rattle.rules.specs.Walk.{begun, is_full}
 use Rattle.rules.specs.State as Standing
-use Rattle.rules.specs.State.{window_state, no_window, session_state, focus_of, portions_left}
+use Rattle.rules.specs.State.{window_state, session_state, focus_of, portions_left}
 use Rattle.due.specs.declared.Walk.{Walk}
 use Rattle.order.specs.Ids.{ids, grab_of}
 use Rattle.order.specs.inner.Order.{render_idx}
 use Rattle.display.specs.declared.Displays.{Displays}
 use Rattle.display.specs.Represents.{regions, RepDisplays}
 use Rattle.windows.specs.declared.Session.{Session}
-use Rattle.windows.specs.declared.WindowState.{WindowState}
-use Rattle.windows.specs.declared.state.Fields.{Fields}
-use Rattle.windows.specs.View.{group, window_at, walk_of, window_of, state_of, Given}
+use Rattle.windows.specs.View.{WindowState, group, window_at, walk_of, window_in, window_of, state_of, Given}
 use Rattle.windows.specs.inner.One.{At}
-use Rattle.windows.specs.inner.State.{fields_of, standing}
 use Rattle.windows.proofs.laws.Session.{used_at, win_at_lem}
-use Rattle.windows.proofs.laws.One.{Here, here, own, asks_used}
+use Rattle.windows.proofs.laws.One.{Here, here, own}
 use Rattle.windows.proofs.laws.Places.{order_length, has_place, is_shown, isnt_shown}
 
 -- A window -----------------------------------------------------------------------------------------------------------
 
-pub no_state : (g : Group) (id : ℕ) → used g id ≡ false → window_of (no_window 3) ≡ window_of (window_state g id)
+pub no_state : (g : Group) (id : ℕ) → used g id ≡ false → window_in (Err UnknownId) ≡ window_of (window_state g id)
 unfolding window_state
 no_state g id u = rw u
 
@@ -44,9 +43,24 @@ has_state : (g : Group) (id : ℕ) → used g id ≡ true → window_of (Standin
 unfolding window_state
 has_state g id u = rw u
 
-module _ (s : Session) (id at : ℕ) (place : At id at) (q : Here id (window_at s at) s.shared s) where
-  same : at ≡ id
-  same = place.same q.low
+-- what is told of the window at a place
+abbrev pub told : Session → ℕ → Bool → ℕ → WindowState
+told s at b p =
+    record {
+      answer = 0;
+      rect = rect_of (window_at s at).at;
+      shown = b;
+      place = p;
+      layer = get_or s.shared.layers at 0;
+      maximised = get_or s.shared.maximised at false;
+      marked = (window_at s at).marked;
+      queued = (window_at s at).queue.len;
+      moved = (window_at s at).cursor.is_dirty;
+    }
+
+module _ {s : Session} {id at : ℕ} (h : Given s) (place : At id at) (u : ltb id 16 && (window_at s at).used ≡ true) where
+  q : Here id (window_at s at) s.shared s
+  q = here u (own h place)
 
   its : win_of (window_at s id) ≡ win (group s) id
   its = sym (win_at_lem s id q.used)
@@ -56,17 +70,15 @@ module _ (s : Session) (id at : ℕ) (place : At id at) (q : Here id (window_at 
 
   -- whether it is shown, and its place, as the code found them
   stands : (b : Bool) (p : ℕ) → b ≡ shown (group s) id → p ≡ cond (shown (group s) id) (place_of id (group s).order) 0
-      → standing (fields_of (window_at s at)) b p (get_or s.shared.layers at 0) (get_or s.shared.maximised at false)
-      ≡ window_of (window_state (group s) id)
+      → told s at b p ≡ window_of (window_state (group s) id)
   unfolding group
-  stands b p is there =
-      ap
-      (λ (j : ℕ). standing (fields_of (window_at s j)) b p (get_or s.shared.layers j 0) (get_or s.shared.maximised j false)) same
+  stands b p found there =
+      ap (λ (j : ℕ). told s j b p) (place.same q.low)
       ∙ (λ k.
       record {
         answer = 0;
         rect = (its k).at;
-        shown = is k;
+        shown = found k;
         place = there k;
         layer = get_or s.shared.layers id 0;
         maximised = get_or s.shared.maximised id false;
@@ -76,35 +88,16 @@ module _ (s : Session) (id at : ℕ) (place : At id at) (q : Here id (window_at 
       })
       ∙ has_state (group s) id (used_at s id ∙ q.used)
 
--- the fields f that were read at the id's place
-module _ (s : Session) (id at : ℕ) (h : Given s) (place : At id at) (f : Fields) (read : f ≡ fields_of (window_at s at)) where
-  -- question 3
-  same_test : ltb id 16 && (window_at s at).used ≡ ltb id 16 && f.used
-  same_test = ap (λ (g : Fields). ltb id 16 && g.used) (sym read)
+  pub tells_hidden : none ≡ render_idx id (ids s.shared.shown s.shared.order) → told s at false 0 ≡ window_of (window_state (group s) id)
+  tells_hidden e =
+      let n : shown (group s) id ≡ false = isnt_shown s h id e in
+      stands false 0 (sym n) (sym (ap (λ (b : Bool). cond b (place_of id (group s).order) 0) n))
 
-  pub none_used : ltb id 16 && f.used ≡ false → window_of (no_window 3) ≡ window_of (window_state (group s) id)
-  none_used n = no_state (group s) id (asks_used s at (own h place) ∙ same_test ∙ n)
-
-  module _ (u : ltb id 16 && f.used ≡ true) where
-    abbrev told : Bool → ℕ → WindowState
-    told b p = standing f b p (get_or s.shared.layers at 0) (get_or s.shared.maximised at false)
-
-    tells : (b : Bool) (p : ℕ) → b ≡ shown (group s) id → p ≡ cond (shown (group s) id) (place_of id (group s).order) 0
-        → told b p ≡ window_of (window_state (group s) id)
-    tells b p is there =
-        ap (λ (g : Fields). standing g b p (get_or s.shared.layers at 0) (get_or s.shared.maximised at false)) read
-        ∙ stands s id at place (here (same_test ∙ u) (own h place)) b p is there
-
-    pub tells_hidden : none ≡ render_idx id (ids s.shared.shown s.shared.order) → told false 0 ≡ window_of (window_state (group s) id)
-    tells_hidden e =
-        let n : shown (group s) id ≡ false = isnt_shown s h id e in
-        tells false 0 (sym n) (sym (ap (λ (b : Bool). cond b (place_of id (group s).order) 0) n))
-
-    pub tells_shown : (p : ℕ) → some p ≡ render_idx id (ids s.shared.shown s.shared.order) → told true p ≡ window_of (window_state (group s) id)
-    unfolding group
-    tells_shown p e =
-        let y : shown (group s) id ≡ true = is_shown s h id p e in
-        tells true p (sym y) (has_place s h id p e ∙ sym (ap (λ (b : Bool). cond b (place_of id (group s).order) 0) y))
+  pub tells_shown : (p : ℕ) → some p ≡ render_idx id (ids s.shared.shown s.shared.order) → told s at true p ≡ window_of (window_state (group s) id)
+  unfolding group
+  tells_shown p e =
+      let y : shown (group s) id ≡ true = is_shown s h id p e in
+      stands true p (sym y) (has_place s h id p e ∙ sym (ap (λ (b : Bool). cond b (place_of id (group s).order) 0) y))
 
 -- The session --------------------------------------------------------------------------------------------------------
 

@@ -1,6 +1,5 @@
--- A window told of an event: a move, an event that finds a free place, and one that does not; the same of a window by
--- the fields that are read; and the window put back in the session.
-use Prim.Native.Nat.{ℕ, zero, suc, ◌+◌, ◌≤◌, ◌<◌}
+-- A window told of an event: a move, an event that finds a free place, and one that does not; and the window in its session.
+use Prim.Native.Nat.{ℕ, zero, suc, ◌≤◌, ◌<◌}
 use mathlib.Core.Path.{◌≡◌, refl, sym, ap, subst, ◌∙◌}
 use mathlib.Core.Bool.{Bool, true, false, cond}
 use mathlib.Core.List.{List, [], ◌∷◌, ◌++◌}
@@ -8,36 +7,29 @@ use mathlib.Core.Option.{Option, some}
 use native.Mathlib.Omega.{arith}
 use lib.IntN.{ℤ}
 use lib.Dec.{ltb, eqb, eqb-suc-zero}
-use lib.ListN.{length, set}
-use lib.Seq.{set-get_or}
+use lib.ListN.{length}
 use borrow.Author.Tests.{lt-ltb, le-ltb}
 use Rattle.geom.specs.Questions.{Question, ◌is◌, asked}
-use Rattle.geom.proofs.basics.Tests.{clash}
 use Rattle.window.specs.declared.Event.{Event}
 use Rattle.window.specs.declared.Event.TheVariants.{Resize, KeyDown, KeyUp, KeyFire, Text, MouseMove, MouseDown, MouseClick, MouseUp}
 use Rattle.window.specs.declared.CursorPos.{CursorPos}
 use Rattle.window.specs.declared.Window.{Window}
-use Rattle.window.specs.declared.slots.Slot.{Slot}
 use Rattle.window.specs.declared.queue.Queue.{Queue}
 use Rattle.window.specs.declared.ids.WinId.{WinId}
 use Rattle.window.specs.Window.{Win, pushed, cursor_to}
-use Rattle.window.specs.Represents.{place, no_slot, win_of, events, RepCursor, RepWindow}
-use Rattle.window.specs.inner.Changes.{Queued, slot_of, PushedTo}
+use Rattle.window.specs.Represents.{win_of, events, RepCursor, RepWindow}
+use Rattle.window.specs.inner.Changes.{Queued, PushedTo}
 use Rattle.window.proofs.laws.Events.{events_count}
-use Rattle.window.proofs.laws.Events as Queue
 use Rattle.rules.specs.Group.{Group, Outcome, win, set_win, with_grab, leaves}
 use Rattle.rules.specs.Events.{with_queue, with_cursor}
 use Rattle.rules.specs.Calls.{Call, does}
 use Rattle.order.specs.Ids.{grab_of}
-use Rattle.windows.specs.declared.Shared.{Shared}
 use Rattle.windows.specs.declared.Session.{Session}
-use Rattle.windows.specs.declared.inner.events.Told.{Told}
-use Rattle.windows.specs.declared.inner.events.Message.{Message}
 use Rattle.windows.specs.View.{group, window_at, Rep, Given, Meets, done}
 use Rattle.windows.specs.inner.One.{with_window}
 use Rattle.windows.specs.inner.Sharing.{grabbing}
 use Rattle.windows.specs.inner.Events.{move_or, Tellable, takes, told, ToldTo}
-use Rattle.windows.specs.inner.Aimed.{remembered, Heard, AtBack, told_back}
+use Rattle.windows.specs.inner.Aimed.{remembered}
 use Rattle.windows.proofs.laws.Session.{win_at_lem, put_group, put_rep, refuses, gives}
 use Rattle.windows.proofs.laws.One.{put_back}
 use Rattle.windows.proofs.laws.Parts.{set_queue, set_cursor, queue_rep, cursor_rep}
@@ -109,89 +101,6 @@ module _ (w : Window) (r : RepWindow w) (e : Event) where
           used = refl;
           rep = r;
         }
-
--- A window by its fields ---------------------------------------------------------------------------------------------
-
-module _ {o : Slot} {p : CursorPos} {n : ℕ} {h : WinId} {w : Window} {k : Shared} (m : Message)
-    (b : AtBack o p n h w k) where
-  abbrev HeardAs : Told → Type 0
-  HeardAs r = Heard w k m (record { window = told_back r w; shared = grabbing r.grab k; answer = r.answer })
-
-  -- nothing joins the queue
-  abbrev as_was : CursorPos → WinId → ℕ → Told
-  as_was q g a = record { slot = o; cursor = q; len = n; grab = g; answer = a }
-
-  -- the slot and the length are written back as they were
-  same_queue : (q : CursorPos) (g : WinId) (a : ℕ) → told_back (as_was q g a) w ≡ set_cursor q w
-  same_queue q g a =
-      let at = place w.queue.head w.queue.len in
-      let slots : set w.queue.slots at o ≡ w.queue.slots =
-      ap (set w.queue.slots at) (sym b.old) ∙ set-get_or w.queue.slots at no_slot in
-      λ i.
-      record {
-        queue = record { slots = slots i; head = w.queue.head; len = sym b.len i };
-        damage = w.damage;
-        at = w.at;
-        cursor = q;
-        used = w.used;
-        marked = w.marked;
-      }
-
-  same : (a : ℕ) → told_back (as_was p h a) w ≡ w
-  same a = same_queue p h a ∙ ap (λ (q : CursorPos). set_cursor q w) (sym b.cursor)
-
-  same_grab : grabbing h k ≡ k
-  same_grab = ap (λ (g : WinId). grabbing g k) (sym b.grab)
-
-  -- it is not told
-  pub unheard : m.told ≡ false → HeardAs (as_was p h m.answer)
-  unheard f =
-      record {
-        told = λ t. clash t f;
-        kept = λ _ i. record { window = same m.answer i; shared = same_grab i; answer = m.answer };
-        shared = λ t. clash t f;
-      }
-
-  module _ (t : m.told ≡ true) where
-    hears : (r : Told) {v : Window} → told_back r w ≡ v → ToldTo w m.event v r.answer
-        → grabbing r.grab k ≡ remembered r.answer m.grab k → HeardAs r
-    hears r same-as to grab =
-        record {
-          told = λ _. subst (λ (v : Window). ToldTo w m.event v r.answer) (sym same-as) to;
-          kept = λ f. clash t f;
-          shared = λ _. grab;
-        }
-
-    pub heard_move : {x y : ℕ} {dx dy : ℤ} → m.event ≡ MouseMove x y dx dy
-        → (q : CursorPos) → q ≡ cursor_to p x y → RepCursor q → HeardAs (as_was q m.grab 0)
-    heard_move {x} {y} e q to r =
-        let own : q ≡ cursor_to w.cursor x y = to ∙ ap (λ (c : CursorPos). cursor_to c x y) (sym b.cursor) in
-        hears (as_was q m.grab 0) (same_queue q m.grab 0) (moves w b.rep m.event e q own r) refl
-
-    module _ (other : Other m.event) where
-      pub heard_joins : Tellable m.event → n < 16 → (s : Slot) → s ≡ slot_of m.event
-          → HeardAs (record { slot = s; cursor = p; len = n + 1; grab = m.grab; answer = 0 })
-      heard_joins able l s e =
-          let at = place w.queue.head w.queue.len in
-          let longer : Queue =
-          record { slots = set w.queue.slots at s; head = w.queue.head; len = w.queue.len + 1 } in
-          let free : w.queue.len < 16 = omega (arith, b.len) in
-          hears (record { slot = s; cursor = p; len = n + 1; grab = m.grab; answer = 0 })
-          (λ i.
-          record {
-            queue = record { slots = set w.queue.slots at s; head = w.queue.head; len = sym b.len i + 1 };
-            damage = w.damage;
-            at = w.at;
-            cursor = sym b.cursor i;
-            used = w.used;
-            marked = w.marked;
-          })
-          (joins w b.rep m.event other free longer
-          (Queue.joins w.queue m.event b.rep.queue (queued m.event other able) free s e at refl)) refl
-
-      pub heard_full : 16 ≤ n → HeardAs (as_was p h 12)
-      heard_full l =
-          hears (as_was p h 12) (same 12) (dropped w b.rep m.event other (omega (arith, b.len))) same_grab
 
 -- The window of a session --------------------------------------------------------------------------------------------
 

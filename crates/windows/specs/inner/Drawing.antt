@@ -1,18 +1,14 @@
--- One window drawn: what a redraw lends for it, and the screen after it; and the two halves of a redraw.
-use Rattle.std.specs.Prelude.{ℕ, ◌*◌, ◌≤◌, ◌<◌, ◌≡◌, Bool, cond, List, [], ◌∷◌, map, length, get_or}
+-- One window drawn: what a redraw lends for it, and the screen after it.
+use Rattle.std.specs.Prelude.{ℕ, ◌+◌, ◌*◌, ◌≤◌, ◌<◌, ◌≡◌, Bool, cond, List, [], ◌∷◌, map, length}
 use Rattle.geom.specs.declared.Rect.{Rect}
 use Rattle.geom.specs.Lists.{outside_all, relative, list_intersect}
 use Rattle.geom.specs.Rect16.{rect_of}
 use Rattle.window.specs.declared.Window.{Window}
-use Rattle.window.specs.Represents.{rects}
-use Rattle.window.specs.inner.Ids.{no_id}
-use Rattle.rules.specs.Redraw.{none?, draw_regions, paid, clean_all}
-use Rattle.rules.specs.Calls.{Call}
-use Rattle.windows.specs.declared.Shared.{Shared}
+use Rattle.window.specs.Represents.{rects, RepWindow}
+use Rattle.rules.specs.Redraw.{none?, draw_regions}
+use Rattle.rules.specs.inner.Lent.{AllFit}
 use Rattle.windows.specs.declared.Session.{Session}
-use Rattle.windows.specs.declared.Done.{Done}
-use Rattle.windows.specs.declared.inner.redraw.Drawn.{Drawn}
-use Rattle.windows.specs.View.{group, Rep, MeetsScreen}
+use Rattle.windows.specs.View.{window_at}
 
 -- store and screen have the sizes that questions 1 and 8 ask for
 pub record Drawable (s : Session) (sw sh : ℕ) (store screen : List ℕ) : Type 0 where
@@ -30,17 +26,10 @@ painted dim w full base above store sw sh screen =
     let seen : List Rect = map (relative at) (outside_all (at ∷ []) above) in
     draw_regions dim at base store sw sh (cond (none? dirty) seen (list_intersect seen dirty)) screen
 
--- the order in what is shared holds numbers of windows
-pub record Ordered (k : Shared) : Type 0 where
-  pub few : k.shown ≤ 16
-  pub low : (p : ℕ) → p < k.shown → (get_or k.order p no_id).0 < 16
-
--- "Marks and damage of drawn windows are cleared; so is the debt", where the redraw was not refused
-pub record Settles (s : Session) (d : Drawn) (r : Done) : Type 0 where
-  pub answer : r.answer ≡ d.answer
-  pub clean : d.answer ≡ 0 → (group r.session ≡ paid (clean_all d.full (group s).order (group s))) × Rep r.session
-  pub same : (d.answer ≡ 0 → ⊥) → r.session ≡ s
-
--- once it is settled, the call is met
-abbrev pub Draws : Call → Session → Drawn → List ℕ → Type 0
-Draws call s d screen = (r : Done) → Settles s d r → MeetsScreen call s r screen
+-- what is lent for a window: its pixels lie in the store, and the sides of the rectangles above it fit
+pub record Painting (s : Session) (at : ℕ) (above : List Rect) (store : List ℕ) : Type 0 where
+  pub inside : at < 16
+  pub rep : RepWindow (window_at s at)
+  pub pixels : at * s.shared.c + (window_at s at).at.w * (window_at s at).at.h ≤ length store
+  pub fit : AllFit above
+  pub few : length above ≤ 16

@@ -1,7 +1,9 @@
 -- The parts of `route`: where an event goes, and what it does to the window that is told of it.
-use Rattle.std.specs.Prelude.{ℕ, ◌≤◌, Bool, true, ◌≡◌, [], ◌∷◌, ltb, length}
+use Rattle.std.specs.Prelude.{ℕ, ◌≤◌, Bool, true, ◌≡◌, [], ◌∷◌, ltb, length, Result, Ok, Err, Some, None}
+use Rattle.std.specs.Prelude as Std
 use Rattle.std.proofs.Math.Option.{Option, none}
 use Rattle.geom.specs.Questions.{◌is◌, asked}
+use Rattle.geom.specs.declared.refusal.Refusal as Refused
 use Rattle.window.specs.declared.Window.{Window}
 use Rattle.window.specs.declared.Event.{Event}
 use Rattle.window.specs.declared.Event.TheVariants.{Resize, KeyDown, KeyUp, KeyFire, Text, MouseMove, MouseDown, MouseClick, MouseUp}
@@ -12,20 +14,20 @@ use Rattle.window.specs.inner.Changes.{Queued}
 use Rattle.rules.specs.Events.{with_queue, with_cursor}
 use Rattle.topmost.specs.inner.Topmost.{nobody}
 use Rattle.windows.specs.declared.inner.events.Target.{Target}
-use Rattle.windows.specs.declared.inner.events.Target.TheVariants.{Nobody, Focus, Point}
+use Rattle.windows.specs.declared.inner.events.Target.TheVariants.{Focus, Point}
 
 -- keys go to the focus, pointer events to a point, where a release alone is for the window that is remembered, `grab`; a Resize goes nowhere, and
 -- a KeyFire is refused
-abbrev pub target_of : Event → WinId → Target
-target_of Resize grab = Nobody 0
-target_of (KeyDown v) grab = Focus
-target_of (KeyUp v) grab = Focus
-target_of (KeyFire v) grab = Nobody 21
-target_of (Text v) grab = Focus
-target_of (MouseMove x y dx dy) grab = Point nobody x y
-target_of (MouseDown x y b) grab = Point nobody x y
-target_of (MouseClick x y b n) grab = Point nobody x y
-target_of (MouseUp x y b) grab = Point grab x y
+abbrev pub target_of : Event → WinId → Result (Std.Option Target) Refused.Refusal
+target_of Resize grab = Ok None
+target_of (KeyDown v) grab = Ok (Some Focus)
+target_of (KeyUp v) grab = Ok (Some Focus)
+target_of (KeyFire v) grab = Err Refused.TheVariants.KeyFire
+target_of (Text v) grab = Ok (Some Focus)
+target_of (MouseMove x y dx dy) grab = Ok (Some (Point nobody x y))
+target_of (MouseDown x y b) grab = Ok (Some (Point nobody x y))
+target_of (MouseClick x y b n) grab = Ok (Some (Point nobody x y))
+target_of (MouseUp x y b) grab = Ok (Some (Point grab x y))
 
 -- a pointer event at another point
 abbrev pub at_point : Event → ℕ → ℕ → Event

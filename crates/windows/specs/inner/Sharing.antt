@@ -1,21 +1,14 @@
--- What the windows share, changed part by part; and a portion as a function of one window.
-use Rattle.std.specs.Prelude.{ℕ, suc, ◌*◌, ◌<◌, ◌≡◌, Bool, true, false, cond, ◌||◌, List, map, eqb, get_or, set, drop}
+-- What the windows share, changed part by part; and a window that was drawn.
+use Rattle.std.specs.Prelude.{ℕ, ◌≡◌, Bool, false, cond, ◌||◌, List, eqb, set}
 use Rattle.window.specs.declared.Window.{Window}
 use Rattle.window.specs.declared.ids.WinId.{WinId}
-use Rattle.window.specs.inner.Ids.{no_id}
-use Rattle.rules.specs.Group.{win, layer, give_layer}
+use Rattle.rules.specs.Group.{layer, give_layer}
 use Rattle.rules.specs.Order.{hidden, to_top}
-use Rattle.rules.specs.Calls.{Call}
 use Rattle.due.specs.declared.Due.{Due}
-use Rattle.order.specs.inner.Rects.{Holds}
 use Rattle.due.specs.inner.Due.{owing, further}
 use Rattle.windows.specs.declared.Shared.{Shared}
 use Rattle.windows.specs.declared.Session.{Session}
-use Rattle.windows.specs.declared.Changed.{Changed}
-use Rattle.windows.specs.declared.inner.portion.Next.{Next}
-use Rattle.windows.specs.declared.inner.portion.Turn.{Turn}
-use Rattle.windows.specs.View.{group, window_at, done, Rep, Given, MeetsScreen}
-use Rattle.windows.specs.inner.One.{with_window}
+use Rattle.windows.specs.View.{group, Rep, Given}
 
 -- Parts of what is shared set -----------------------------------------------------------------------------------------
 
@@ -83,32 +76,3 @@ wiped w =
 -- "Marks and damage of drawn windows are cleared"
 abbrev pub cleaned_if : Bool → Window → Window
 cleaned_if full w = cond (full || w.marked) (wiped w) w
-
--- the next window of a walk that is on lies at this place; its pixels begin there, and these are the rectangles above it
-pub record IsNext (s : Session) (at : ℕ) (x : Next) : Type 0 where
-  pub is : (get_or s.shared.order s.shared.due.walk.next.0 no_id).0 ≡ at
-  pub base : x.base ≡ at * s.shared.c
-  pub above : Holds x.above (map (λ i. (win (group s) i).at) (drop (suc s.shared.due.walk.next.0) (group s).order))
-
--- whose turn it is; any place will do where no walk is on
-pub record Turns (s : Session) (t : Turn) : Type 0 where
-  pub inside : t.at < 16
-  pub next : s.shared.due.walk.on ≡ true → IsNext s t.at t.next
-
--- the session s holds this window at the place whose turn it is, and shares this
-pub record OnTurn (w : Window) (k : Shared) (x : Next) (s : Session) (at : ℕ) : Type 0 where
-  pub given : Given s
-  pub turns : Turns s (record { at = at; next = x })
-  pub window : window_at s at ≡ w
-  pub shared : s.shared ≡ k
-
--- some session does
-pub record Turned (w : Window) (k : Shared) (x : Next) : Type 0 where
-  pub session : Session
-  pub at : ℕ
-  pub on_turn : OnTurn w k x session at
-
--- every session that does, with the new window put in its place, is the session that the call promises, and leaves this screen
-abbrev pub TreatsAt : Call → Window → Shared → Next → Changed → List ℕ → Type 0
-TreatsAt call w k x r screen =
-    (s : Session) (at : ℕ) → OnTurn w k x s at → MeetsScreen call s (done (with_window at r.window r.shared s) r.answer) screen

@@ -2,21 +2,15 @@
 ghost use Rattle.rules.specs.Calls.{Call};
 ghost use Rattle.windows.specs.inner.One.{MeetsShared};
 
-use crate::{Shared, SharedDone};
-use geom::inner::answers::OK;
-use geom::inner::bools::same;
+use crate::Shared;
 
 // Switches dimming on or off and owes a full redraw; to set what is set changes nothing.
-pub fn dim(mut shared: Shared, on: bool) -> SharedDone
-    ensures { MeetsShared (Call.Dim on) shared result }
+pub fn dim(shared: &mut Shared, on: bool)
+    ensures { MeetsShared (Call.Dim on) shared.old shared.new }
 {
-    if same(on, shared.dimmed) {
-        return SharedDone { shared, answer: OK };
+    if on == shared.dimmed {
+        return;
     }
     shared.dimmed = on;
-    let owing = shared.owing();
-    SharedDone {
-        shared: owing,
-        answer: OK,
-    }
+    shared.owe();
 }

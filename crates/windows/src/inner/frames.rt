@@ -1,13 +1,19 @@
 // Where the windows of a session are, and which ids are in use.
+ghost use Rattle.std.specs.Prelude.{◌≤◌, map, drop};
+ghost use Rattle.rules.specs.Group.{win};
+ghost use Rattle.order.specs.inner.Rects.{Holds};
+ghost use Rattle.windows.specs.View.{group, Given};
 ghost use Rattle.windows.specs.inner.Frames.{Framed};
 
 use crate::Session;
 use geom::inner::rect16::Rect16;
 use order::frames::Frames;
+use order::rects;
+use order::rects::Rects;
+use window::ids::Place;
 
-// The windows are read at places that are known when this is compiled: an index that is not known would have the session copied.
-pub fn frames(s: Session) -> Frames
-    ensures { Framed s 16 result }
+pub fn frames(s: &Session) -> Frames
+    ensures { Framed s.now 16 result }
 {
     let nowhere = Rect16 {
         x: 0,
@@ -15,13 +21,21 @@ pub fn frames(s: Session) -> Frames
         w: 0,
         h: 0,
     };
-    let mut areas = [nowhere; 16];
-    let mut used = [false; 16];
+    let mut frames = Frames {
+        areas: [nowhere; 16],
+        used: [false; 16],
+    };
     for i in 0..16 {
-        let w = s.windows[i];
-        let at = w.at;
-        areas[i] = at;
-        used[i] = w.used;
+        frames.areas[i] = s.windows[i].at;
+        frames.used[i] = s.windows[i].used;
     }
-    Frames { areas, used }
+    frames
+}
+
+// The rectangles of the shown windows from a place on, lowest first.
+pub fn rects_from(s: &Session, p: Place) -> Rects
+    requires { Given s.now × (p.0 ≤ s.now.shared.shown) }
+    ensures { Holds result (map (λ i. (win (group s.now) i).at) (drop p.0 (group s.now).order)) }
+{
+    rects::from(&frames(s).areas, s.shared.in_order(), p)
 }

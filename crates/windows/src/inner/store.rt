@@ -1,292 +1,155 @@
-// The calls that write the lent store: fill, blit and resize. Each asks its questions and leaves the rest to a function
-// translated from window.rs. There, `base` is the place in the store at which the window's pixels begin: its number
-// times C. A resize is a function of one window and of what the windows share. A fill or a blit reads four fields of
-// them and changes the damage alone, so it is a function of these fields, and the window is not copied. Both hand back
-// how many pixels of the store differ afterwards (document 02, N3).
-ghost use Rattle.std.specs.Prelude.{◌≡◌, ◌≤◌, length, false};
+// What the calls that write the lent store do to one window, translated from window.rs. `base` is the place in the store at which its pixels
+// begin: its number times C. A fill and a blit give how many pixels of the store differ afterwards (document 02, N3).
+ghost use Rattle.std.specs.Prelude.{◌≡◌, length, false};
 ghost use Rattle.geom.specs.Geom.{rect, is_empty};
 ghost use Rattle.geom.specs.Rect16.{Small, rect_of};
 ghost use Rattle.scanline.specs.Pixels.{resized_at};
-ghost use Rattle.window.specs.Represents.{RepDamage, RepWindow, win_of};
-ghost use Rattle.window.specs.inner.Changes.{Dirtied};
-ghost use Rattle.rules.specs.Store.{resized_win, filled_at, blit_at};
+ghost use Rattle.scanline.specs.inner.Rows.{Counted};
+ghost use Rattle.window.specs.Represents.{RepWindow, win_of};
+ghost use Rattle.rules.specs.Store.{dirtied, filled_at, blit_at};
 ghost use Rattle.rules.specs.Displays.{resized_to};
-ghost use Rattle.rules.specs.Calls.{Call};
-ghost use Rattle.rules.specs.Panels.{Write};
-ghost use Rattle.windows.specs.View.{filled_win, blit_win};
-ghost use Rattle.windows.specs.inner.One.{Held, HeldAs, MeetsStoreAt, MeetsAlteredAs};
-ghost use Rattle.windows.specs.inner.Pixels.{Becomes, RowsIn, PaintsAs, BlitsAs, Resizable};
+ghost use Rattle.windows.specs.View.{filled_win, blit_win, holding};
+ghost use Rattle.windows.specs.inner.Lent.{BeginsAt};
+ghost use Rattle.windows.specs.inner.Pixels.{Becomes, RowsIn, PartIn, Paints, Resizable};
 
-use crate::inner::one::refused;
-use crate::{Changed, Shared};
-use geom::inner::answers::{OK, STORE_LENGTH, STRIDE, TOO_LARGE, UNKNOWN_ID, WINDOW_SIZE};
-use geom::inner::is_empty;
+use geom::Rect;
 use geom::inner::lent::store_fits;
 use geom::inner::rect16::Rect16;
-use geom::inner::small::{is_small, is_small_size};
-use geom::{Dims, Intersection, Pos, Rect};
-use winbuf::Altered;
+use geom::inner::{common, is_empty, meets};
+use geom::refusal::Refusal;
 use winbuf::inner::area::{blit_area, fill_area};
 use winbuf::inner::resize::resize_store;
-use window::damage::{Damage, add_dirty};
+use window::damage::Damage;
 use window::ids::{WinId, in_use};
 use window::{Event, Window};
 
-// A window's damage after a fill or a blit; the answer, and how many pixels of the store differ.
-#[repr(C)]
-#[derive(Clone, Copy)]
-pub struct Painted {
-    pub damage: Damage,
-    pub result: Altered,
+// Questions 1 and 3, and where in the store the pixels of the window begin.
+pub fn base_in(len: usize, c: u32, id: WinId, used: bool) -> Result<usize, Refusal>
+    ensures { BeginsAt id.0 used c len result }
+{
+    if !store_fits(len, c) {
+        return Err(Refusal::StoreLength);
+    }
+    if !in_use(id, used) {
+        return Err(Refusal::UnknownId);
+    }
+    Ok(id.0 as usize * c as usize)
 }
 
-// A window's own pixels, from its corner.
-fn bounds(at: Rect16) -> Rect
-    ensures { result ≡ rect 0 0 at.w at.h }
+// The part of an area that lies in a window, from the window's corner.
+fn part_in(at: Rect16, area: Rect) -> Option<Rect>
+    requires { Small (rect_of at) × Small area }
+    ensures { PartIn (rect 0 0 at.w at.h) area result }
 {
-    let pos = Pos::new(0, 0);
-    let dims = Dims::new(at.w as u32, at.h as u32);
-    Rect::new_pd(pos, dims)
+    let all = Rect::new(0, 0, at.w as u32, at.h as u32);
+    if !meets(area, all) {
+        return None;
+    }
+    Some(common(area, all))
 }
 
-// The area is added to the damage of a window of that size.
-pub fn damaged(old: Damage, size: Rect16, area: Rect) -> Damage
-    requires { RepDamage old × Small area × (size.w ≤ 32767) × (size.h ≤ 32767) }
-    ensures { Dirtied size.w size.h old area result }
+// The area is added to the damage of the window.
+pub fn damage(win: &mut Window, area: Rect)
+    requires { RepWindow win.old × Small area }
+    ensures { Becomes win.old (dirtied area (win_of win.old)) win.new × (win.new ≡ holding (dirtied area (win_of win.old)) win.old) }
 {
-    add_dirty(old, size.w as u32, size.h as u32, area)
-}
-
-// No pixel was written.
-fn unpainted(damage: Damage, answer: u32) -> Painted
-    ensures { result ≡ record { damage = damage; result = record { answer = answer; altered = 0 } } }
-{
-    let result = Altered { answer, altered: 0 };
-    Painted { damage, result }
+    win.damage.add(win.at.w as u32, win.at.h as u32, area);
 }
 
 // The part of the area that lies in the window takes the colour.
-fn fill_rect(
-    at: Rect16,
-    old: Damage,
-    base: usize,
-    area: Rect,
-    colour: u32,
-    store: &mut [u32],
-) -> Painted
-    requires { RowsIn (length store.old) base at × RepDamage old × Small area }
-    ensures { PaintsAs at old (filled_win area) (λ w. filled_at base w area colour store.old) store.old result store.new }
+pub fn fill_rect(win: &mut Window, base: usize, area: Rect, colour: u32, store: &mut [u32]) -> usize
+    requires { RowsIn (length store.old) base win.old.at × RepWindow win.old × Small area }
+    ensures { Paints win.old (filled_win area (win_of win.old)) (filled_at base (win_of win.old) area colour store.old) store.old win.new store.new result }
 {
-    let all = bounds(at);
-    let cut = area.intersect(all);
-    match cut {
-        Intersection::Common(part) => {
-            let altered = fill_area(
-                store,
-                base,
-                at.w as usize,
-                part.pos.x as usize,
-                part.pos.y as usize,
-                part.dims.w as u16,
-                part.dims.h as usize,
-                colour,
-            );
-            // after the pixels, so that the damage is not copied once more
-            let damage = damaged(old, at, part);
-            let result = Altered {
-                answer: OK,
-                altered,
-            };
-            Painted { damage, result }
-        }
-        Intersection::Apart => unpainted(old, OK),
-        // never: question 14 holds of both
-        Intersection::Refused => unpainted(old, OK),
-    }
+    let Some(part) = part_in(win.at, area) else {
+        return 0;
+    };
+    let altered = fill_area(
+        store,
+        base,
+        win.at.w as usize,
+        part.pos.x as usize,
+        part.pos.y as usize,
+        part.dims.w as u16,
+        part.dims.h as usize,
+        colour,
+    );
+    damage(win, part);
+    altered
 }
 
 // Rows of the area take successive chunks of `stride` data, where they lie in the window. How many pixels differ.
 fn blit_part(
-    at: Rect16,
+    win: &Window,
     base: usize,
     area: Rect,
     stride: usize,
     data: &[u32],
     store: &mut [u32],
 ) -> usize
-    requires { RowsIn (length store.old) base at × Small area × (is_empty area ≡ false) }
-    ensures { BlitsAs base at area «data».now stride store.old store.new result }
+    requires { RowsIn (length store.old) base win.now.at × Small area × (is_empty area ≡ false) }
+    ensures { Counted (blit_at base (win_of win.now) area «data».now stride store.old) store.old store.new result }
 {
-    let all = bounds(at);
-    let cut = area.intersect(all);
-    match cut {
-        Intersection::Common(part) => blit_area(
-            store,
-            base,
-            at.w as usize,
-            part.pos.x as usize,
-            part.pos.y as usize,
-            data,
-            stride,
-            part.dims.w as u16,
-            part.dims.h as usize,
-        ),
-        Intersection::Apart => 0,
-        // never: question 14 holds of both
-        Intersection::Refused => 0,
-    }
+    let Some(part) = part_in(win.at, area) else {
+        return 0;
+    };
+    blit_area(
+        store,
+        base,
+        win.at.w as usize,
+        part.pos.x as usize,
+        part.pos.y as usize,
+        data,
+        stride,
+        part.dims.w as u16,
+        part.dims.h as usize,
+    )
 }
 
 // The same, with the area added to the damage uncut. An empty area is left alone.
-fn blit_rect(
-    at: Rect16,
-    old: Damage,
+pub fn blit_rect(
+    win: &mut Window,
     base: usize,
     area: Rect,
     stride: usize,
     data: &[u32],
     store: &mut [u32],
-) -> Painted
-    requires { RowsIn (length store.old) base at × RepDamage old × Small area }
-    ensures { PaintsAs at old (blit_win area) (λ w. blit_at base w area «data».now stride store.old) store.old result store.new }
+) -> usize
+    requires { RowsIn (length store.old) base win.old.at × RepWindow win.old × Small area }
+    ensures { Paints win.old (blit_win area (win_of win.old)) (blit_at base (win_of win.old) area «data».now stride store.old) store.old win.new store.new result }
 {
     if is_empty(area) {
-        return unpainted(old, OK);
+        return 0;
     }
-    let altered = blit_part(at, base, area, stride, data, store);
-    let damage = damaged(old, at, area);
-    let result = Altered {
-        answer: OK,
-        altered,
-    };
-    Painted { damage, result }
+    let altered = blit_part(win, base, area, stride, data, store);
+    damage(win, area);
+    altered
 }
 
 // The window at a new place and of a new size, with all of it damaged and Resize queued.
-pub fn resized_to(mut win: Window, at: Rect16) -> Window
-    requires { RepWindow win × Small (rect_of at) }
-    ensures { Becomes win (resized_to (rect_of at) (win_of win)) result }
+pub fn resized_to(win: &mut Window, at: Rect16)
+    requires { RepWindow win.old × Small (rect_of at) }
+    ensures { Becomes win.old (resized_to (rect_of at) (win_of win.old)) win.new }
 {
-    let damage = Damage::whole(at.w as u32, at.h as u32);
-    let waiting = win.queue;
-    let queue = waiting.push(Event::Resize);
     win.at = at;
-    win.damage = damage;
-    win.queue = queue;
-    win
+    win.damage = Damage::whole(at.w as u32, at.h as u32);
+    win.queue.push(Event::Resize);
 }
 
-// The window at a new size, with its pixels.
-fn resized(win: Window, base: usize, c: usize, size: Dims, store: &mut [u32]) -> Window
-    requires { Resizable (length store.old) base c size.w size.h win }
-    ensures { Becomes win (resized_win size.w size.h (win_of win)) result × (store.new ≡ resized_at base c win.at.w win.at.h size.w size.h store.old) }
+// The same, with its pixels, of which the store has c.
+pub fn resize_pixels(win: &mut Window, base: usize, c: u32, at: Rect16, store: &mut [u32])
+    requires { Resizable (length store.old) base c at win.old }
+    ensures { Becomes win.old (resized_to (rect_of at) (win_of win.old)) win.new × (store.new ≡ resized_at base c win.old.at.w win.old.at.h at.w at.h store.old) }
 {
     let old = win.at;
     resize_store(
         store,
         base,
-        c,
+        c as usize,
         old.w,
         old.h as usize,
-        size.w as u16,
-        size.h as usize,
+        at.w,
+        at.h as usize,
     );
-    let at = Rect16 {
-        x: old.x,
-        y: old.y,
-        w: size.w as u16,
-        h: size.h as u16,
-    };
-    resized_to(win, at)
-}
-
-pub fn fill(
-    used: bool,
-    at: Rect16,
-    damage: Damage,
-    c: u32,
-    id: WinId,
-    area: Rect,
-    colour: u32,
-    store: &mut [u32],
-) -> Painted
-    requires { HeldAs id.0 used at damage c }
-    ensures { MeetsAlteredAs id.0 (Write.fill area colour) store.old used at damage c result store.new }
-{
-    if !store_fits(store.len(), c) {
-        return unpainted(damage, STORE_LENGTH);
-    }
-    if !in_use(id, used) {
-        return unpainted(damage, UNKNOWN_ID);
-    }
-    if !is_small(area) {
-        return unpainted(damage, TOO_LARGE);
-    }
-    let base = id.0 as usize * c as usize;
-    fill_rect(at, damage, base, area, colour, store)
-}
-
-pub fn blit(
-    used: bool,
-    at: Rect16,
-    damage: Damage,
-    c: u32,
-    id: WinId,
-    area: Rect,
-    stride: usize,
-    data: &[u32],
-    store: &mut [u32],
-) -> Painted
-    requires { HeldAs id.0 used at damage c }
-    ensures { MeetsAlteredAs id.0 (Write.blit area «data».now stride) store.old used at damage c result store.new }
-{
-    if !store_fits(store.len(), c) {
-        return unpainted(damage, STORE_LENGTH);
-    }
-    if !in_use(id, used) {
-        return unpainted(damage, UNKNOWN_ID);
-    }
-    if !is_small(area) {
-        return unpainted(damage, TOO_LARGE);
-    }
-    if stride < 1 {
-        return unpainted(damage, STRIDE);
-    }
-    let base = id.0 as usize * c as usize;
-    blit_rect(at, damage, base, area, stride, data, store)
-}
-
-pub fn resize(
-    win: Window,
-    mut shared: Shared,
-    id: WinId,
-    w: u32,
-    h: u32,
-    store: &mut [u32],
-) -> Changed
-    requires { Held id.0 win shared }
-    ensures { MeetsStoreAt (Call.Resize id.0 w h store.old) id.0 win shared result store.new }
-{
-    if !store_fits(store.len(), shared.c) {
-        return refused(win, shared, STORE_LENGTH);
-    }
-    if !in_use(id, win.used) {
-        return refused(win, shared, UNKNOWN_ID);
-    }
-    let size = Dims::new(w, h);
-    if !is_small_size(size) {
-        return refused(win, shared, TOO_LARGE);
-    }
-    if shared.c < w * h {
-        return refused(win, shared, WINDOW_SIZE);
-    }
-    let c = shared.c as usize;
-    let window = resized(win, id.0 as usize * c, c, size, store);
-    shared = shared.set_maximised(id, false);
-    shared = shared.owing();
-    Changed {
-        window,
-        shared,
-        answer: OK,
-    }
+    resized_to(win, at);
 }

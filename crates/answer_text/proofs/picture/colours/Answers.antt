@@ -1,12 +1,11 @@
--- The first i pixels stand at the front of the block.
-use native.Mathlib.Omega.{arith}
-use borrow.Author.Rules.{rules}
+-- The pixels up to this one.
+use Rattle.std.proofs.Common.{arith}
 use Rattle.answer_text.proofs.laws.Pixels.{pixel_more}
 use Rattle.answer_text.proofs.picture.colours.Goals as goal
 
-pub loop-i-preserved : goal.loop-i-preserved
-loop-i-preserved c = (
-  search rules,
-  pixel_more c.args.pixels.now c.loop-i.out c.loop-i.i (search rules) (omega arith) c.loop-i.invariant.1,
-  search rules,
+pub loop-v-preserved : goal.loop-v-preserved
+loop-v-preserved c = (
+  pixel_more c.args.pixels.now c.args.block.now.items c.loop-v.v-index c.loop-v-test.true c.loop-v.invariant.0 c.push.ensures.items
+      c.push-in-loop-v.ensures.items c.push-in-loop-v-2.ensures.items,
+  omega arith,
 )

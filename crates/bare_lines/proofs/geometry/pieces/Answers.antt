@@ -1,19 +1,16 @@
--- The struct of four holds the list, and the code asks the answer that the line asks.
-use mathlib.Core.List.{◌∷◌}
-use lib.ListN.{length}
+-- The answer 0, the count, the rectangles and the end, one behind the other.
+use Rattle.std.proofs.Common.{ap, ◌∙◌, ◌∷◌}
 use Rattle.geom.specs.Bare.{bare_pieces}
-use Rattle.answer_text.specs.Text.{number, rectangles}
-use Rattle.answer_text.proofs.laws.Added.{then}
+use Rattle.answer_text.specs.Text.{line, number, rectangles}
 use Rattle.bare_lines.specs.Told.{pieces_line}
-use Rattle.bare_lines.proofs.laws.Lines.{accepted, told, pieces_told}
+use Rattle.answer_text.proofs.laws.Added.{then, told}
+use Rattle.bare_lines.proofs.laws.Lines.{held}
 use Rattle.bare_lines.proofs.geometry.pieces.Goals as goal
 
-pub returns-then-outside-eq-OK : goal.returns-then-outside-eq-OK
-returns-then-outside-eq-OK c =
-    let a = c.args in
-    let bare = c.not_intersect-outside.ensures in
-    let rs = bare_pieces a.a a.b in
-    told (λ n. pieces_line n rs) bare.answer
-    (accepted (number (length rs) ∷ rectangles rs) c.if-outside-eq-OK.true
-    (pieces_told bare.pieces
-    (then c.number-to.ensures (then c.more-then.ensures (then c.write_rects-last.ensures c.end.ensures)))))
+pub returns-in-Ok : goal.returns-in-Ok
+returns-in-Ok c =
+    let rs = bare_pieces c.args.a c.args.b in
+    let holds = c.in-Ok.ensures.pieces in
+    told (λ ps. ps)
+    ((λ i. line 0 (number (holds.count i) ∷ rectangles (held holds i))) ∙ ap (λ n. pieces_line n rs) c.in-Ok.ensures.answer)
+    (then c.number.ensures (then c.write_pieces.ensures c.end.ensures))

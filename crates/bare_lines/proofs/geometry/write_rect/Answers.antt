@@ -3,5 +3,4 @@ use Rattle.answer_text.proofs.laws.Added.{then}
 use Rattle.bare_lines.proofs.geometry.write_rect.Goals as goal
 
 pub returns : goal.returns
-returns c =
-    then c.more-x.ensures (then c.more-y.ensures (then c.more-width.ensures c.more.ensures))
+returns c = then c.more.ensures (then c.more-2.ensures (then c.more-3.ensures c.more-4.ensures))

@@ -1,12 +1,8 @@
--- The rectangles up to i were added.
-use Prim.Native.Nat.{◌≤◌, ◌-◌}
-use lib.ListN.{take}
+-- The rectangles up to this one were added.
+use Rattle.std.proofs.Common.{take}
 use Rattle.answer_text.specs.Text.{rectangles}
-use Rattle.answer_text.specs.Added.{Adds}
+use Rattle.answer_text.specs.Added.{Says}
 use Rattle.bare_lines.proofs.geometry.write_rects.Given as goal
 
-abbrev pub invariant-loop-i : goal.invariant-loop-i
-invariant-loop-i l = (l.i ≤ l.n) × Adds (rectangles (take l.i l.rects)) l.initial.to l.initial.out l.to l.out
-
-abbrev pub decreases-loop-i : goal.decreases-loop-i
-decreases-loop-i l = l.n - l.i
+abbrev pub invariant-loop-rect : goal.invariant-loop-rect
+invariant-loop-rect l = Says (rectangles (take l.rect-index l.rects)) l.initial.out l.out

@@ -1,52 +1,53 @@
--- Each arm is lent what the line holds, and the text that it adds is that of the kind.
-use Prim.Native.Nat.{ℕ}
-use mathlib.Core.Path.{◌≡◌}
-use mathlib.Core.List.{List}
-use borrow.Author.Rules.{rules}
-use borrow.Author.Tests.{ne_eqb}
-use Rattle.script.specs.Kind as Kind
-use Rattle.answer_text.specs.Added.{Adds}
-use Rattle.answer_text.specs.declared.Waiting.{Waiting}
+-- The kind chooses the arm.
+use Rattle.std.proofs.Common.{ℕ, ◌≡◌, ◌∙◌, rules, List}
+use Rattle.script.specs.declared.kind.Kind.{Kind as AKind}
+use Rattle.script.specs.declared.kind.Kind.TheVariants as kind
+use Rattle.script.specs.Kind.{code_of}
 use Rattle.bare_lines.specs.Told.{pixel_line, scanline_line, fill_line, set_line, region_line}
+use Rattle.answer_text.proofs.laws.Added.{told}
+use Rattle.script.proofs.laws.Kinds.{other_kind}
+use Rattle.bare_lines.proofs.laws.Parts.{scanline_front, fill_front, set_front, region_front}
 use Rattle.bare_lines.proofs.pixels.pixel_line.Goals as goal
--- Each arm is lent what the line holds, and the text that it adds is that of the kind.
-use Prim.Native.Nat.{ℕ}
 
 -- the text of a line by its kind
-module _ {w r : Waiting} {b c : List ℕ} (k n : ℕ) (ns : List ℕ) where
-  is_scanline : k ≡ Kind.scanline → Adds (scanline_line n ns) w b r c → Adds (pixel_line k n ns) w b r c
+module _ (n : ℕ) (ns : List ℕ) {k : AKind} where
+  is_scanline : k ≡ kind.Scanline → scanline_line n ns ≡ pixel_line (code_of k) n ns
   unfolding pixel_line
-  is_scanline e p = rw e p
+  is_scanline e = rw e
 
-  is_fill : k ≡ Kind.fill_scanline → Adds (fill_line n ns) w b r c → Adds (pixel_line k n ns) w b r c
+  is_fill : k ≡ kind.FillScanline → fill_line n ns ≡ pixel_line (code_of k) n ns
   unfolding pixel_line
-  is_fill e p = rw e p
+  is_fill e = rw e
 
-  is_set : k ≡ Kind.set_scanline → Adds (set_line n ns) w b r c → Adds (pixel_line k n ns) w b r c
+  is_set : k ≡ kind.SetScanline → set_line n ns ≡ pixel_line (code_of k) n ns
   unfolding pixel_line
-  is_set e p = rw e p
+  is_set e = rw e
 
-  is_region : (k ≡ Kind.scanline → ⊥) → (k ≡ Kind.fill_scanline → ⊥) → (k ≡ Kind.set_scanline → ⊥) → Adds (region_line n ns) w b r c
-      → Adds (pixel_line k n ns) w b r c
+  is_region : (k ≡ kind.Scanline → ⊥) → (k ≡ kind.FillScanline → ⊥) → (k ≡ kind.SetScanline → ⊥) → region_line n ns ≡ pixel_line (code_of k) n ns
   unfolding pixel_line
-  is_region f g h p = rw (ne_eqb k Kind.scanline f, ne_eqb k Kind.fill_scanline g, ne_eqb k Kind.set_scanline h) p
+  is_region f g h = rw (other_kind k kind.Scanline f, other_kind k kind.FillScanline g, other_kind k kind.SetScanline h)
 
-pub returns-in-37 : goal.returns-in-37
-returns-in-37 c =
-    let a = c.args in
-    is_scanline a.line.kind a.line.count a.ns.now c.in-37.is c.scanline.ensures
+pub returns-in-Scanline : goal.returns-in-Scanline
+returns-in-Scanline c =
+    let ns = c.args.ns.now in
+    let n = c.args.line.count in
+    told (λ ps. ps) (scanline_front n ns (search rules) (search rules) ∙ is_scanline n ns c.in-Scanline.is) c.scanline.ensures
 
-pub returns-in-38 : goal.returns-in-38
-returns-in-38 c =
-    let a = c.args in
-    is_fill a.line.kind a.line.count a.ns.now c.in-38.is c.fill_scanline.ensures
+pub returns-in-FillScanline : goal.returns-in-FillScanline
+returns-in-FillScanline c =
+    let ns = c.args.ns.now in
+    let n = c.args.line.count in
+    told (λ ps. ps) (fill_front n ns (search rules) (search rules) ∙ is_fill n ns c.in-FillScanline.is) c.fill_scanline.ensures
 
-pub returns-in-39 : goal.returns-in-39
-returns-in-39 c =
-    let a = c.args in
-    is_set a.line.kind a.line.count a.ns.now c.in-39.is c.set_scanline.ensures
+pub returns-in-SetScanline : goal.returns-in-SetScanline
+returns-in-SetScanline c =
+    let ns = c.args.ns.now in
+    let n = c.args.line.count in
+    told (λ ps. ps) (set_front n ns (search rules) (search rules) ∙ is_set n ns c.in-SetScanline.is) c.set_scanline.ensures
 
 pub returns-in_default : goal.returns-in_default
 returns-in_default c =
-    let a = c.args in
-    is_region a.line.kind a.line.count a.ns.now (search rules) (search rules) (search rules) c.region.ensures
+    let ns = c.args.ns.now in
+    let n = c.args.line.count in
+    let d = c.in_default in
+    told (λ ps. ps) (region_front n ns (search rules) (search rules) ∙ is_region n ns d.not-Scanline d.not-FillScanline d.not-SetScanline) c.region.ensures

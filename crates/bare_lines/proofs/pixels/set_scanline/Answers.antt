@@ -1,33 +1,24 @@
--- The pixels that are written out are those that the call left in the part that was lent to it; its data are a copy.
-use Prim.Native.Nat.{ℕ, ◌+◌}
-use mathlib.Core.Path.{◌≡◌, ap, subst, ◌∙◌}
-use mathlib.Core.List.{List}
-use lib.ListN.{take, drop}
-use borrow.Author.Rules.{rules}
-use Rattle.winbuf.specs.Pixels.{Write, set_scanline}
-use Rattle.winbuf.specs.Bare.{Gives}
+-- The pixels come behind the data.
+use Rattle.std.proofs.Common.{subst, ◌≡◌, ◌+◌, ◌-◌, length, take, drop}
 use Rattle.bare_lines.specs.Numbers.{num}
 use Rattle.bare_lines.specs.Told.{from}
-use Rattle.bare_lines.specs.declared.pixels.Scan.{Scan}
-use Rattle.bare_lines.proofs.laws.Parts.{written, part_put}
+use Rattle.bare_lines.proofs.laws.Parts.{written, split_values, split_rest}
+use Rattle.winbuf.specs.Pixels.{Write, set_scanline}
+use Rattle.winbuf.specs.Bare.{Gives, altered_of}
 use Rattle.bare_lines.proofs.pixels.set_scanline.Goals as goal
-
--- the rule at what the code read is the rule at the numbers of the line
-asked : (ns ds : List ℕ) (n k : ℕ) {s : Scan} → s ≡ record { w = num ns 0; h = num ns 1; line = num ns 2; ofs = num ns 3; len = num ns 4 } → k ≡ num ns 5
-    → take k ds ≡ take k (drop 6 ns)
-    → set_scanline (from (6 + k) n ns) s.w s.h s.line s.ofs s.len (take k ds)
-    ≡ set_scanline (from (6 + num ns 5) n ns) (num ns 0) (num ns 1) (num ns 2) (num ns 3) (num ns 4) (take (num ns 5) (drop 6 ns))
-asked ns ds n k e f g =
-    (λ i. set_scanline (from (6 + k) n ns) (e i).w (e i).h (e i).line (e i).ofs (e i).len (g i))
-    ∙ ap (λ (j : ℕ). set_scanline (from (6 + j) n ns) (num ns 0) (num ns 1) (num ns 2) (num ns 3) (num ns 4) (take j (drop 6 ns))) f
 
 pub returns : goal.returns
 returns c =
     let ns = c.args.ns.now in
-    let n = c.args.count in
-    let k = c.wide-n.result in
-    let f = c.set-written in
-    let e = asked ns c.copied-data.result n k c.scan_of-s.ensures c.wide-n.ensures c.copied-data.ensures in
-    written (part_put (6 + k) n ns f.new.pixels (search rules) (search rules) (search rules))
-    (subst (λ (t : Write). Gives t f.result f.new.pixels) e f.ensures)
+    let k = num ns 5 in
+    let s = c.scan_of-s.ensures in
+    let pixels = split_rest ns c.split_at_mut-head.result.1.now (6 + k) c.split_at_mut-head.ensures.back in
+    let values = split_values ns c.split_at_mut-head.result.0.now k c.requires c.split_at_mut-head.ensures.front in
+    let h = c.scan_of-s.result in
+    let values_of = take (length c.split_at_mut-head.result.0.now - 6) (drop 6 c.split_at_mut-head.result.0.now) in
+    let rule : set_scanline c.split_at_mut-head.result.1.now h.w h.h h.line h.ofs h.len values_of
+    ≡ set_scanline (from (6 + k) (length ns) ns) (num ns 0) (num ns 1) (num ns 2) (num ns 3) (num ns 4) (take k (drop 6 ns)) =
+    λ i. set_scanline (pixels i) (s i).w (s i).h (s i).line (s i).ofs (s i).len (values i) in
+    written c.set_scanline-altered.result
+    (subst (λ (x : Write). Gives x (altered_of c.set_scanline-altered.result) c.set_scanline-altered.new.pixels) rule c.set_scanline-altered.ensures)
     c.write_altered.ensures

@@ -1,10 +1,11 @@
--- The answer 0, the numbers and the end, one behind the other; or the answer alone.
-use Rattle.answer_text.specs.Text.{numbers}
-use Rattle.answer_text.proofs.laws.Added.{then}
-use Rattle.bare_lines.proofs.laws.Lines.{accepted}
+-- The answer 0, the numbers and the end, one behind the other.
+use Rattle.std.proofs.Common.{sym}
+use Rattle.geom.specs.Refusals.{answer_of}
+use Rattle.winbuf.specs.Bare.{pixels_of}
+use Rattle.bare_lines.specs.Told.{part_line}
+use Rattle.answer_text.proofs.laws.Added.{then, told}
 use Rattle.bare_lines.proofs.pixels.write_part.Goals as goal
 
-pub returns-then-answer-eq-OK : goal.returns-then-answer-eq-OK
-returns-then-answer-eq-OK c =
-    let a = c.args in
-    accepted (numbers a.part.now) c.if-answer-eq-OK.true (then c.number-to.ensures (then c.all-then.ensures c.end.ensures))
+pub returns-in-Ok : goal.returns-in-Ok
+returns-in-Ok c =
+    told (λ r. part_line (answer_of r) (pixels_of r)) (sym c.in-Ok.is) (then c.number.ensures (then c.all.ensures c.end.ensures))

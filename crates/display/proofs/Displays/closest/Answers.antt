@@ -1,10 +1,13 @@
 -- So far the display kept is the closest of those passed.
-use Rattle.std.proofs.Common.{ℕ, ◌≡◌, ◌∙◌, ap, arith}
+use Rattle.std.proofs.Common.{ℕ, ◌<◌, ◌≡◌, ◌∙◌, List, length, get_or, sym, ap, subst}
 use Rattle.geom.specs.declared.Pos.{Pos}
 use Rattle.geom.specs.declared.Rect.{Rect}
+use Rattle.geom.specs.declared.inner.rect16.Rect16.{Rect16}
 use Rattle.geom.specs.Nearest.{nearest_x, nearest_y, distance²}
 use Rattle.geom.specs.Displays.{away²}
-use Rattle.display.proofs.laws.Regions.{region}
+use Rattle.geom.specs.Rect16.{rect_of, no_rect16}
+use Rattle.display.specs.Represents.{OnScreen}
+use Rattle.display.proofs.laws.Regions.{each_on}
 use Rattle.display.proofs.laws.Search.{near_enough, is_nearer, not_nearer}
 use Rattle.display.proofs.Displays.closest.Goals as goal
 use Rattle.display.proofs.Displays.closest.Goals.{then-new_dist-dist, else-new_dist-dist}
@@ -18,16 +21,18 @@ measured p e n d =
     let y = n.1 ∙ ap (λ (t : Rect). nearest_y t p.y) e in
     d ∙ (λ i. distance² p.x p.y (x i) (y i))
 
-pub loop-i-preserved : goal.loop-i-preserved
-loop-i-preserved c =
+pub loop-area-preserved : goal.loop-area-preserved
+loop-area-preserved c =
     let a = c.args in
-    let l = c.loop-i in
-    let q = l.invariant in
-    let shown = c.requires.0.each l.i (omega (arith, q.count_is)) in
-    let e : c.dist_sq-new_dist.result ≡ away² (region a.self l.i) a.pos.x a.pos.y =
-    measured a.pos c.rect.ensures c.clamp_pos.ensures c.dist_sq-new_dist.ensures in
-    let fits = near_enough (region a.self l.i) a.pos.x a.pos.y shown c.requires.1 c.requires.2 in
+    let l = c.present-areas.result.now in
+    let i = c.loop-area.area-index in
+    let r : Rect = rect_of (get_or l i no_rect16) in
+    let e : c.dist_sq-new_dist.result ≡ away² r a.pos.x a.pos.y = measured a.pos c.rect.ensures c.clamp_pos.ensures c.dist_sq-new_dist.ensures in
+    let on : OnScreen r =
+    subst (λ (m : List Rect16). i < length m → OnScreen (rect_of (get_or m i no_rect16))) (sym c.present-areas.ensures)
+    (each_on a.self.now c.requires.0 i) c.loop-area-test.true in
     elim c.if-new_dist-dist.branch [
-      | then-new_dist-dist w ↦ rw (w.dist-is, w.near-is) (is_nearer c.requires.0 q c.loop-i-test.true _ e w.if-new_dist-dist.true)
-      | else-new_dist-dist w ↦ rw (w.dist-is, w.near-is) (not_nearer c.requires.0 q c.loop-i-test.true _ e fits w.if-new_dist-dist.false)
+      | then-new_dist-dist w ↦ rw (w.dist-is, w.near-is) (is_nearer c.loop-area.invariant c.loop-area-test.true _ e w.if-new_dist-dist.true)
+      | else-new_dist-dist w ↦ rw (w.dist-is, w.near-is)
+          (not_nearer c.loop-area.invariant c.loop-area-test.true _ e (near_enough r a.pos.x a.pos.y on c.requires.1 c.requires.2) w.if-new_dist-dist.false)
     ]

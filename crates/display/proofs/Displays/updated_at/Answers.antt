@@ -23,8 +23,8 @@ answered-requires c = small _ _ _ c.requires.0 c.get_display_for_pos-found.ensur
 pub returns-then-maximised : goal.returns-then-maximised
 returns-then-maximised c =
     let a = c.args in
-    let e = told (regions a.self) a.at.x a.at.y c.get_display_for_pos-found.ensures c.new.ensures in (
-      c.answered.ensures ∙ ap answered e ∙ ap (λ (b : Bool). updated_at (regions a.self) b (rect_of a.at)) (sym c.if-maximised.true),
+    let e = told (regions a.self.now) a.at.x a.at.y c.get_display_for_pos-found.ensures c.new.ensures in (
+      c.answered.ensures ∙ ap answered e ∙ ap (λ (b : Bool). updated_at (regions a.self.now) b (rect_of a.at)) (sym c.if-maximised.true),
       subst Small (sym c.answered.ensures) (small _ _ _ c.requires.0 e),
     )
 

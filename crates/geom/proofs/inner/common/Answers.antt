@@ -1,7 +1,5 @@
 -- Left and top are the greatest, right and bottom the least; that the two meet keeps the differences from 0.
-use Prim.Native.Nat.{min}
-use mathlib.Core.Path.{ap₂, ◌∙◌}
-use native.Mathlib.Omega.{arith}
+use Rattle.std.proofs.Common.{min, ap₂, ◌∙◌, arith}
 use Rattle.geom.proofs.geometry.Facts.{says_meet}
 use Rattle.geom.proofs.geometry.Sides.{common_sides}
 use Rattle.geom.proofs.inner.common.Goals as goal
@@ -15,6 +13,6 @@ overflow_sub-s c = let m = (says_meet c.args.a c.args.b).fact c.requires.b_value
 pub returns : goal.returns
 returns c =
     c.new.ensures
-    ∙ common_sides _ _ _ _ _ _ c.greatest-x.ensures c.greatest-y.ensures
-    (c.least-r.ensures ∙ ap₂ min c.right.ensures c.right-2.ensures)
-    (c.least-s.ensures ∙ ap₂ min c.bottom.ensures c.bottom-2.ensures)
+    ∙ common_sides _ _ _ _ _ _ c.max-x.ensures c.max-y.ensures
+    (c.min-r.ensures ∙ ap₂ min c.right.ensures c.right-2.ensures)
+    (c.min-s.ensures ∙ ap₂ min c.bottom.ensures c.bottom-2.ensures)

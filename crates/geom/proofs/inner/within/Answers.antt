@@ -1,20 +1,17 @@
 -- The four sides are tested in turn.
-use native.Mathlib.Omega.{arith}
+use Rattle.std.proofs.Common.{arith}
 use Rattle.geom.proofs.geometry.Facts.{says_within}
-use Rattle.geom.proofs.basics.Tests.{fails, passes}
+use Rattle.geom.proofs.basics.Tests.{same, says_le}
 use Rattle.geom.proofs.inner.within.Goals as goal
 
-pub returns-then-w-r : goal.returns-then-w-r
-returns-then-w-r c = fails (says_within _ _ _) (λ i. omega arith)
+pub returns-then-right-w : goal.returns-then-right-w
+returns-then-right-w c = same (says_le _ _) (says_within _ _ _) (λ h. omega arith) (λ i. omega arith)
 
-pub returns-then-h-r : goal.returns-then-h-r
-returns-then-h-r c = fails (says_within _ _ _) (λ i. omega arith)
+pub returns-else-right-w : goal.returns-else-right-w
+returns-else-right-w c = same (says_le _ _) (says_within _ _ _) (λ h. omega arith) (λ i. omega arith)
 
-pub returns-then-w-right : goal.returns-then-w-right
-returns-then-w-right c = fails (says_within _ _ _) (λ i. omega arith)
+pub returns-else-r-h : goal.returns-else-r-h
+returns-else-r-h c = same (says_le _ _) (says_within _ _ _) (λ h. omega arith) (λ i. omega arith)
 
-pub returns-then-h-bottom : goal.returns-then-h-bottom
-returns-then-h-bottom c = fails (says_within _ _ _) (λ i. omega arith)
-
-pub returns : goal.returns
-returns c = passes (says_within _ _ _) (omega arith)
+pub returns-else-r-w : goal.returns-else-r-w
+returns-else-r-w c = same (says_le _ _) (says_within _ _ _) (λ h. omega arith) (λ i. omega arith)

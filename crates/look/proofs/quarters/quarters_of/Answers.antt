@@ -1,12 +1,13 @@
 -- `quarters_of`: a float of q quarters passes the four tests and yields q, so what fails one has no quarters in range; and what passes them equals q quarters.
-use Rattle.std.proofs.Common.{◌≡◌, ℕ, ◌*◌, ◌≤◌, true, T, pos, sym, refl, ◌∙◌, subst, zero-lt-suc, mul-div_cancel, arith, eq-eqb}
-use lib.Ieee.{Float, binary64, of_bits, neg, mul, lt, eq, of_int, to_unsigned}
+use Rattle.std.proofs.Common.{◌≡◌, ℕ, ◌*◌, ◌≤◌, true, T, pos, sym, refl, ◌∙◌, subst, zero-lt-suc, mul-div_cancel, arith, eq-eqb, Float}
+use lib.Ieee.{binary64, of_bits, neg, mul, lt, eq, of_int, to_unsigned}
 use Rattle.geom.proofs.basics.Tests.{clash}
 use Rattle.look.specs.Quarters.{IsQuarters}
 use Rattle.look.proofs.laws.Exact.{of_whole, of_mul}
 use Rattle.look.proofs.laws.Compare.{of_eq, least, most, of_above, of_below, of_cut, eq_quarters}
 use Rattle.look.proofs.laws.Means.{given, refused}
 use Rattle.look.proofs.quarters.quarters_of.Goals as goal
+use Rattle.look.proofs.quarters.quarters_of.Goals.{else-four-via-then-four+else-four-2, else-four-via-else-four, else-q-le131068-via-then-q-le131068+else-q-x, else-q-le131068-via-else-q-le131068}
 
 -- the code's 4.0 and 0.25
 abbrev four : Float
@@ -53,28 +54,24 @@ returns-then-q-x c =
     let l : q ≤ 131068 = omega arith in
     sym (given x q (eq_quarters (mul binary64 (of_int binary64 (pos q)) quarter) x q (back q l) c.if-q-x.true) l)
 
-pub returns-else-q-x : goal.returns-else-q-x
-returns-else-q-x c =
-    let x = c.args.x in
-    let cut = c.truncating_f64_to_u64-q in
-    refused x
-    (λ q h l. clash
-    (subst (λ (k : ℕ). eq (mul binary64 (of_int binary64 (pos k)) quarter) x ≡ true) (sym (cut.ensures ∙ is_cut x q h l)) (is_back x q h l))
-    c.if-q-x.false)
-
 pub returns-else-q-le131068 : goal.returns-else-q-le131068
 returns-else-q-le131068 c =
     let x = c.args.x in
-    refused x (λ q h l. omega (arith, is_cut x q h l))
-
-pub returns-else-four-2 : goal.returns-else-four-2
-unfolding of_bits
-returns-else-four-2 c =
-    let x = c.args.x in
-    refused x (λ q h l. clash (is_below x q h l) c.if-four-2.false)
+    let cut = c.truncating_f64_to_u64-q in
+    elim c.else-q-le131068.branch [
+      | else-q-le131068-via-then-q-le131068+else-q-x w ↦
+          refused x
+          (λ q h l. clash
+          (subst (λ (k : ℕ). eq (mul binary64 (of_int binary64 (pos k)) quarter) x ≡ true) (sym (cut.ensures ∙ is_cut x q h l)) (is_back x q h l))
+          w.if-q-x.false)
+      | else-q-le131068-via-else-q-le131068 w ↦ refused x (λ q h l. omega (arith, is_cut x q h l, w.if-q-le131068.false, cut.ensures))
+    ]
 
 pub returns-else-four : goal.returns-else-four
 unfolding of_bits neg
 returns-else-four c =
     let x = c.args.x in
-    refused x (λ q h l. clash (is_above x q h l) c.if-four.false)
+    elim c.else-four.branch [
+      | else-four-via-then-four+else-four-2 w ↦ refused x (λ q h l. clash (is_below x q h l) w.if-four-2.false)
+      | else-four-via-else-four w ↦ refused x (λ q h l. clash (is_above x q h l) w.if-four.false)
+    ]

@@ -1,6 +1,6 @@
 -- `take_part`: with the factor 1 the pixels lie side by side, and the last of them lies in the store.
 use Rattle.std.proofs.Common.{◌≡◌, ℕ, ◌+◌, ◌-◌, ◌*◌, ◌/◌, ◌<◌, ◌≤◌, List, length, ap, ◌∙◌, arith}
-use lib.Seq.{sets}
+use Rattle.std.proofs.lemmas.List.Edits.{sets}
 use Rattle.look.specs.inner.Steps.{Along}
 use Rattle.look.proofs.laws.Rows.{beside}
 use Rattle.look.proofs.rows.take_part.Goals as goal

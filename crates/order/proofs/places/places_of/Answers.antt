@@ -1,20 +1,12 @@
--- The windows below place i have their places.
-use Prim.Native.Nat.{◌<◌}
-use mathlib.Core.Path.{refl}
-use native.Mathlib.Omega.{arith}
-use lib.ListN.{get_or}
-use Rattle.window.specs.inner.Ids.{no_id}
+-- One window more has its place.
+use Rattle.std.proofs.Common.{map, Some, refl}
+use Rattle.geom.proofs.basics.Lists.{map_set}
+use Rattle.order.specs.inner.Order.{place_or_16}
 use Rattle.order.proofs.laws.Flags.{place_next}
-use borrow.Author.Rules.{rules}
 use Rattle.order.proofs.places.places_of.Goals as goal
-use Rattle.order.proofs.places.places_of.Goals.{In-loop-i}
-
-low : (turn : In-loop-i) → (get_or turn.args.order turn.loop-i.i no_id).0 < 16
-low turn = turn.requires.1 _ turn.loop-i-test.true
 
 pub loop-i-preserved : goal.loop-i-preserved
 loop-i-preserved c =
-    let q = c.loop-i in (
-      omega (arith, c.loop-i-test.true),
-      place_next c.args.order q.i _ (search rules) (omega (arith, c.loop-i-test.true, c.requires.0)) refl (low (goal.at.loop-i-preserved c).In-loop-i) q.places q.invariant.1,
-    )
+    let q = c.loop-i in
+    rw (map_set place_or_16 q.places _ (Some (record { 0 = q.i })))
+    (place_next c.args.shown.now q.i _ c.loop-i-test.true refl (c.requires _ c.loop-i-test.true) (map place_or_16 q.places) q.invariant)

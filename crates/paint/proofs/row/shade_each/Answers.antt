@@ -1,8 +1,5 @@
 -- `shade_each`: what is left to be written, from here, gives the same.
-use mathlib.Core.Path.{ap, ◌∙◌}
-use Prim.Native.Nat.{◌+◌}
-use native.Mathlib.Omega.{arith}
-use lib.ListN.{set, length-set}
+use Rattle.std.proofs.Common.{ap, ◌∙◌, ◌+◌, arith, set, length-set}
 use Rattle.paint.specs.Shade.{shade}
 use Rattle.paint.proofs.laws.Through.{through_more, through_one}
 use Rattle.paint.proofs.row.shade_each.Goals as goal

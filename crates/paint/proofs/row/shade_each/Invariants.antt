@@ -1,9 +1,6 @@
 -- `shade_each`: what is left to be written, from here, gives the same.
-use mathlib.Core.Path.{◌≡◌}
-use mathlib.Core.List.{map}
-use Prim.Native.Nat.{◌+◌, ◌-◌, ◌≤◌}
-use lib.ListN.{length}
-use lib.Seq.{sets}
+use Rattle.std.proofs.Common.{◌≡◌, map, ◌+◌, ◌-◌, ◌≤◌, length}
+use Rattle.std.proofs.lemmas.List.Edits.{sets}
 use Rattle.scanline.specs.Pixels.{part}
 use Rattle.paint.specs.Shade.{shade}
 use Rattle.paint.proofs.row.shade_each.Given as goal

@@ -1,10 +1,12 @@
--- The answer 0 with the id and the end, or the answer alone.
-use Rattle.windows.specs.View.{id_of}
+-- The answer 0, what was found and the end, one behind the other.
+use Rattle.std.proofs.Common.{sym}
+use Rattle.geom.specs.Refusals.{answer_of}
+use Rattle.windows.specs.View as View
+use Rattle.answer_text.specs.Text.{answered}
 use Rattle.replay.specs.Told.{new_id}
-use Rattle.replay.proofs.laws.Events.{accepted}
+use Rattle.answer_text.proofs.laws.Added.{then, told}
 use Rattle.replay.proofs.calls.write_created.Goals as goal
 
-pub returns-then-answer-eq-OK : goal.returns-then-answer-eq-OK
-returns-then-answer-eq-OK c =
-    let args = c.args in
-    accepted args.answer (new_id (id_of args.id)) c.if-answer-eq-OK.true c.number-to.ensures c.write_id-then.ensures c.end.ensures
+pub returns-in-Ok : goal.returns-in-Ok
+returns-in-Ok c =
+    told (λ r. answered (answer_of r) (new_id (View.id_of r))) (sym c.in-Ok.is) (then c.number.ensures (then c.more.ensures c.end.ensures))

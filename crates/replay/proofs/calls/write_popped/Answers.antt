@@ -1,10 +1,12 @@
--- The answer 0 with the event and the end, or the answer alone.
+-- The answer 0, what was found and the end, one behind the other.
+use Rattle.std.proofs.Common.{sym}
+use Rattle.geom.specs.Refusals.{answer_of}
 use Rattle.windows.specs.View.{event_in}
+use Rattle.answer_text.specs.Text.{answered}
 use Rattle.replay.specs.Told.{event}
-use Rattle.replay.proofs.laws.Events.{accepted}
+use Rattle.answer_text.proofs.laws.Added.{then, told}
 use Rattle.replay.proofs.calls.write_popped.Goals as goal
 
-pub returns-then-answer-eq-OK : goal.returns-then-answer-eq-OK
-returns-then-answer-eq-OK c =
-    let args = c.args in
-    accepted args.answer (event (event_in args.event)) c.if-answer-eq-OK.true c.number-to.ensures c.write_next-then.ensures c.end.ensures
+pub returns-in-Ok : goal.returns-in-Ok
+returns-in-Ok c =
+    told (λ r. answered (answer_of r) (event (event_in r))) (sym c.in-Ok.is) (then c.number.ensures (then c.write_event.ensures c.end.ensures))

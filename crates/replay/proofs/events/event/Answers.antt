@@ -1,34 +1,38 @@
 -- Each arm's event is the one that the kind picks; the kind that is left is `resized`.
-use mathlib.Core.Path.{refl}
-use borrow.Author.Rules.{rules}
-use Rattle.replay.proofs.laws.Arms.{resized_left}
+use Rattle.std.proofs.Common.{ap, refl}
+use Rattle.script.specs.Kind.{code_of}
 use Rattle.replay.proofs.laws.Picked.{event_at}
+use Rattle.replay.proofs.laws.Arms.{apart, resized_left}
 use Rattle.replay.proofs.events.event.Goals as goal
 
-pub returns-in-12 : goal.returns-in-12
-returns-in-12 c = event_at c.in-12.is c.args.ns.now refl
+pub returns-in-KeyDown : goal.returns-in-KeyDown
+returns-in-KeyDown c = event_at (ap code_of c.in-KeyDown.is) c.args.ns.now refl
 
-pub returns-in-13 : goal.returns-in-13
-returns-in-13 c = event_at c.in-13.is c.args.ns.now refl
+pub returns-in-KeyUp : goal.returns-in-KeyUp
+returns-in-KeyUp c = event_at (ap code_of c.in-KeyUp.is) c.args.ns.now refl
 
-pub returns-in-14 : goal.returns-in-14
-returns-in-14 c = event_at c.in-14.is c.args.ns.now refl
+pub returns-in-KeyFire : goal.returns-in-KeyFire
+returns-in-KeyFire c = event_at (ap code_of c.in-KeyFire.is) c.args.ns.now refl
 
-pub returns-in-15 : goal.returns-in-15
-returns-in-15 c = event_at c.in-15.is c.args.ns.now refl
+pub returns-in-Text : goal.returns-in-Text
+returns-in-Text c = event_at (ap code_of c.in-Text.is) c.args.ns.now refl
 
-pub returns-in-16 : goal.returns-in-16
-returns-in-16 c = event_at c.in-16.is c.args.ns.now refl
+pub returns-in-MouseMove : goal.returns-in-MouseMove
+returns-in-MouseMove c = event_at (ap code_of c.in-MouseMove.is) c.args.ns.now refl
 
-pub returns-in-17 : goal.returns-in-17
-returns-in-17 c = event_at c.in-17.is c.args.ns.now refl
+pub returns-in-MouseDown : goal.returns-in-MouseDown
+returns-in-MouseDown c = event_at (ap code_of c.in-MouseDown.is) c.args.ns.now refl
 
-pub returns-in-18 : goal.returns-in-18
-returns-in-18 c = event_at c.in-18.is c.args.ns.now refl
+pub returns-in-MouseUp : goal.returns-in-MouseUp
+returns-in-MouseUp c = event_at (ap code_of c.in-MouseUp.is) c.args.ns.now refl
 
-pub returns-in-19 : goal.returns-in-19
-returns-in-19 c = event_at c.in-19.is c.args.ns.now refl
+pub returns-in-MouseClick : goal.returns-in-MouseClick
+returns-in-MouseClick c = event_at (ap code_of c.in-MouseClick.is) c.args.ns.now refl
 
 pub returns-in_default : goal.returns-in_default
 returns-in_default c =
-    event_at (resized_left c.args.line.kind Unit c.requires.1 (search rules)) c.args.ns.now refl
+    let d = c.in_default in
+    event_at
+    (resized_left _ Unit c.requires.1
+    ((((((((tt, apart d.not-KeyDown), apart d.not-KeyUp), apart d.not-KeyFire), apart d.not-Text), apart d.not-MouseMove), apart d.not-MouseDown), apart d.not-MouseUp), apart d.not-MouseClick))
+    c.args.ns.now refl

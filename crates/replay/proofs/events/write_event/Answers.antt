@@ -9,17 +9,16 @@ use mir.Facts.{to_z-of_z}
 use borrow.Author.Rules.{rules}
 use Rattle.script.specs.Text.{bytes}
 use Rattle.answer_text.specs.Text.{word, number, signed}
-use Rattle.answer_text.specs.Added.{Adds}
-use Rattle.answer_text.specs.declared.Waiting.{Waiting}
+use Rattle.answer_text.specs.Added.{Output, Says}
 use Rattle.answer_text.proofs.laws.Added.{then}
 use Rattle.replay.specs.Told.{event_pieces}
-use Rattle.replay.proofs.laws.Events.{retold}
+use Rattle.replay.proofs.laws.Nexts.{retold}
 use Rattle.replay.proofs.events.write_event.Goals as goal
 
 -- differences that were kept in 16 bits
-moved : (name : List ℕ) (x y : ℕ) (dx dy : ℤ) {w r : Waiting} {b c : List ℕ} → SFits w16 dx → SFits w16 dy
-    → Adds (word name ∷ number x ∷ number y ∷ signed (to_z w16 (of_z w16 dx)) ∷ signed (to_z w16 (of_z w16 dy)) ∷ []) w b r c
-    → Adds (word name ∷ number x ∷ number y ∷ signed dx ∷ signed dy ∷ []) w b r c
+moved : (name : List ℕ) (x y : ℕ) (dx dy : ℤ) {o r : Output} → SFits w16 dx → SFits w16 dy
+    → Says (word name ∷ number x ∷ number y ∷ signed (to_z w16 (of_z w16 dx)) ∷ signed (to_z w16 (of_z w16 dy)) ∷ []) o r
+    → Says (word name ∷ number x ∷ number y ∷ signed dx ∷ signed dy ∷ []) o r
 moved name x y dx dy p q a = retold (λ i. word name ∷ number x ∷ number y ∷ signed (to_z-of_z p i) ∷ signed (to_z-of_z q i) ∷ []) a
 
 pub returns-in-Resize : goal.returns-in-Resize
@@ -53,7 +52,7 @@ returns-in-MouseMove c =
     let m = c.in-MouseMove in
     retold (sym (ap event_pieces m.is))
     (moved (bytes "MouseMove") m.x m.y m.dx m.dy (search rules) (search rules)
-    (then c.write_point-to.ensures (then c.signed-then.ensures c.signed.ensures)))
+    (then c.write_point.ensures (then c.signed.ensures c.signed-in-MouseMove.ensures)))
 
 pub returns-in-MouseDown : goal.returns-in-MouseDown
 unfolding event_pieces
@@ -63,7 +62,7 @@ returns-in-MouseDown c =
 pub returns-in-MouseClick : goal.returns-in-MouseClick
 unfolding event_pieces
 returns-in-MouseClick c =
-    retold (sym (ap event_pieces c.in-MouseClick.is)) (then c.write_press-to.ensures c.more.ensures)
+    retold (sym (ap event_pieces c.in-MouseClick.is)) (then c.write_press-in-MouseClick.ensures c.more.ensures)
 
 pub returns-in-MouseUp : goal.returns-in-MouseUp
 unfolding event_pieces

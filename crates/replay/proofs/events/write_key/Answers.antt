@@ -1,6 +1,6 @@
--- The name and the value, one behind the other.
+-- One behind the other.
 use Rattle.answer_text.proofs.laws.Added.{then}
 use Rattle.replay.proofs.events.write_key.Goals as goal
 
 pub returns : goal.returns
-returns c = then c.word-to.ensures c.more.ensures
+returns c = then c.word.ensures c.more.ensures

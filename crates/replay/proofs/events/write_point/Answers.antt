@@ -1,6 +1,6 @@
--- The name with the first value, and the second behind them.
+-- One behind the other.
 use Rattle.answer_text.proofs.laws.Added.{then}
 use Rattle.replay.proofs.events.write_point.Goals as goal
 
 pub returns : goal.returns
-returns c = then c.write_key-to.ensures c.more.ensures
+returns c = then c.write_key.ensures c.more.ensures

@@ -1,7 +1,5 @@
--- The points are as many numbers of the line as it has, and the call is lent the front of the list.
-use Prim.Native.Nat.{◌-◌}
-use native.Mathlib.Omega.{arith}
-use lib.ListN.{take}
+-- The call is lent the front of the list.
+use Rattle.geom.specs.Refusals.{answer_of}
 use Rattle.windows.specs.View.{group}
 use Rattle.replay.proofs.laws.Made.{hits_part}
 use Rattle.replay.proofs.hits.hits_at.Goals as goal
@@ -9,4 +7,4 @@ use Rattle.replay.proofs.hits.hits_at.Goals as goal
 pub returns : goal.returns
 returns c =
     let a = c.args in
-    hits_part (group a.s) (take a.count a.ns.now) a.len (a.len - 0) a.list.now c.hits.new.answers c.hits.result (omega arith) c.requires.2 c.hits.ensures
+    hits_part (group a.s.now) a.points.now a.len a.list.now c.hits.new.answers (answer_of c.hits.result) c.requires.1 c.hits.ensures

@@ -8,4 +8,4 @@ returns-clause-ready g c = (left_of c.line.ensures.plays).ready
 pub returns-clause-by_index : goal.returns-clause-by_index
 returns-clause-by_index g c =
     let name = c.args.name.now in
-    λ bs n r. heard_out name (c.line-line.ensures.by_index bs name n r) c.counted-p.ensures.1 c.line.ensures
+    λ bs n r. heard_out name (c.line-line.ensures.by_index bs name n r) c.count_line.ensures.1 c.line.ensures

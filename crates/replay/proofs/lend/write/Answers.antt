@@ -1,27 +1,29 @@
 -- Each arm makes the call that the kind picks.
-use mathlib.Core.Path.{◌≡◌, refl, subst}
-use Rattle.rules.specs.Calls.{Call}
-use Rattle.replay.specs.Called.{is_counted}
-use Rattle.replay.proofs.laws.Made.{Counts}
+use Rattle.std.proofs.Common.{ℕ, ◌≡◌, refl, subst, ap, Bool, true, List}
+use Rattle.script.specs.Kind.{code_of}
+use Rattle.rules.specs.Calls.{Call, does}
+use Rattle.windows.specs.declared.Session.{Session}
+use Rattle.windows.specs.View.{Written, group, done, written, MeetsStore}
 use Rattle.bare_lines.specs.Numbers.{num, id_of, rect_at}
+use Rattle.replay.specs.Called.{is_counted}
 use Rattle.replay.proofs.laws.Picked.{store_at}
 use Rattle.replay.proofs.lend.write.Goals as goal
 
-pub returns-in-10 : goal.returns-in-10
-returns-in-10 c =
+-- what a call says that is lent the store, and also counts the pixels that it alters, where `counts`
+abbrev Wrote : Bool → Session → Written → List ℕ → Call → Type 0
+Wrote counts s r last c = MeetsStore c s (done r.session r.answer) last × (counts ≡ true → r.altered ≡ (does (group s) c).altered)
+
+pub returns-in-Fill : goal.returns-in-Fill
+returns-in-Fill c =
     let args = c.args in
     let ns = args.ns.now in
-    let id = c.id in
-    let rect = c.rect in
     let f = c.fill in
-    let made : Call.Fill id.result.0 rect.result (num ns 5) args.store.now
-    ≡ Call.Fill (id_of ns) (rect_at ns 1) (num ns 5) args.store.now =
-    λ i. Call.Fill (id.ensures i) (rect.ensures i) (num ns 5) args.store.now in
-    store_at c.in-10.is args.line.count ns args.store.now refl
-    (subst (Counts (is_counted args.line.kind) args.s f.result f.new.store) made (f.ensures.meets, λ t. f.ensures.altered))
+    let made : Call.Fill c.id.result.0 c.rect.result (num ns 5) args.store.now ≡ Call.Fill (id_of ns) (rect_at ns 1) (num ns 5) args.store.now =
+    λ i. Call.Fill (c.id.ensures i) (c.rect.ensures i) (num ns 5) args.store.now in
+    store_at (ap code_of c.in-Fill.is) args.line.count ns args.store.now refl
+    (subst (Wrote (is_counted (code_of args.line.kind)) args.s.now (written f.new.self f.result) f.new.store) made (f.ensures.meets, λ t. f.ensures.altered))
 
-pub returns-in-11 : goal.returns-in-11
-returns-in-11 c =
+pub returns-in-Blit : goal.returns-in-Blit
+returns-in-Blit c =
     let args = c.args in
-    store_at c.in-11.is args.line.count args.ns.now
-    args.store.now refl (c.part.ensures.meets, λ t. c.part.ensures.altered)
+    store_at (ap code_of c.in-Blit.is) args.line.count args.ns.now args.store.now refl (c.blit.ensures.meets, λ t. c.blit.ensures.altered)

@@ -1,14 +1,10 @@
--- The answer 0, the count, the numbers and the end, one behind the other, or the answer alone.
-use Prim.Native.Nat.{◌*◌}
-use mathlib.Core.List.{◌∷◌}
-use lib.ListN.{take}
-use Rattle.answer_text.specs.Text.{number, numbers}
-use Rattle.answer_text.proofs.laws.Added.{then}
-use Rattle.replay.proofs.laws.Lists.{accepted}
+-- The answer 0, what was found and the end, one behind the other.
+use Rattle.std.proofs.Common.{sym}
+use Rattle.geom.specs.Refusals.{answer_of, value_or}
+use Rattle.replay.specs.Told.{rects_line}
+use Rattle.answer_text.proofs.laws.Added.{then, told}
 use Rattle.replay.proofs.lend.write_rects.Goals as goal
 
-pub returns-then-answer-eq-OK : goal.returns-then-answer-eq-OK
-returns-then-answer-eq-OK c =
-    let args = c.args in
-    accepted (number args.count ∷ numbers (take (4 * args.count) args.list.now)) c.if-answer-eq-OK.true
-    (then c.number-to.ensures (then c.count-then.ensures (then c.write_list-last.ensures c.end.ensures)))
+pub returns-in-Ok : goal.returns-in-Ok
+returns-in-Ok c =
+    told (λ r. rects_line (answer_of r) (value_or 0 r) c.args.list.now) (sym c.in-Ok.is) (then c.number.ensures (then c.more.ensures (then c.all.ensures c.end.ensures)))

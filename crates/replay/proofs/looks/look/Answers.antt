@@ -10,6 +10,8 @@ use Rattle.replay.specs.declared.player.Player.{Player}
 use Rattle.replay.specs.Ready.{Next, untargeted}
 use Rattle.replay.specs.Looks.{target_len, asks}
 use Rattle.replay.specs.Played.{asks_look, exceeds, no_look}
+use Rattle.script.specs.Kind.{code_of}
+use Rattle.replay.proofs.laws.Nexts.{tells}
 use Rattle.replay.proofs.looks.look.Goals as goal
 
 -- the line of a look with a target of n pixels
@@ -18,21 +20,22 @@ told p k ns store n =
     let s = asks (group p.session) k ns (take p.lent store) (replicate n 4294967295) in
     part_line s.answer s.target
 
-pub returns-then-len-le65536 : goal.returns-then-len-le65536
-returns-then-len-le65536 c = λ screen.
+pub returns-then-len-gt65536 : goal.returns-then-len-gt65536
+returns-then-len-gt65536 c = λ screen.
     record {
-      text = told c.args.p c.args.line.kind c.args.ns.now c.args.store.now (target_len c.args.p c.args.line.kind c.args.ns.now);
+      text = beyond;
       plays =
-          asks_look c.requires.1 (subst (λ (n : ℕ). n ≤ 65536) c.target_len-len.ensures c.if-len-le65536.true) refl
-          (subst (λ (n : ℕ). Next (told c.args.p c.args.line.kind c.args.ns.now c.args.store.now n) (untargeted c.args.p) c.args.p.session c.args.out.now c.looked.result c.looked.new.out)
-          c.target_len-len.ensures c.looked.ensures) refl;
+          exceeds (no_look c.requires.1 (subst (λ (n : ℕ). 65536 < n) c.target_len-len.ensures c.if-len-gt65536.true)) refl
+          (tells c.args.p.now c.requires.0 c.refused.ensures) refl;
     }
 
 pub returns : goal.returns
 returns c = λ screen.
+    let k = code_of c.args.line.kind in
     record {
-      text = beyond;
+      text = told c.args.p.now k c.args.ns.now c.args.store.now (target_len c.args.p.now k c.args.ns.now);
       plays =
-          exceeds (no_look c.requires.1 (subst (λ (n : ℕ). 65536 < n) c.target_len-len.ensures c.if-len-le65536.false)) refl
-          c.refused.ensures refl;
+          asks_look c.requires.1 (subst (λ (n : ℕ). n ≤ 65536) c.target_len-len.ensures c.if-len-gt65536.false) refl
+          (subst (λ (n : ℕ). Next (told c.args.p.now k c.args.ns.now c.args.store.now n) (untargeted c.args.p.now) c.args.p.now.session c.looked.new.p)
+          c.target_len-len.ensures c.looked.ensures) refl;
     }

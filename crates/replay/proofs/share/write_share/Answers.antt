@@ -1,12 +1,11 @@
--- An accepted call writes 0 and two numbers, a refused one its answer.
-use mathlib.Core.List.{[], ◌∷◌}
-use Rattle.answer_text.specs.Text.{number}
-use Rattle.answer_text.proofs.laws.Added.{then}
-use Rattle.replay.proofs.laws.Shows.{accepted}
+-- The answer 0, what was found and the end, one behind the other.
+use Rattle.std.proofs.Common.{sym}
+use Rattle.std.specs.Prelude.{[], ◌∷◌}
+use Rattle.windows.specs.View.{in_view}
+use Rattle.answer_text.specs.Text.{number, answered}
+use Rattle.answer_text.proofs.laws.Added.{then, told}
 use Rattle.replay.proofs.share.write_share.Goals as goal
 
-pub returns-then-found-eq-OK : goal.returns-then-found-eq-OK
-returns-then-found-eq-OK c =
-    let found = c.args.found in
-    accepted (number found.percent ∷ number found.remainder ∷ []) c.if-found-eq-OK.true
-    (then c.number-to.ensures (then c.more-then.ensures (then c.more-last.ensures c.end.ensures)))
+pub returns-in-Ok : goal.returns-in-Ok
+returns-in-Ok c =
+    told (λ r. answered (in_view r).answer (number (in_view r).percent ∷ number (in_view r).remainder ∷ [])) (sym c.in-Ok.is) (then c.number.ensures (then c.more.ensures (then c.more-in-Ok.ensures c.end.ensures)))

@@ -1,17 +1,10 @@
--- The answer 0, the count, the bytes and the end, one behind the other, or the answer alone.
-use Prim.Native.Nat.{◌-◌}
-use mathlib.Core.List.{◌∷◌}
-use native.Mathlib.Omega.{arith}
-use lib.ListN.{take}
-use Rattle.answer_text.specs.Text.{number, numbers}
-use Rattle.answer_text.proofs.laws.Added.{then}
-use Rattle.replay.proofs.laws.Lists.{accepted, lent_numbers}
+-- The answer 0, what was found and the end, one behind the other.
+use Rattle.std.proofs.Common.{sym}
+use Rattle.geom.specs.Refusals.{answer_of, value_or}
+use Rattle.replay.specs.Told.{sheet_line}
+use Rattle.answer_text.proofs.laws.Added.{then, told}
 use Rattle.replay.proofs.sheets.write_sheet.Goals as goal
 
-pub returns-then-found-eq-OK : goal.returns-then-found-eq-OK
-returns-then-found-eq-OK c =
-    let args = c.args in
-    let n = args.found.count in
-    accepted (number n ∷ numbers (take n args.bytes.now)) c.if-found-eq-OK.true
-    (then c.number-to.ensures
-    (then c.count-then.ensures (then (lent_numbers n (n - 0) args.bytes.now (omega arith) c.bytes-last.ensures) c.end.ensures)))
+pub returns-in-Ok : goal.returns-in-Ok
+returns-in-Ok c =
+    told (λ r. sheet_line (answer_of r) (value_or 0 r) c.args.bytes.now) (sym c.in-Ok.is) (then c.number.ensures (then c.more.ensures (then c.all.ensures c.end.ensures)))

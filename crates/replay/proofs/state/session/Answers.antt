@@ -1,9 +1,8 @@
--- The session is asked, and its answer is written.
-use mathlib.Core.Path.{ap}
+-- What is written is the rule's, and nothing else of the player changes.
+use Rattle.std.proofs.Common.{ap}
 use Rattle.replay.specs.inner.State.{stands_line}
-use Rattle.replay.proofs.laws.Shows.{tells}
+use Rattle.replay.proofs.laws.Nexts.{tells, retold}
 use Rattle.replay.proofs.state.session.Goals as goal
 
 pub returns : goal.returns
-returns c =
-    tells c.requires (ap stands_line c.state-state.ensures) c.write_session-p.ensures
+returns c = tells c.args.p.now c.requires (retold (ap stands_line c.state-state.ensures) c.write_session.ensures)

@@ -1,14 +1,6 @@
--- Seven numbers, one behind the other; a flag is 0 or 1.
+-- One behind the other.
 use Rattle.answer_text.proofs.laws.Added.{then}
-use Rattle.replay.proofs.laws.Shows.{flagged}
 use Rattle.replay.proofs.state.write_rest.Goals as goal
 
 pub returns : goal.returns
-returns c =
-    let state = c.args.state in
-    then (flagged state.shown c.more-shown.ensures)
-    (then c.more-place.ensures
-    (then c.more-layer.ensures
-    (then (flagged state.maximised c.more-maximised.ensures)
-    (then (flagged state.marked c.more-marked.ensures)
-    (then c.more-queued.ensures (flagged state.moved c.more.ensures))))))
+returns c = then c.more.ensures (then c.more-2.ensures (then c.more-3.ensures (then c.more-4.ensures (then c.more-5.ensures (then c.more-6.ensures c.more-7.ensures)))))

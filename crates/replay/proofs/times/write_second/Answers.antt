@@ -1,12 +1,10 @@
--- An accepted call writes 0 and two numbers, a refused one its answer.
-use mathlib.Core.List.{[], ◌∷◌}
-use Rattle.answer_text.specs.Text.{number}
-use Rattle.answer_text.proofs.laws.Added.{then}
-use Rattle.replay.proofs.laws.Shows.{accepted}
+-- The answer 0, what was found and the end, one behind the other.
+use Rattle.std.proofs.Common.{sym}
+use Rattle.busiest.specs.Busiest.{second_of}
+use Rattle.replay.specs.Told.{busiest_line}
+use Rattle.answer_text.proofs.laws.Added.{then, told}
 use Rattle.replay.proofs.times.write_second.Goals as goal
 
-pub returns-then-second-eq-OK : goal.returns-then-second-eq-OK
-returns-then-second-eq-OK c =
-    let found = c.args.second in
-    accepted (number found.count ∷ number found.place ∷ []) c.if-second-eq-OK.true
-    (then c.number-to.ensures (then c.count-then.ensures (then c.count-last.ensures c.end.ensures)))
+pub returns-in-Ok : goal.returns-in-Ok
+returns-in-Ok c =
+    told (λ r. busiest_line (second_of r)) (sym c.in-Ok.is) (then c.number.ensures (then c.more.ensures (then c.more-in-Ok.ensures c.end.ensures)))

@@ -1,13 +1,11 @@
--- The session is asked, and 0 and its number are written.
-use Prim.Native.Nat.{ℕ}
-use mathlib.Core.Path.{ap}
-use mathlib.Core.List.{[], ◌∷◌}
-use Rattle.answer_text.specs.Text.{number, line}
+-- The answer 0, the number and the end, and nothing else of the player changes.
+use Rattle.std.proofs.Common.{ap, ◌∷◌, [], ℕ}
+use Rattle.answer_text.specs.Text.{line, number}
 use Rattle.answer_text.proofs.laws.Added.{then}
-use Rattle.replay.proofs.laws.Shows.{tells}
+use Rattle.replay.proofs.laws.Nexts.{tells, retold}
 use Rattle.replay.proofs.waiting.waiting.Goals as goal
 
 pub returns : goal.returns
 returns c =
-    tells c.requires (ap (λ (n : ℕ). line 0 (number n ∷ [])) c.waiting-n.ensures)
-    (then c.number-to.ensures (then c.more-then.ensures c.end-p.ensures))
+    tells c.args.p.now c.requires
+    (retold (ap (λ (n : ℕ). line 0 (number n ∷ [])) c.waiting-windows.ensures) (then c.number.ensures (then c.more.ensures c.end.ensures)))

@@ -1,10 +1,11 @@
--- The answer 0 with the taker and the end, or the answer alone.
+-- The answer 0, what was found and the end, one behind the other.
+use Rattle.std.proofs.Common.{sym}
+use Rattle.geom.specs.Refusals.{answer_of}
 use Rattle.windows.specs.View.{taker_in}
-use Rattle.replay.specs.Told.{taker_pieces}
-use Rattle.replay.proofs.laws.Events.{accepted}
+use Rattle.replay.specs.Told.{who_line}
+use Rattle.answer_text.proofs.laws.Added.{then, told}
 use Rattle.replay.proofs.who.write_routed.Goals as goal
 
-pub returns-then-answer-eq-OK : goal.returns-then-answer-eq-OK
-returns-then-answer-eq-OK c =
-    let args = c.args in
-    accepted args.answer (taker_pieces (taker_in args.taker)) c.if-answer-eq-OK.true c.number-to.ensures c.write_taker-then.ensures c.end.ensures
+pub returns-in-Ok : goal.returns-in-Ok
+returns-in-Ok c =
+    told (λ r. who_line (answer_of r) (taker_in r)) (sym c.in-Ok.is) (then c.number.ensures (then c.write_taker.ensures c.end.ensures))

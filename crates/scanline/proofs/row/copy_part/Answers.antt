@@ -1,12 +1,9 @@
--- `copy_part`: what is left to be copied, from here, gives the same.
-use mathlib.Core.Path.{◌∙◌}
-use native.Mathlib.Omega.{arith}
-use lib.ListN.{length-set}
-use Rattle.scanline.proofs.rows.Columns.{copy_turn}
+-- The part that was lent comes back as a run of stores.
+use Rattle.std.proofs.Common.{arith, ◌∙◌}
+use Rattle.scanline.proofs.rows.Runs.{full_part, part_is, put_is}
 use Rattle.scanline.proofs.row.copy_part.Goals as goal
 
-pub loop-i-preserved : goal.loop-i-preserved
-loop-i-preserved c =
+pub returns : goal.returns
+returns c =
     let a = c.args in
-    let l = c.loop-i in
-    (copy_turn l.px a.src.now a.at a.from a.n l.i (omega arith) (omega arith) ∙ l.invariant.0, rw length-set l.invariant.1, omega arith)
+    put_is a.px.now _ _ a.at a.n (c.copy_from_slice.ensures.after ∙ part_is a.src.now a.from a.n) (full_part a.src.now a.from a.n (omega arith)) (omega arith)

@@ -1,8 +1,5 @@
 -- `move_down`: what is left to be moved, from here, gives the same.
-use mathlib.Core.Path.{◌∙◌}
-use Prim.Native.Nat.{◌<◌}
-use native.Mathlib.Omega.{arith}
-use lib.ListN.{length-set}
+use Rattle.std.proofs.Common.{◌∙◌, ◌<◌, arith, length-set}
 use Rattle.scanline.proofs.rows.Move.{down_turn, down_more}
 use Rattle.scanline.proofs.shift.move_down.Goals as goal
 

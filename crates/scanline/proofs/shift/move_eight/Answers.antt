@@ -1,8 +1,6 @@
 -- `move_eight`: the buffer keeps the eight, whatever the second copy writes over.
-use mathlib.Core.Path.{refl, ap, ◌∙◌}
-use native.Mathlib.Omega.{arith}
-use lib.ListN.{replicate}
-use lib.Seq.{sets}
+use Rattle.std.proofs.Common.{refl, ap, ◌∙◌, arith, replicate}
+use Rattle.std.proofs.lemmas.List.Edits.{sets}
 use Rattle.scanline.specs.Pixels.{part}
 use Rattle.scanline.proofs.rows.Runs.{full_part}
 use Rattle.scanline.proofs.rows.Move.{kept_is}

@@ -1,9 +1,6 @@
 -- `move_up`: what is left to be moved, from here, gives the same.
-use mathlib.Core.Path.{◌≡◌, ap, ◌∙◌}
-use Prim.Native.Nat.{ℕ, suc, ◌-◌}
-use native.Mathlib.Omega.{arith}
-use lib.ListN.{length-set}
-use lib.Seq.{sets}
+use Rattle.std.proofs.Common.{◌≡◌, ap, ◌∙◌, ℕ, suc, ◌-◌, arith, length-set}
+use Rattle.std.proofs.lemmas.List.Edits.{sets}
 use Rattle.scanline.specs.Pixels.{part}
 use Rattle.scanline.proofs.rows.Move.{up_turn, up_more}
 use Rattle.scanline.proofs.shift.move_up.Goals as goal

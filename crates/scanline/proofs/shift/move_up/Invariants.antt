@@ -1,8 +1,6 @@
 -- `move_up`: what is left to be moved, from here, gives the same.
-use mathlib.Core.Path.{◌≡◌}
-use Prim.Native.Nat.{◌≤◌}
-use lib.ListN.{length}
-use lib.Seq.{sets}
+use Rattle.std.proofs.Common.{◌≡◌, ◌≤◌, length}
+use Rattle.std.proofs.lemmas.List.Edits.{sets}
 use Rattle.scanline.specs.Pixels.{part}
 use Rattle.scanline.proofs.shift.move_up.Given as goal
 

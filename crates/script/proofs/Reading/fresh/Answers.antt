@@ -1,8 +1,8 @@
--- Stage 0.
-use Rattle.script.specs.Machine.{standing, run}
-use mathlib.Core.Path.{refl}
+-- No byte has been read.
+use Rattle.std.proofs.Common.{refl}
+use Rattle.script.specs.Machine.{run}
 use Rattle.script.proofs.Reading.fresh.Goals as goal
 
 pub returns : goal.returns
-unfolding standing run
+unfolding run
 returns c = λ w ns name. record { state = refl }

@@ -1,60 +1,51 @@
 -- One kind after the other.
-use Rattle.script.specs.Kind as Kind
+use Rattle.std.proofs.Common.{inl, inr, le-leb}
+use Rattle.std.proofs.lemmas.Bool.{lt-leb}
+use Rattle.script.specs.declared.kind.Kind.TheVariants.{MouseDown, MouseUp, MouseClick, Redraw, Begin, Dim, SetScanline, ReadSheet, Who}
 use Rattle.script.specs.Script.{ranged}
-use borrow.Author.Tests.{ne_eqb, le-leb, lt-leb}
+use Rattle.script.proofs.laws.Kinds.{other_kind}
 use Rattle.script.proofs.complete.is_ranged.Goals as goal
 
-pub returns-then-kind-eq-MOUSEDOWN : goal.returns-then-kind-eq-MOUSEDOWN
+pub returns-in-MouseDown : goal.returns-in-MouseDown
 unfolding ranged
-returns-then-kind-eq-MOUSEDOWN c = rw c.if-kind-eq-MOUSEDOWN.true
+returns-in-MouseDown c = elim c.in-MouseDown.is [ inl e ↦ rw e | inr e ↦ rw e ]
 
-pub returns-then-kind-eq-MOUSEUP : goal.returns-then-kind-eq-MOUSEUP
+pub returns-then-numbers-le255 : goal.returns-then-numbers-le255
 unfolding ranged
-returns-then-kind-eq-MOUSEUP c = rw c.if-kind-eq-MOUSEUP.true
+returns-then-numbers-le255 c = rw (c.in-MouseClick.is, le-leb _ 255 c.if-numbers-le255.true)
 
-pub returns-then-numbers-gt255 : goal.returns-then-numbers-gt255
+pub returns-else-numbers-le255 : goal.returns-else-numbers-le255
 unfolding ranged
-returns-then-numbers-gt255 c = rw (c.if-kind-eq-MOUSECLICK.true, lt-leb _ 255 c.if-numbers-gt255.true)
+returns-else-numbers-le255 c = rw (c.in-MouseClick.is, lt-leb _ 255 c.if-numbers-le255.false)
 
-pub returns-then-kind-eq-MOUSECLICK : goal.returns-then-kind-eq-MOUSECLICK
+pub returns-in-Redraw : goal.returns-in-Redraw
 unfolding ranged
-returns-then-kind-eq-MOUSECLICK c = rw (c.if-kind-eq-MOUSECLICK.true, le-leb _ 255 c.if-numbers-gt255.false)
+returns-in-Redraw c = elim c.in-Redraw.is [ inl e ↦ rw e | inr (inl e) ↦ rw e | inr (inr e) ↦ rw e ]
 
-pub returns-then-kind-eq-REDRAW : goal.returns-then-kind-eq-REDRAW
+pub returns-in-SetScanline : goal.returns-in-SetScanline
 unfolding ranged
-returns-then-kind-eq-REDRAW c = rw c.if-kind-eq-REDRAW.true
+returns-in-SetScanline c = rw c.in-SetScanline.is
 
-pub returns-then-kind-eq-BEGIN : goal.returns-then-kind-eq-BEGIN
+pub returns-in-ReadSheet : goal.returns-in-ReadSheet
 unfolding ranged
-returns-then-kind-eq-BEGIN c = rw c.if-kind-eq-BEGIN.true
+returns-in-ReadSheet c = rw c.in-ReadSheet.is c.are_bytes.ensures
 
-pub returns-then-kind-eq-DIM : goal.returns-then-kind-eq-DIM
+pub returns-in-Who : goal.returns-in-Who
 unfolding ranged
-returns-then-kind-eq-DIM c = rw c.if-kind-eq-DIM.true
+returns-in-Who c = rw c.in-Who.is c.is_event.ensures
 
-pub returns-then-kind-eq-SET_SCANLINE : goal.returns-then-kind-eq-SET_SCANLINE
+pub returns-in_default : goal.returns-in_default
 unfolding ranged
-returns-then-kind-eq-SET_SCANLINE c = rw (c.if-kind-eq-SET_SCANLINE.true, c.wide.ensures.0)
-
-pub returns-then-kind-eq-READ_SHEET : goal.returns-then-kind-eq-READ_SHEET
-unfolding ranged
-returns-then-kind-eq-READ_SHEET c = rw c.if-kind-eq-READ_SHEET.true c.are_bytes.ensures
-
-pub returns-then-kind-eq-WHO : goal.returns-then-kind-eq-WHO
-unfolding ranged
-returns-then-kind-eq-WHO c = rw c.if-kind-eq-WHO.true c.is_event.ensures
-
-pub returns : goal.returns
-unfolding ranged
-returns c =
+returns-in_default c =
+    let k = c.args.kind in
     rw (
-      ne_eqb _ Kind.mousedown c.if-kind-eq-MOUSEDOWN.false,
-      ne_eqb _ Kind.mouseup c.if-kind-eq-MOUSEUP.false,
-      ne_eqb _ Kind.mouseclick c.if-kind-eq-MOUSECLICK.false,
-      ne_eqb _ Kind.redraw c.if-kind-eq-REDRAW.false,
-      ne_eqb _ Kind.begin c.if-kind-eq-BEGIN.false,
-      ne_eqb _ Kind.dim c.if-kind-eq-DIM.false,
-      ne_eqb _ Kind.set_scanline c.if-kind-eq-SET_SCANLINE.false,
-      ne_eqb _ Kind.read_sheet c.if-kind-eq-READ_SHEET.false,
-      ne_eqb _ Kind.who c.if-kind-eq-WHO.false,
+      other_kind k MouseDown c.in_default.not-MouseDown,
+      other_kind k MouseUp c.in_default.not-MouseUp,
+      other_kind k MouseClick c.in_default.not-MouseClick,
+      other_kind k Redraw c.in_default.not-Redraw,
+      other_kind k Begin c.in_default.not-Begin,
+      other_kind k Dim c.in_default.not-Dim,
+      other_kind k SetScanline c.in_default.not-SetScanline,
+      other_kind k ReadSheet c.in_default.not-ReadSheet,
+      other_kind k Who c.in_default.not-Who,
     )

@@ -1,64 +1,41 @@
 -- One stage after the other.
-use Rattle.script.proofs.laws.Calls.{ends_between, ends_name, ends_after, ends_number, ends_full, ends_word, ends_start, ends_comment, ends_other}
+use Rattle.std.proofs.Common.{inl, inr, refl}
+use Rattle.script.specs.Machine.{ends}
+use Rattle.script.proofs.laws.Calls.{ends_word, ends_between, ends_number, ends_name, ends_after, ends_silent, ends_malformed, no_number}
 use Rattle.script.proofs.complete.line_of.Goals as goal
 
-pub returns-then-count-lt-MOST : goal.returns-then-count-lt-MOST
-returns-then-count-lt-MOST c =
-    let a = c.args in
-    ends_number a.reading a.word.now a.numbers.now c.requires _
-    c.if-stage-eq-IN_NUMBER.true _ c.at_most-count.ensures c.if-count-lt-MOST.true c.checked.ensures
+pub returns-in-AtStart : goal.returns-in-AtStart
+unfolding ends
+returns-in-AtStart c =
+    elim c.in-AtStart.is [
+      | inl e ↦ rw e (ends_silent _ _ _ (λ name. refl) c.no_call.ensures)
+      | inr e ↦ rw e (ends_silent _ _ _ (λ name. refl) c.no_call.ensures)
+    ]
 
-pub returns-then-stage-eq-IN_NUMBER : goal.returns-then-stage-eq-IN_NUMBER
-returns-then-stage-eq-IN_NUMBER c =
-    let a = c.args in
-    ends_full a.reading a.word.now a.numbers.now c.requires _
-    c.if-stage-eq-IN_NUMBER.true _ c.at_most-count.ensures c.if-count-lt-MOST.false c.no_call.ensures
+pub returns-in-InWord : goal.returns-in-InWord
+returns-in-InWord c = rw c.in-InWord.is (ends_word _ _ c.requires c.kind_of.ensures c.checked.ensures)
 
-pub returns-then-stage-eq-BETWEEN : goal.returns-then-stage-eq-BETWEEN
-returns-then-stage-eq-BETWEEN c =
-    let a = c.args in
-    ends_between a.reading a.word.now a.numbers.now c.requires _
-    c.if-stage-eq-BETWEEN.true _ c.at_most-count.ensures c.checked-then-stage-eq-BETWEEN.ensures
+pub returns-in-Between : goal.returns-in-Between
+returns-in-Between c = rw c.in-Between.is (ends_between _ _ c.requires c.min.ensures c.checked-in-Between.ensures)
 
-pub returns-then-stage-eq-IN_WORD : goal.returns-then-stage-eq-IN_WORD
-returns-then-stage-eq-IN_WORD c =
-    let a = c.args in
-    ends_word a.reading a.word.now a.numbers.now c.requires _
-    c.if-stage-eq-IN_WORD.true _ c.kind_of_letters-first.ensures c.checked-then-stage-eq-IN_WORD.ensures
+pub returns-else-count-ge-MOST : goal.returns-else-count-ge-MOST
+returns-else-count-ge-MOST c = rw c.in-InNumber.is (ends_number _ _ c.requires c.if-count-ge-MOST.false c.checked-in-InNumber.ensures)
 
-pub returns-then-stage-eq-AT_START : goal.returns-then-stage-eq-AT_START
-returns-then-stage-eq-AT_START c =
-    let a = c.args in
-    ends_start a.reading a.word.now a.numbers.now c.requires _
-    c.if-stage-eq-AT_START.true c.no_call-then-stage-eq-AT_START.ensures
+pub returns-then-count-ge-MOST : goal.returns-then-count-ge-MOST
+returns-then-count-ge-MOST c =
+    rw c.in-InNumber.is (ends_malformed _ _ _ (no_number _ _ c.args.word.now _ c.requires c.if-count-ge-MOST.true) c.no_call-then-count-ge-MOST.ensures)
 
-pub returns-then-stage-eq-IN_COMMENT : goal.returns-then-stage-eq-IN_COMMENT
-returns-then-stage-eq-IN_COMMENT c =
-    let a = c.args in
-    ends_comment a.reading a.word.now a.numbers.now
-    c.requires _ c.if-stage-eq-IN_COMMENT.true c.no_call-then-stage-eq-IN_COMMENT.ensures
+pub returns-in-InName : goal.returns-in-InName
+returns-in-InName c =
+    elim c.in-InName.is [
+      | inl e ↦ rw e (ends_name _ _ c.requires c.min-in-InName-2.ensures c.min-in-InName.ensures c.checked-in-InName.ensures)
+      | inr e ↦ rw e (ends_after _ _ c.requires c.min-in-InName-2.ensures c.min-in-InName.ensures c.checked-in-InName.ensures)
+    ]
 
-pub returns-then-stage-eq-IN_NAME : goal.returns-then-stage-eq-IN_NAME
-returns-then-stage-eq-IN_NAME c =
-    let a = c.args in
-    ends_name a.reading a.word.now a.numbers.now
-    c.requires _ c.if-stage-eq-IN_NAME.true _ _
-    c.at_most-name.ensures
-    c.at_most-count.ensures c.checked-then-stage-eq-IN_NAME.ensures
-
-pub returns-then-stage-eq-AFTER_NAME : goal.returns-then-stage-eq-AFTER_NAME
-returns-then-stage-eq-AFTER_NAME c =
-    let a = c.args in
-    ends_after a.reading a.word.now a.numbers.now
-    c.requires _ c.if-stage-eq-AFTER_NAME.true _ _
-    c.at_most-name.ensures
-    c.at_most-count.ensures c.checked-then-stage-eq-AFTER_NAME.ensures
-
-pub returns : goal.returns
-returns c =
-    let a = c.args in
-    ends_other a.reading a.word.now a.numbers.now
-    c.requires _
-    c.if-stage-eq-IN_NUMBER.false c.if-stage-eq-BETWEEN.false
-    c.if-stage-eq-IN_WORD.false c.if-stage-eq-AT_START.false c.if-stage-eq-IN_COMMENT.false
-    c.if-stage-eq-IN_NAME.false c.if-stage-eq-AFTER_NAME.false c.no_call-2.ensures
+pub returns-in-Spaces : goal.returns-in-Spaces
+unfolding ends
+returns-in-Spaces c =
+    elim c.in-Spaces.is [
+      | inl e ↦ rw e (ends_malformed _ _ _ (λ name. refl) c.no_call-in-Spaces.ensures)
+      | inr e ↦ rw e (ends_malformed _ _ _ (λ name. refl) c.no_call-in-Spaces.ensures)
+    ]

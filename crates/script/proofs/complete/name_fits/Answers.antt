@@ -1,13 +1,13 @@
 -- The two cases.
-use borrow.Author.Tests.{eq-eqb, ne_eqb}
-use Rattle.script.specs.Kind as Kind
+use Rattle.script.specs.declared.kind.Kind.TheVariants.{Picture}
 use Rattle.script.specs.Script.{name_fits}
+use Rattle.script.proofs.laws.Kinds.{other_kind}
 use Rattle.script.proofs.complete.name_fits.Goals as goal
 
-pub returns-then-kind-eq-PICTURE : goal.returns-then-kind-eq-PICTURE
+pub returns-in-Picture : goal.returns-in-Picture
 unfolding name_fits
-returns-then-kind-eq-PICTURE c = rw (eq-eqb _ Kind.picture c.if-kind-eq-PICTURE.true)
+returns-in-Picture c = rw c.in-Picture.is
 
-pub returns : goal.returns
+pub returns-in_default : goal.returns-in_default
 unfolding name_fits
-returns c = rw (ne_eqb _ Kind.picture c.if-kind-eq-PICTURE.false)
+returns-in_default c = rw (other_kind c.args.kind Picture c.in_default.not-Picture)

@@ -1,33 +1,29 @@
 -- Three cases: the window has the point; it has not; a higher one had it.
-use Prim.Native.Nat.{ℕ}
-use mathlib.Core.Path.{◌≡◌, sym, ◌∙◌}
-use mathlib.Core.Bool.{true}
+use Rattle.std.proofs.Common.{ℕ, ◌≡◌, true, sym, ◌∙◌, arith}
 use Rattle.geom.specs.declared.Rect.{Rect}
 use Rattle.geom.specs.Geom.{contains}
+use Rattle.geom.specs.Rect16.{rect_of}
 use Rattle.geom.proofs.geometry.Facts.{In, says_in}
-use Rattle.geom.proofs.geometry.Answers.{contains_is}
 use Rattle.topmost.proofs.laws.Hits.{lacks, passes_over}
 use Rattle.topmost.proofs.hits.look.Goals as goal
+use Rattle.topmost.proofs.hits.look.Goals.{else-answers-i-eq16-via-then-answers-i-eq16+else-has, else-answers-i-eq16-via-else-answers-i-eq16}
 
 -- the window has the point
-has : (r : Rect) (x y : ℕ) → contains r x y ≡ true → In r x y
-has r x y e = (says_in r x y).fact e
+inside : (r : Rect) (x y : ℕ) → contains r x y ≡ true → In r x y
+inside r x y e = (says_in r x y).fact e
 
 pub overflow_sub-x : goal.overflow_sub-x
-overflow_sub-x c =
-    (has c.args.r _ _ (sym (contains_is c.args.r _ _ c.requires.0 c.new.ensures c.contains-hit.ensures) ∙ c.if-hit.true)).west
+overflow_sub-x c = omega (arith, c.from.ensures, (inside (rect_of c.args.area) _ _ (sym c.has.ensures ∙ c.if-has.true)).west)
 
 pub overflow_sub-y : goal.overflow_sub-y
-overflow_sub-y c =
-    (has c.args.r _ _ (sym (contains_is c.args.r _ _ c.requires.0 c.new.ensures c.contains-hit.ensures) ∙ c.if-hit.true)).north
-
-pub returns-else-hit : goal.returns-else-hit
-returns-else-hit c =
-    let a = c.args in
-    lacks a.id.0 a.r a.points.now a.answers.now a.i
-    (sym (contains_is a.r _ _ c.requires.0 c.new.ensures c.contains-hit.ensures) ∙ c.if-hit.false)
+overflow_sub-y c = omega (arith, c.from-then-has.ensures, (inside (rect_of c.args.area) _ _ (sym c.has.ensures ∙ c.if-has.true)).north)
 
 pub returns-else-answers-i-eq16 : goal.returns-else-answers-i-eq16
 returns-else-answers-i-eq16 c =
     let a = c.args in
-    passes_over a.id.0 a.r a.points.now a.answers.now a.i c.if-answers-i-eq16.false
+    let r = rect_of a.area in
+    elim c.else-answers-i-eq16.branch [
+      | else-answers-i-eq16-via-then-answers-i-eq16+else-has w ↦
+          lacks a.id.0 r a.points.now a.answers.now a.i (sym w.has.ensures ∙ w.if-has.false)
+      | else-answers-i-eq16-via-else-answers-i-eq16 w ↦ passes_over a.id.0 r a.points.now a.answers.now a.i w.if-answers-i-eq16.false
+    ]

@@ -1,10 +1,6 @@
 -- The first i points are nobody's.
-use Prim.Native.Nat.{◌-◌, ◌≤◌}
 use Rattle.topmost.specs.inner.Hits.{Written, to_nobody}
 use Rattle.topmost.proofs.hits.nobody.Given as goal
 
 abbrev pub invariant-loop-i : goal.invariant-loop-i
-invariant-loop-i l = Written l.initial.answers (λ _. to_nobody) l.i l.answers × (l.i ≤ l.n)
-
-abbrev pub decreases-loop-i : goal.decreases-loop-i
-decreases-loop-i l = l.n - l.i
+invariant-loop-i l = Written l.initial.answers (λ _. to_nobody) l.i l.answers

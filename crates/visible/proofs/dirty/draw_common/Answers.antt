@@ -1,7 +1,5 @@
 -- Where region and entry meet, their common part is a region of the window.
-use mathlib.Core.Path.{◌≡◌, sym, ap, ◌∙◌}
-use mathlib.Core.List.{List}
-use mathlib.Core.Bool.{true}
+use Rattle.std.proofs.Common.{◌≡◌, sym, ap, ◌∙◌, List, true}
 use Rattle.geom.specs.declared.Rect.{Rect}
 use Rattle.geom.specs.Geom.{meets}
 use Rattle.visible.specs.inner.Seen.{drawn}
@@ -18,16 +16,16 @@ met c = sym c.meets.ensures ∙ c.if-meets.true
 pub draw_outside-requires : goal.draw_outside-requires
 draw_outside-requires c =
     let cut = c.common in
-    (c.requires.0, own_common c.args.view c.args.r c.args.entry cut.result c.requires.1 (met (goal.at.draw_outside-requires c).Then-meets) cut.ensures, c.requires.3)
+    (c.requires.0, own_common c.args.view.now c.args.r c.args.entry cut.result c.requires.1 (met (goal.at.draw_outside-requires c).Then-meets) cut.ensures, c.requires.3)
 
 pub returns-then-meets : goal.returns-then-meets
 returns-then-meets c =
     c.draw_outside.ensures
-    ∙ ap (λ (rs : List Rect). drawn c.args.view c.args.store.now rs c.args.screen.now)
+    ∙ ap (λ (rs : List Rect). drawn c.args.view.now c.args.store.now rs c.args.screen.now)
     (common_outside c.args.r c.args.entry c.args.before c.common.result (met (goal.at.returns-then-meets c).Then-meets) c.common.ensures)
 
 pub returns-else-meets : goal.returns-else-meets
 returns-else-meets c =
-    sym (drawn_none c.args.view c.args.store.now c.args.screen.now)
-    ∙ ap (λ (rs : List Rect). drawn c.args.view c.args.store.now rs c.args.screen.now)
+    sym (drawn_none c.args.view.now c.args.store.now c.args.screen.now)
+    ∙ ap (λ (rs : List Rect). drawn c.args.view.now c.args.store.now rs c.args.screen.now)
     (none_outside c.args.r c.args.entry c.args.before (sym c.meets.ensures ∙ c.if-meets.false))

@@ -1,12 +1,11 @@
--- What the parts amount to is how many there are.
-use mathlib.Core.Path.{◌∙◌}
-use mathlib.Core.List.{[], ◌∷◌}
+-- The parts are counted one by one.
+use Rattle.std.proofs.Common.{refl, ◌∙◌, zero-add, [], ◌∷◌}
 use Rattle.geom.specs.Lists.{outside_all}
-use Rattle.rules.specs.Visible.{rects_of}
-use Rattle.visible.proofs.laws.Turns.{amount_parts}
+use Rattle.visible.proofs.laws.Lists.{can_count_seen, counted}
 use Rattle.visible.proofs.list.count.Goals as goal
 
+pub visit_seen-requires-clause-walkable : goal.visit_seen-requires-clause-walkable
+visit_seen-requires-clause-walkable c = can_count_seen c.args.at c.args.above.now _ refl c.requires.2
+
 pub returns : goal.returns
-returns c =
-    let a = c.args in
-    c.count_all.ensures ∙ amount_parts (outside_all (a.at ∷ []) (rects_of a.n a.above.now))
+returns c = counted (outside_all (c.args.at ∷ []) c.args.above.now) _ _ c.visit_seen.ensures ∙ zero-add _

@@ -1,12 +1,20 @@
 -- The list is written from the front on; what lies behind it stays.
-use Rattle.visible.proofs.laws.Whole.{gathered_room, gathered_list}
+use Rattle.std.proofs.Common.{refl, ◌∙◌, zero-add, [], ◌∷◌, rules}
+use Rattle.geom.specs.Lists.{outside_all}
+use Rattle.visible.proofs.laws.Lists.{can_write_seen, written, front}
 use Rattle.visible.proofs.list.list.Goals as goal
 
-pub write-requires-clause-t_in_bounds : goal.write-requires-clause-t_in_bounds
-write-requires-clause-t_in_bounds c = gathered_room c.gather-met.ensures c.requires.above_in_bounds
+pub visit_seen-requires-clause-walkable : goal.visit_seen-requires-clause-walkable
+visit_seen-requires-clause-walkable c = can_write_seen c.args.above.now _ refl c.requires.room
 
-pub returns : goal.returns
-returns c =
-    let e = c.write.ensures in
-    let v = gathered_list c.gather-met.ensures c.args.out.now c.write.new.out c.write.result c.requires.above_in_bounds e.value e.out_after in
-    record { value = v.0; out_after = v.1 }
+pub returns-clause-value : goal.returns-clause-value
+returns-clause-value c =
+    let a = c.args in
+    (written (outside_all (a.at ∷ []) a.above.now) _ _ c.visit_seen.ensures).place ∙ zero-add _
+
+pub returns-clause-out_after : goal.returns-clause-out_after
+returns-clause-out_after c =
+    let a = c.args in
+    let rs = outside_all (a.at ∷ []) a.above.now in
+    let w = written rs _ _ c.visit_seen.ensures in
+    front a.at rs a.out.now w.place c.requires.room (search (rules, w.same, w.list))

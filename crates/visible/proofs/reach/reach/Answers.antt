@@ -1,7 +1,5 @@
 -- The window is cut by the entry and then by the area. Where one of the two leaves nothing, no pixel lies in both.
-use mathlib.Core.Path.{◌≡◌, sym, subst, ◌∙◌}
-use mathlib.Core.Bool.{true}
-use native.Mathlib.Omega.{arith}
+use Rattle.std.proofs.Common.{◌≡◌, sym, subst, ◌∙◌, true, arith}
 use Rattle.geom.specs.Geom.{rect, width, height, meets}
 use Rattle.geom.specs.inner.Fits.{Fits, Within}
 use Rattle.visible.proofs.laws.Reach.{reach_cut, reach_away, reach_clean, whole_common}

@@ -1,59 +1,31 @@
 -- Two that are apart in columns or in rows, or of which one is empty, do not meet; all others do.
-use mathlib.Core.Path.{◌≡◌, sym, ◌∙◌}
-use mathlib.Core.Bool.{true, false}
-use native.Mathlib.Omega.{arith}
-use Rattle.geom.specs.declared.Rect.{Rect}
-use Rattle.geom.specs.Geom.{is_empty, meets}
-use Rattle.geom.proofs.basics.Tests.{passes, fails}
-use Rattle.geom.proofs.geometry.Facts.{Meet, Solid, says_meet, says_empty, solid}
+use Rattle.std.proofs.Common.{ap, sym, ◌∙◌, not, arith}
+use Rattle.geom.proofs.basics.Tests.{same, says_le, says_not}
+use Rattle.geom.proofs.geometry.Facts.{says_meet, says_empty, solid}
 use Rattle.visible.proofs.rects.overlap.Goals as goal
 
-no : (a b : Rect) → (Meet a b → ⊥) → false ≡ meets a b
-no a b = fails (says_meet a b)
-
--- two that meet have pixels
-met_solid : (a b : Rect) → Meet a b → Solid a × Solid b
-met_solid a b m = (record { wide = omega (arith, m.wide); high = omega (arith, m.high) }, record { wide = omega (arith, m.wide); high = omega (arith, m.high) })
-
-not_solid : (r : Rect) → is_empty r ≡ true → Solid r → ⊥
-not_solid r e s = omega (arith, (says_empty r).fact e, s.wide, s.high)
-
-pub returns-then-right-b : goal.returns-then-right-b
-returns-then-right-b c =
+pub returns-then-not-is_empty : goal.returns-then-not-is_empty
+returns-then-not-is_empty c =
     let s = c.args in
-    no s.a s.b (λ m. omega (arith, m.wide, c.if-right-b.true, c.right.ensures))
+    let p = solid s.a (sym c.is_empty.ensures ∙ c.if-not-is_empty.true) in
+    ap not c.is_empty-then-not-is_empty.ensures
+    ∙ same (says_not (says_empty s.b)) (says_meet s.a s.b) (λ n. omega (arith, n, p.wide, p.high)) (λ m e. omega (arith, e, m.wide, m.high))
 
-pub returns-then-right-a : goal.returns-then-right-a
-returns-then-right-a c =
+pub returns-else-not-is_empty : goal.returns-else-not-is_empty
+returns-else-not-is_empty c =
     let s = c.args in
-    no s.a s.b (λ m. omega (arith, m.wide, c.if-right-a.true, c.right-2.ensures))
+    let e = (says_empty s.a).fact (sym c.is_empty.ensures ∙ c.if-not-is_empty.false) in
+    ap not c.is_empty.ensures
+    ∙ same (says_not (says_empty s.a)) (says_meet s.a s.b) (λ n. absurd (n e)) (λ m k. omega (arith, k, m.wide, m.high))
 
-pub returns-then-bottom-b : goal.returns-then-bottom-b
-returns-then-bottom-b c =
-    let s = c.args in
-    no s.a s.b (λ m. omega (arith, m.high, c.if-bottom-b.true, c.bottom.ensures))
+pub returns-else-a-bottom : goal.returns-else-a-bottom
+returns-else-a-bottom c = same (says_le _ _) (says_meet _ _) (λ h. omega arith) (λ m. omega arith)
 
-pub returns-then-bottom-a : goal.returns-then-bottom-a
-returns-then-bottom-a c =
-    let s = c.args in
-    no s.a s.b (λ m. omega (arith, m.high, c.if-bottom-a.true, c.bottom-2.ensures))
+pub returns-else-b-bottom : goal.returns-else-b-bottom
+returns-else-b-bottom c = same (says_le _ _) (says_meet _ _) (λ h. omega arith) (λ m. omega arith)
 
-pub returns-then-is_empty : goal.returns-then-is_empty
-returns-then-is_empty c =
-    let s = c.args in
-    no s.a s.b (λ m. not_solid s.a (sym c.is_empty.ensures ∙ c.if-is_empty.true) (met_solid s.a s.b m).0)
+pub returns-else-a-right : goal.returns-else-a-right
+returns-else-a-right c = same (says_le _ _) (says_meet _ _) (λ h. omega arith) (λ m. omega arith)
 
-pub returns-then-is_empty-2 : goal.returns-then-is_empty-2
-returns-then-is_empty-2 c =
-    let s = c.args in
-    no s.a s.b (λ m. not_solid s.b (sym c.is_empty-2.ensures ∙ c.if-is_empty-2.true) (met_solid s.a s.b m).1)
-
-pub returns : goal.returns
-returns c =
-    let s = c.args in
-    let p = solid s.a (sym c.is_empty.ensures ∙ c.if-is_empty.false) in
-    let q = solid s.b (sym c.is_empty-2.ensures ∙ c.if-is_empty-2.false) in
-    passes (says_meet s.a s.b) (record {
-      wide = omega (arith, p.wide, q.wide, c.if-right-b.false, c.right.ensures, c.if-right-a.false, c.right-2.ensures);
-      high = omega (arith, p.high, q.high, c.if-bottom-b.false, c.bottom.ensures, c.if-bottom-a.false, c.bottom-2.ensures);
-    })
+pub returns-else-b-right : goal.returns-else-b-right
+returns-else-b-right c = same (says_le _ _) (says_meet _ _) (λ h. omega arith) (λ m. omega arith)

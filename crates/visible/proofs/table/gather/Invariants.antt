@@ -1,10 +1,12 @@
--- The table, with the rectangles that are left, leaves of the window what all of them leave.
-use Prim.Native.Nat.{◌-◌}
-use Rattle.visible.proofs.laws.Table.{Gathering}
+-- The table begins with those that meet the part, of the rectangles passed.
+use Rattle.std.proofs.Common.{◌≤◌, ◌≡◌, length, take, filter}
+use Rattle.geom.specs.Geom.{meets}
 use Rattle.visible.proofs.table.gather.Given as goal
 
-abbrev pub invariant-loop-i : goal.invariant-loop-i
-invariant-loop-i l = Gathering l.at l.n l.above l.i l.k l.table
+pub record Gathering (l : goal.Live-loop-r) : Type 0 where
+  pub few : l.k ≤ l.r-index
+  pub size : length l.table ≡ 16
+  pub met : take l.k l.table ≡ filter (λ r. meets l.part r) (take l.r-index l.above)
 
-abbrev pub decreases-loop-i : goal.decreases-loop-i
-decreases-loop-i l = l.n - l.i
+abbrev pub invariant-loop-r : goal.invariant-loop-r
+invariant-loop-r l = Gathering l

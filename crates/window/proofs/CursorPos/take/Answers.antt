@@ -7,6 +7,6 @@ use Rattle.window.proofs.CursorPos.take.Goals as goal
 pub returns : goal.returns
 unfolding move_of cursor_read
 returns c =
-    let p = c.args.self in
+    let p = c.args.self.now in
     let q = c.requires in
-    (rw (minus_is p.new_x p.old_x q.new_x q.old_x, minus_is p.new_y p.old_y q.new_y q.old_y), refl, omega arith)
+    (rw (c.from.ensures, c.from-2.ensures, minus_is p.new_x p.old_x q.new_x q.old_x, minus_is p.new_y p.old_y q.new_y q.old_y), refl, omega arith)

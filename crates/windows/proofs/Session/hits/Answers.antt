@@ -1,8 +1,9 @@
 -- Questions 5 and 25, then the pass over the frames of the session.
 use mathlib.Core.Bool.{not}
 use mathlib.Core.Path.{ap}
-use Rattle.windows.proofs.laws.Frames.{order_lies}
-use Rattle.windows.proofs.laws.Hits.{fits_room, hits_yes, hits_25, hits_5}
+use Rattle.topmost.proofs.laws.Hits.{even_points}
+use Rattle.windows.proofs.laws.Frames.{order_lent}
+use Rattle.windows.proofs.laws.Hits.{hits_yes, hits_25, hits_5}
 use Rattle.windows.proofs.laws.Asked.{passed, failed}
 use Rattle.windows.proofs.Session.hits.Goals as goal
 
@@ -14,11 +15,12 @@ returns-then-not-fit c =
     hits_25 _ c.requires _ _ (passed c.all_small.ensures (ap not c.if-not-all_small.false)) (failed c.fit.ensures (ap not c.if-not-fit.true))
 
 pub hits-requires : goal.hits-requires
-hits-requires c =
-    let k = fits_room _ _ (passed c.fit.ensures (ap not c.if-not-fit.false)) in
-    (order_lies _ c.requires _ c.frames-frames.ensures, k.even, k.room)
+hits-requires c = record {
+  shown = order_lent _ c.requires _ c.frames.ensures c.in_order.ensures;
+  fit = even_points _ _ (passed c.fit.ensures (ap not c.if-not-fit.false));
+}
 
 pub returns : goal.returns
 returns c =
-    hits_yes _ c.requires _ c.frames-frames.ensures _ _ _ (passed c.all_small.ensures (ap not c.if-not-all_small.false))
+    hits_yes _ c.requires _ c.frames.ensures c.in_order.ensures _ _ _ (passed c.all_small.ensures (ap not c.if-not-all_small.false))
     (passed c.fit.ensures (ap not c.if-not-fit.false)) c.hits.ensures

@@ -1,56 +1,42 @@
 -- Questions 5, 28 and 20; then the extents that were found are the rule's rectangle.
 use mathlib.Core.Bool.{not}
-use mathlib.Core.Path.{ap}
+use mathlib.Core.Path.{sym, ap, subst, ◌∙◌}
+use native.Mathlib.Omega.{arith}
+use borrow.Author.Tests.{leb-true}
+use Rattle.windows.proofs.laws.Portions.{place_low}
 use Prim.Native.Nat.{◌≤◌}
-use mathlib.Core.Path.{◌≡◌, refl, sym, subst, ◌∙◌}
-use mathlib.Core.Bool.{true}
-use borrow.Author.Tests.{le-leb, lt-leb}
-use Rattle.geom.specs.Geom.{small_rect}
-use Rattle.rules.specs.Stale.{can_be_meant}
 use Rattle.windows.specs.declared.stale_rect.Course.{Course}
-use Rattle.windows.specs.View.{group}
 use Rattle.windows.proofs.laws.Asked.{passed, failed}
-use Rattle.windows.proofs.laws.Stale.{small_area, meant_is, next_low, course_low, is_stale_lem, too_large, no_such_call, no_walk}
+use Rattle.windows.proofs.laws.Refused.{exit}
+use Rattle.windows.proofs.laws.Stale.{small_area, meant_is, course_low, is_stale_lem, too_large, not_meant}
 use Rattle.windows.proofs.Session.stale.Goals as goal
 
 pub returns-then-not-is_small : goal.returns-then-not-is_small
-returns-then-not-is_small c =
-    let a = c.args in
-    c.nothing.ensures ∙ too_large (group a.self) a.which a.area (failed c.is_small.ensures (ap not c.if-not-is_small.true))
+returns-then-not-is_small c = too_large _ c.args.which c.args.area (failed c.is_small.ensures (ap not c.if-not-is_small.true))
 
-pub returns-then-which-gt2 : goal.returns-then-which-gt2
-returns-then-which-gt2 c =
-    let is_small : small_rect c.args.area ≡ true = passed c.is_small.ensures (ap not c.if-not-is_small.false) in
-    let a = c.args in
-    c.nothing-then-which-gt2.ensures ∙ no_such_call (group a.self) a.which a.area is_small (lt-leb _ _ c.if-which-gt2.true)
+pub returns-in_err-course : goal.returns-in_err-course
+returns-in_err-course c =
+    rw (exit c.from_residual.ensures.1)
+    (not_meant c.args.self.now c.requires c.args.which c.args.area _ (passed c.is_small.ensures (ap not c.if-not-is_small.false)) c.in_err-course.ensures)
 
-pub returns-then-not-can_be_meant : goal.returns-then-not-can_be_meant
-returns-then-not-can_be_meant c =
-    let is_small : small_rect c.args.area ≡ true = passed c.is_small.ensures (ap not c.if-not-is_small.false) in
-    let meant : let a = c.args in can_be_meant (group a.self) a.which ≡ c.can_be_meant.result = meant_is c.args.self c.requires c.args.which _ c.can_be_meant.ensures in
-    let a = c.args in
-    c.nothing-then-not-can_be_meant.ensures ∙ no_walk (group a.self) a.which a.area is_small (le-leb _ 2 c.if-which-gt2.false) (meant ∙ failed refl (ap not c.if-not-can_be_meant.true))
-
-pub of-course-requires : goal.of-course-requires
-of-course-requires c =
-    let meant : let a = c.args in can_be_meant (group a.self) a.which ≡ c.can_be_meant.result = meant_is c.args.self c.requires c.args.which _ c.can_be_meant.ensures in
-    let is_meant : let a = c.args in can_be_meant (group a.self) a.which ≡ true = meant ∙ passed refl (ap not c.if-not-can_be_meant.false) in
-    next_low c.args.self c.requires c.args.which c.if-which-gt2.false is_meant
+pub course-requires : goal.course-requires
+course-requires c = λ on. let h = c.requires in omega (arith, place_low _ h on, h.rep.shown)
 
 pub extents_of-requires : goal.extents_of-requires
 extents_of-requires c =
-    let is_small : small_rect c.args.area ≡ true = passed c.is_small.ensures (ap not c.if-not-is_small.false) in
-    let meant : let a = c.args in can_be_meant (group a.self) a.which ≡ c.can_be_meant.result = meant_is c.args.self c.requires c.args.which _ c.can_be_meant.ensures in
-    let is_meant : let a = c.args in can_be_meant (group a.self) a.which ≡ true = meant ∙ passed refl (ap not c.if-not-can_be_meant.false) in (
+    let q = c.in_ok-course.ensures in
+    let m = meant_is c.args.self.now c.requires c.args.which ∙ q.walks in
+    let low = course_low c.args.self.now c.requires c.args.which (leb-true _ _ q.known) m in (
       c.requires,
-      small_area _ is_small,
-      subst (λ (k : Course). k.to ≤ 16) (sym c.of-course.ensures) (course_low c.args.self c.requires c.args.which c.if-which-gt2.false is_meant),
+      small_area _ (passed c.is_small.ensures (ap not c.if-not-is_small.false)),
+      subst (λ (k : Course). k.from ≤ k.to) (sym q.course) low.0,
+      subst (λ (k : Course). k.to ≤ c.args.self.now.shared.shown) (sym q.course) low.1,
     )
 
 pub returns : goal.returns
 returns c =
-    let is_small : small_rect c.args.area ≡ true = passed c.is_small.ensures (ap not c.if-not-is_small.false) in
-    let meant : let a = c.args in can_be_meant (group a.self) a.which ≡ c.can_be_meant.result = meant_is c.args.self c.requires c.args.which _ c.can_be_meant.ensures in
-    let is_meant : let a = c.args in can_be_meant (group a.self) a.which ≡ true = meant ∙ passed refl (ap not c.if-not-can_be_meant.false) in
+    let q = c.in_ok-course.ensures in
+    let m = meant_is c.args.self.now c.requires c.args.which ∙ q.walks in
     c.found.ensures
-    ∙ is_stale_lem c.args.self c.requires c.args.which c.if-which-gt2.false is_meant c.args.area is_small _ (rw c.of-course.ensures at c.extents_of.ensures)
+    ∙ is_stale_lem c.args.self.now c.requires c.args.which (leb-true _ _ q.known) m c.args.area
+    (passed c.is_small.ensures (ap not c.if-not-is_small.false)) _ (rw q.course at c.extents_of.ensures)

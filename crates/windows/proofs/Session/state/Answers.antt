@@ -8,5 +8,5 @@ portions_left-requires c = let h = c.requires in (h.rep.shown, λ on. place_low 
 
 pub returns : goal.returns
 returns c =
-    session_stands _ c.requires _ _ _ _
-    c.someone.ensures c.someone-2.ensures c.both.ensures c.portions_left.ensures
+    rw c.from.ensures
+    (session_stands _ c.requires _ _ _ _ c.someone.ensures c.someone-2.ensures c.is_full.ensures c.portions_left.ensures)

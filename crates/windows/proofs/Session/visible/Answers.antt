@@ -1,50 +1,53 @@
 -- Question 3, then question 9 of a shown window; a hidden window has no list.
 use mathlib.Core.Bool.{not}
-use mathlib.Core.Path.{ap}
-use mathlib.Core.Path.{◌≡◌, sym, ◌∙◌}
-use mathlib.Core.Bool.{true}
+use mathlib.Core.Path.{ap, sym, ◌∙◌}
 use native.Mathlib.Omega.{arith}
 use borrow.Author.Tests.{not-true, not-false}
 use Rattle.windows.specs.View.{group}
-use Rattle.windows.specs.inner.Find.{Finds}
-use Rattle.windows.proofs.laws.Find.{its, fits, lent, few}
+use Rattle.windows.proofs.laws.Refused.{exit}
+use Rattle.windows.proofs.laws.Find.{fits}
+use Rattle.windows.proofs.laws.Under.{under, not_under, few_held, lent_is, lent_fits, few_lent}
 use Rattle.windows.proofs.laws.Listed.{no_window, hidden_list, no_room, listed}
 use Rattle.windows.proofs.Session.visible.Goals as goal
 
-pub returns-then-not-found : goal.returns-then-not-found
-returns-then-not-found c =
-    let found : let a = c.args in Finds (group a.self) a.id.0 c.find-found.result = c.find-found.ensures _ (its _ c.requires _ c.frames.ensures) in
-    rw c.empty.ensures (no_window _ _ _ found _ (not-true _ (ap not c.if-not-found.true)))
+pub returns-in_err-found : goal.returns-in_err-found
+returns-in_err-found c =
+    rw (exit c.from_residual.ensures.1, c.in_err-found.ensures.1) (no_window _ _ _ c.in_err-found.ensures.0)
 
-pub returns-then-not-found-2 : goal.returns-then-not-found-2
-returns-then-not-found-2 c =
-    let found : let a = c.args in Finds (group a.self) a.id.0 c.find-found.result = c.find-found.ensures _ (its _ c.requires _ c.frames.ensures) in
-    rw c.empty-then-not-found-2.ensures (hidden_list _ _ _ found _ (not-false _ (ap not c.if-not-found.false)) (not-true _ (ap not c.if-not-found-2.true)))
+pub returns-in_default : goal.returns-in_default
+returns-in_default c =
+    let e = c.in_ok-found.ensures in
+    hidden_list _ _ _ e.used (not_under (group c.args.self.now) c.args.id.0 e.above c.in_default.is)
+
+pub as_slice-above-requires : goal.as_slice-above-requires
+as_slice-above-requires c = few_held (under (group c.args.self.now) c.args.id.0 c.in_ok-found.ensures.above c.in-Some.is).1
 
 pub has_room-requires : goal.has_room-requires
 has_room-requires c =
-    let found : let a = c.args in Finds (group a.self) a.id.0 c.find-found.result = c.find-found.ensures _ (its _ c.requires _ c.frames.ensures) in
     let h = c.requires in
-    let e = found in
-    (fits h e, lent h e, omega (arith, few h e))
+    let e = c.in_ok-found.ensures in
+    let u = under (group c.args.self.now) c.args.id.0 e.above c.in-Some.is in
+    let k = lent_is u.1 c.as_slice-above.ensures in
+    (fits h e, lent_fits u.1 c.as_slice-above.ensures, omega (arith, few_lent _ h c.args.id.0 k))
 
 pub returns-then-not-has_room : goal.returns-then-not-has_room
 returns-then-not-has_room c =
-    let found : let a = c.args in Finds (group a.self) a.id.0 c.find-found.result = c.find-found.ensures _ (its _ c.requires _ c.frames.ensures) in
-    let used : c.find-found.result.used ≡ true = not-false _ (ap not c.if-not-found.false) in
-    rw c.empty-then-not-has_room.ensures
-    (no_room _ _ _ found _ used (not-false _ (ap not c.if-not-found-2.false)) (sym (not-true _ (ap not c.if-not-has_room.true)) ∙ c.has_room.ensures))
+    let e = c.in_ok-found.ensures in
+    let u = under (group c.args.self.now) c.args.id.0 e.above c.in-Some.is in
+    no_room _ _ _ e.used u.0 _ e.at _ (lent_is u.1 c.as_slice-above.ensures)
+    (sym (not-true _ (ap not c.if-not-has_room.true)) ∙ c.has_room.ensures)
 
-pub list-count-requires-clause-fits : goal.list-count-requires-clause-fits
-list-count-requires-clause-fits c =
-    let found : let a = c.args in Finds (group a.self) a.id.0 c.find-found.result = c.find-found.ensures _ (its _ c.requires _ c.frames.ensures) in
+pub list-requires-clause-fits : goal.list-requires-clause-fits
+list-requires-clause-fits c =
     let h = c.requires in
-    let e = found in
-    (fits h e, lent h e, omega (arith, few h e))
+    let e = c.in_ok-found.ensures in
+    let u = under (group c.args.self.now) c.args.id.0 e.above c.in-Some.is in
+    let k = lent_is u.1 c.as_slice-above.ensures in
+    (fits h e, lent_fits u.1 c.as_slice-above.ensures, omega (arith, few_lent _ h c.args.id.0 k))
 
 pub returns : goal.returns
 returns c =
-    let found : let a = c.args in Finds (group a.self) a.id.0 c.find-found.result = c.find-found.ensures _ (its _ c.requires _ c.frames.ensures) in
-    let used : c.find-found.result.used ≡ true = not-false _ (ap not c.if-not-found.false) in
-    listed _ _ _ found _ used (not-false _ (ap not c.if-not-found-2.false)) _ _
-    (sym (not-false _ (ap not c.if-not-has_room.false)) ∙ c.has_room.ensures) c.list-count.ensures.value c.list-count.ensures.out_after
+    let e = c.in_ok-found.ensures in
+    let u = under (group c.args.self.now) c.args.id.0 e.above c.in-Some.is in
+    listed _ _ _ e.used u.0 _ e.at _ (lent_is u.1 c.as_slice-above.ensures) _ _
+    (sym (not-false _ (ap not c.if-not-has_room.false)) ∙ c.has_room.ensures) c.list.ensures.value c.list.ensures.out_after

@@ -6,11 +6,11 @@ pub returns : goal.returns
 returns c =
     let a = c.args.a in
     let i = c.args.i in
-    four a i _ _ _ _ _ _ _ _ _ c.none.ensures
-    c.new-above.ensures c.with.ensures
-    c.new-left.ensures c.with-2.ensures
+    four a i _ _ _ _ _ _ _ _ _ c.none-pieces.ensures
+    c.new-above.ensures c.push.ensures
+    c.new-left.ensures c.push-2.ensures
     (right_is a i _ _ _ c.right-r.ensures c.right.ensures c.new-right.ensures)
-    c.with-3.ensures
+    c.push-3.ensures
     (below_is a i _ _ _ c.bottom-s.ensures c.bottom.ensures
     c.new-below.ensures)
-    c.with-4.ensures
+    c.push-4.ensures

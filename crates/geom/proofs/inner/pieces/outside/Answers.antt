@@ -1,5 +1,5 @@
 -- Where the two meet, what is left around the common part; else the rectangle itself.
-use mathlib.Core.Path.{refl, sym, ◌∙◌}
+use Rattle.std.proofs.Common.{refl, sym, ◌∙◌}
 use Rattle.geom.proofs.geometry.Four.{pieces_met, pieces_apart}
 use Rattle.geom.proofs.geometry.Facts.{says_meet, common_within}
 use Rattle.geom.proofs.inner.pieces.outside.Goals as goal

@@ -1,11 +1,8 @@
--- The first i entries are held.
-use Prim.Native.Nat.{◌-◌}
-use Rattle.window.specs.Represents.{rects}
-use Rattle.order.proofs.laws.Rects.{Filling}
+-- The entries so far are held.
+use Rattle.std.proofs.Common.{map, take}
+use Rattle.geom.specs.Rect16.{rect_of}
+use Rattle.order.specs.inner.Rects.{Holds}
 use Rattle.order.proofs.rects.Rects.of_damage.Given as goal
 
-abbrev pub invariant-loop-i : goal.invariant-loop-i
-invariant-loop-i l = Filling (rects l.d) l.numbers l.i
-
-abbrev pub decreases-loop-i : goal.decreases-loop-i
-decreases-loop-i l = l.n - l.i
+abbrev pub invariant-loop-area : goal.invariant-loop-area
+invariant-loop-area l = Holds l.list (map rect_of (take l.area-index l.entries))

@@ -2,5 +2,5 @@
 use Rattle.replay.proofs.laws.Arms.{stored_line}
 use Rattle.replay.proofs.player.Player.line.Goals as goal
 
-pub returns-in-9 : goal.returns-in-9
-returns-in-9 g c = stored_line c.stored.ensures
+pub returns-in-Resize : goal.returns-in-Resize
+returns-in-Resize g c = stored_line c.stored.ensures

@@ -1,41 +1,42 @@
--- Each branch says what its kind writes; the player stays as it was, but for what waits.
-use mathlib.Core.Path.{refl}
-use native.Mathlib.Omega.{arith}
-use Rattle.windows.specs.View.{group}
-use Rattle.bare_lines.specs.Told.{rect_line, pixel_line}
-use Rattle.bare_lines.specs.Numbers.{id_of}
+-- Each branch says what its kind writes; the player stays as it was, but for its output.
+use Rattle.std.proofs.Common.{◌≤◌, refl, ap, arith, [], ◌∷◌}
+use mathlib.Core.Logic.{inl, inr}
+use Rattle.script.specs.Kind.{code_of}
+use Rattle.script.specs.Kind as Kind
+use Rattle.script.specs.declared.kind.Kind.TheVariants as kind
+use Rattle.replay.specs.Called.{OnShow}
 use Rattle.replay.specs.Played.{shows_pixels, shows_rect, shows_part}
-use Rattle.replay.specs.Told.{pixels_line}
-use Rattle.replay.proofs.laws.Shows.{tells, on_show, screen_shown}
+use Rattle.replay.proofs.laws.Nexts.{tells}
+use Rattle.replay.proofs.laws.Arms.{apart, range_of}
+use Rattle.replay.proofs.laws.Shows.{screen_shown}
 use Rattle.replay.proofs.player.Player.shown.Goals as goal
 
-pub returns-then-k-eq-PIXELS : goal.returns-then-k-eq-PIXELS
-returns-then-k-eq-PIXELS g c =
-    let p = c.args.self in
-    record {
-      text = pixels_line (group p.session) (id_of c.args.ns.now) p.lent c.args.store.now;
-      plays = shows_pixels c.if-k-eq-PIXELS.true refl (tells c.requires.0 refl c.pixels-self.ensures) refl;
-    }
+pub returns-in-Pixels : goal.returns-in-Pixels
+returns-in-Pixels g c =
+    record { text = _; plays = shows_pixels (ap code_of c.in-Pixels.is) refl (tells c.args.self.now c.requires.0 c.pixels.ensures) refl }
 
-pub returns-then-k-le-PICTURE : goal.returns-then-k-le-PICTURE
-returns-then-k-le-PICTURE g c =
-    let pre = c.requires in
-    screen_shown pre.0 (on_show pre.2 c.if-k-eq-PIXELS.false c.if-k-le-PICTURE.true) c.screen-self.ensures
+pub returns-in-Screen : goal.returns-in-Screen
+returns-in-Screen g c =
+    let k : OnShow (code_of c.args.line.kind) = elim c.in-Screen.is [ inl e ↦ inl (ap code_of e) | inr e ↦ inr (ap code_of e) ] in
+    screen_shown c.args.self.now c.requires.0 k c.screen.ensures
 
-pub returns-then-k-le-WITHIN : goal.returns-then-k-le-WITHIN
-returns-then-k-le-WITHIN g c =
-    record {
-      text = rect_line c.args.line.kind c.args.ns.now;
-      plays =
-          shows_rect (omega (arith, c.if-k-le-PICTURE.false)) c.if-k-le-WITHIN.true refl
-          (tells c.requires.0 refl c.rect_line-self.ensures) refl;
-    }
+pub returns-in-Scanline : goal.returns-in-Scanline
+returns-in-Scanline g c =
+    let r = range_of Kind.scanline Kind.region c.args.line.kind (kind.Scanline ∷ kind.FillScanline ∷ kind.SetScanline ∷ kind.Region ∷ []) refl c.in-Scanline.is in
+    record { text = _; plays = shows_part r.0 r.1 refl (tells c.args.self.now c.requires.0 c.pixel_line.ensures) refl }
 
-pub returns-else-k-le-WITHIN : goal.returns-else-k-le-WITHIN
-returns-else-k-le-WITHIN g c =
-    let line = c.args.line in
-    record {
-      text = pixel_line line.kind line.count c.args.ns.now;
-      plays =
-          shows_part (omega (arith, c.if-k-le-WITHIN.false)) c.requires.3 refl (tells c.requires.0 refl c.pixel_line-self.ensures) refl;
-    }
+pub returns-in_default : goal.returns-in_default
+returns-in_default g c =
+    let d = c.in_default in
+    let s = c.requires.2 in
+    let k = code_of c.args.line.kind in
+    let pixels = apart d.not-Pixels in
+    let screen = apart d.not-Screen in
+    let picture = apart d.not-Picture in
+    let low : Kind.intersect ≤ k = omega (arith, s.0, pixels, screen, picture) in
+    let scanline = apart d.not-Scanline in
+    let fill = apart d.not-FillScanline in
+    let set = apart d.not-SetScanline in
+    let region = apart d.not-Region in
+    let high : k ≤ Kind.within = omega (arith, s.1, scanline, fill, set, region) in
+    record { text = _; plays = shows_rect low high refl (tells c.args.self.now c.requires.0 c.rect_line.ensures) refl }

@@ -1,5 +1,5 @@
 -- A byte is the number of its bits; past the last they are 0.
-use native.Mathlib.Omega.{arith}
+use Rattle.std.proofs.Common.{arith}
 use lib.ListN.{get_or-eq_default}
 use Rattle.sheet.proofs.laws.Packing.{byte_field}
 use Rattle.sheet.proofs.inner.bits.byte.Goals as goal

@@ -1,7 +1,6 @@
 -- A mask of n ones takes the rest by 2 ^ n.
-use Prim.Native.Nat.{ℕ, ◌-◌}
-use mathlib.Core.Path.{ap, ◌∙◌}
-use lib.Bits.{bit_and, and_mask}
+use Rattle.std.proofs.Common.{ℕ, ◌-◌, ap, ◌∙◌, bit_and}
+use lib.Bits.{and_mask}
 use Rattle.sheet.proofs.laws.Bits.{shifted_one}
 use Rattle.sheet.proofs.inner.bits.low.Goals as goal
 

@@ -1,6 +1,6 @@
 -- One band a turn.
 use Rattle.sheet.proofs.laws.Copying.{copying_room, copying_next, copying_all, room_fields}
-use native.Mathlib.Omega.{arith}
+use Rattle.std.proofs.Common.{arith}
 use Rattle.sheet.proofs.inner.read.write_rects.Goals as goal
 
 pub write_band-requires-clause-n_in_bounds : goal.write_band-requires-clause-n_in_bounds

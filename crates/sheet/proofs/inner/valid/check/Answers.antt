@@ -1,7 +1,8 @@
 -- The bands are checked in turn; then the sheet has to end in the last byte, before zero bits.
 use Rattle.sheet.proofs.laws.Checking.{going_none, going_broken, going_next, checked_rules, checked_size, checked_fill, checked_yes}
-use native.Mathlib.Omega.{arith}
+use Rattle.std.proofs.Common.{arith}
 use Rattle.sheet.proofs.inner.valid.check.Goals as goal
+use Rattle.sheet.proofs.inner.valid.check.Goals.{else-bytes-size-via-then-bytes-size+else-read-eq0, else-bytes-size-via-else-bytes-size}
 
 pub loop-i-init : goal.loop-i-init
 loop-i-init c = going_none
@@ -27,14 +28,11 @@ returns-then-read-eq0 c =
     let l = c.loop-i in
     checked_yes r.ensures l.invariant c.loop-i-test.false c.if-bytes-size.true c.read.ensures (λ j. omega (arith, c.type_inv.bytes j)) c.if-read-eq0.true
 
-pub returns-else-read-eq0 : goal.returns-else-read-eq0
-returns-else-read-eq0 c =
-    let r = c.read-n in
+pub returns : goal.returns
+returns c =
+    let field = c.read-n.ensures in
     let l = c.loop-i in
-    checked_fill r.ensures l.invariant c.loop-i-test.false c.if-bytes-size.true c.read.ensures c.if-read-eq0.false
-
-pub returns-else-bytes-size : goal.returns-else-bytes-size
-returns-else-bytes-size c =
-    let r = c.read-n in
-    let l = c.loop-i in
-    checked_size r.ensures l.invariant c.loop-i-test.false c.if-bytes-size.false
+    elim c.else-bytes-size.branch [
+      | else-bytes-size-via-then-bytes-size+else-read-eq0 w ↦ checked_fill field l.invariant c.loop-i-test.false w.if-bytes-size.true w.read.ensures w.if-read-eq0.false
+      | else-bytes-size-via-else-bytes-size w ↦ checked_size field l.invariant c.loop-i-test.false w.if-bytes-size.false
+    ]

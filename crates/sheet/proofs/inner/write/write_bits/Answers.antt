@@ -1,5 +1,5 @@
 -- The bits that the first byte has, the field and zeros are three bytes; those that the field touches are stored.
-use native.Mathlib.Omega.{arith}
+use Rattle.std.proofs.Common.{arith}
 use Rattle.sheet.proofs.laws.Puts.{put_one, put_two, put_three}
 use Rattle.sheet.proofs.inner.write.write_bits.Goals as goal
 

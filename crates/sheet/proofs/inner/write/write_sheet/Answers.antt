@@ -1,7 +1,7 @@
 -- One band a turn.
 use Rattle.sheet.specs.inner.Numbers.{bands_in}
 use Rattle.sheet.proofs.laws.Sheets.{sheeted_none, sheeted_numbers, sheeted_room, sheeted_next, sheeted_all, least_bits}
-use native.Mathlib.Omega.{arith}
+use Rattle.std.proofs.Common.{arith}
 use Rattle.sheet.proofs.inner.write.write_sheet.Goals as goal
 
 pub write_bits-requires : goal.write_bits-requires

@@ -1,10 +1,6 @@
 -- One band a turn.
 use Rattle.sheet.proofs.laws.Sheets.{Sheeted}
-use Prim.Native.Nat.{◌-◌}
 use Rattle.sheet.proofs.inner.write.write_sheet.Given as goal
 
 abbrev pub invariant-loop-i : goal.invariant-loop-i
-invariant-loop-i l = Sheeted l.nums l.n l.initial.out l.out l.k l.e l.i
-
-abbrev pub decreases-loop-i : goal.decreases-loop-i
-decreases-loop-i l = l.n - l.i
+invariant-loop-i l = Sheeted l.nums l.n l.initial.out l.out l.k l.e l._i

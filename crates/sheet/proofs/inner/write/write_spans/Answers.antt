@@ -1,6 +1,6 @@
 -- One interval a turn.
 use Rattle.sheet.proofs.laws.Sheets.{spans_none, spans_put}
-use native.Mathlib.Omega.{arith}
+use Rattle.std.proofs.Common.{arith}
 use Rattle.sheet.proofs.inner.write.write_spans.Goals as goal
 
 pub loop-i-init : goal.loop-i-init

@@ -1,7 +1,7 @@
 -- `blit_rows`: the rows of full chunks, then the one that takes what is left; the rows after it take nothing.
 use Rattle.std.proofs.Common.{ℕ, ◌+◌, ◌*◌, ◌≤◌, ◌<◌, List, length, drop, arith}
-use Rattle.std.proofs.Math.ListN.{length-take}
 use Rattle.std.proofs.lemmas.List.Edits.{sets}
+use Rattle.std.proofs.Math.ListN.{length-take}
 use Rattle.scanline.specs.Pixels.{write_rows, part}
 use Rattle.scanline.specs.inner.Rows.{Fit, Counted}
 use Rattle.scanline.proofs.rows.Altered.{Along, along_run, along_few}
@@ -23,8 +23,8 @@ overflow_add-result c =
     let l : c.full_chunks-full.result < c.args.n = omega (arith, c.full_chunks-full.ensures, c.if-full-n.false) in
     omega (
       arith,
-      along_few (counted c.args.src.now c.args.stride c.requires.0 l (omega (arith, c.least-m.ensures)) (omega (arith, c.least-m.ensures, c.requires.1))
-          (omega (arith, c.least-rest.ensures)) c.full_rows-altered.ensures c.set_part.ensures),
+      along_few (counted c.args.src.now c.args.stride c.requires.0 l (omega (arith, c.min-m.ensures)) (omega (arith, c.min-m.ensures, c.requires.1))
+          (omega (arith, c.min-rest.ensures)) c.full_rows-altered.ensures c.set_part.ensures),
     )
 
 pub returns : goal.returns
@@ -34,10 +34,10 @@ returns c =
     let l : full.result < a.n = omega (arith, full.ensures, c.if-full-n.false) in
     record {
       pixels =
-          all_are a.src.now a.stride a.n full.result full.ensures (λ r. a.at + r * a.pitch) a.w c.least-m.result
-          c.least-m.ensures a.px.now c.full_rows-altered.new.px c.set_part.new.px c.least-rest.result c.full_rows-altered.ensures.pixels
-          c.least-rest.ensures c.set_part.ensures.pixels l;
+          all_are a.src.now a.stride a.n full.result full.ensures (λ r. a.at + r * a.pitch) a.w c.min-m.result
+          (omega (arith, c.min-m.ensures)) a.px.now c.full_rows-altered.new.px c.set_part.new.px c.min-rest.result c.full_rows-altered.ensures.pixels
+          (omega (arith, c.min-rest.ensures)) c.set_part.ensures.pixels l;
       altered =
-          (counted c.args.src.now c.args.stride c.requires.0 l (omega (arith, c.least-m.ensures)) (omega (arith, c.least-m.ensures, c.requires.1))
-          (omega (arith, c.least-rest.ensures)) c.full_rows-altered.ensures c.set_part.ensures).count;
+          (counted c.args.src.now c.args.stride c.requires.0 l (omega (arith, c.min-m.ensures)) (omega (arith, c.min-m.ensures, c.requires.1))
+          (omega (arith, c.min-rest.ensures)) c.full_rows-altered.ensures c.set_part.ensures).count;
     }

@@ -1,7 +1,7 @@
 -- `fill_rows`: after r turns, r rows are written, and their counts add up.
 use Rattle.std.proofs.Common.{ℕ, ◌+◌, ◌*◌, ◌≤◌, List, replicate, arith}
-use Rattle.std.proofs.Math.ListN.{length-replicate}
 use Rattle.std.proofs.lemmas.List.Edits.{sets}
+use Rattle.std.proofs.Math.ListN.{length-replicate}
 use Rattle.scanline.specs.inner.Rows.{Counted}
 use Rattle.scanline.proofs.rows.Altered.{Along, along_none, along_run, along_few}
 use Rattle.scanline.proofs.rows.Turns.{rows_more, next_row}

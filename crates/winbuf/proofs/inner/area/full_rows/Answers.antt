@@ -1,7 +1,7 @@
 -- `full_rows`: after r turns, r rows are written, and their counts add up.
 use Rattle.std.proofs.Common.{ℕ, ◌+◌, ◌*◌, ◌≤◌, List, drop, arith}
-use Rattle.std.proofs.Math.ListN.{length-take}
 use Rattle.std.proofs.lemmas.List.Edits.{sets}
+use Rattle.std.proofs.Math.ListN.{length-take}
 use Rattle.scanline.specs.Pixels.{part}
 use Rattle.scanline.specs.inner.Rows.{Counted}
 use Rattle.scanline.proofs.rows.Altered.{Along, along_none, along_run, along_few}

@@ -1,14 +1,8 @@
 -- `narrow`: after r turns, r rows are written.
-use mathlib.Core.Path.{◌≡◌}
-use Prim.Native.Nat.{◌-◌, ◌*◌, ◌≤◌, max}
-use lib.ListN.{length}
+use Rattle.std.proofs.Common.{◌≡◌, ◌*◌, length}
 use Rattle.scanline.specs.Pixels.{write_rows, part}
 use Rattle.winbuf.proofs.inner.resize.narrow.Given as goal
 
 abbrev pub invariant-loop-r : goal.invariant-loop-r
 invariant-loop-r l =
-    (l.px ≡ write_rows l.r (λ k. k * l.w1) (λ k. part (k * l.w0) l.w1 l.initial.px) l.initial.px)
-    × (length l.px ≡ length l.initial.px) × (1 ≤ l.r) × (l.r ≤ max 1 l.n)
-
-abbrev pub decreases-loop-r : goal.decreases-loop-r
-decreases-loop-r l = l.n - l.r
+    (l.px ≡ write_rows l.r (λ k. k * l.w1) (λ k. part (k * l.w0) l.w1 l.initial.px) l.initial.px) × (length l.px ≡ length l.initial.px)

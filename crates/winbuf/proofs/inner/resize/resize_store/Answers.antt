@@ -1,7 +1,5 @@
 -- `resize_store`: rows of a part are rows of the store.
-use mathlib.Core.Path.{ap, ◌∙◌}
-use native.Mathlib.Omega.{arith}
-use lib.ListN.{length}
+use Rattle.std.proofs.Common.{ap, ◌∙◌, arith, length}
 use Rattle.scanline.specs.Pixels.{part}
 use Rattle.winbuf.specs.inner.Rows.{resized}
 use Rattle.scanline.proofs.rows.Runs.{put_is, full_part, part_is}

@@ -1,5 +1,5 @@
 -- `set_width`: narrower, wider or as wide.
-use native.Mathlib.Omega.{arith}
+use Rattle.std.proofs.Common.{arith}
 use Rattle.winbuf.proofs.rows.Widths.{fitted_same}
 use Rattle.winbuf.proofs.inner.resize.set_width.Goals as goal
 

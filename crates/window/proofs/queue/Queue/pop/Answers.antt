@@ -1,8 +1,9 @@
 -- The event of the slot at the head, and the next place as the head.
+use Rattle.std.proofs.Common.{◌≤◌, arith}
 use Rattle.window.proofs.laws.Events.{pops}
 use Rattle.window.proofs.queue.Queue.pop.Goals as goal
 
 pub returns : goal.returns
 returns c =
-    pops c.args.self c.requires.0 c.requires.1 c.event_of-event.result (rw c.front-at.ensures at c.event_of-event.ensures)
-    c.back.result c.back.ensures.0 c.back.ensures.1
+    let some : 1 ≤ c.args.self.now.len = omega arith in
+    pops c.args.self.now c.requires some c.from.result c.from.ensures c.place.result c.place.ensures.0 c.place.ensures.1

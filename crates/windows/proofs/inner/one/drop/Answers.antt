@@ -1,11 +1,10 @@
 -- A window in use is hidden in what is shared if it has a place there, and its id is freed.
 use Prim.Native.Nat.{ℕ}
-use mathlib.Core.Path.{◌≡◌, refl, sym, ap, ◌∙◌}
-use mathlib.Core.Bool.{true, false}
+use mathlib.Core.Path.{◌≡◌, refl, ap, ◌∙◌}
+use mathlib.Core.Bool.{true, false, not}
 use mathlib.Core.Option.{none}
 use Rattle.window.specs.declared.Window.{Window}
 use Rattle.window.specs.Represents.{RepWindow}
-use Rattle.order.specs.inner.Order.{idx_of}
 use Rattle.rules.specs.Group.{used, set_win}
 use Rattle.rules.specs.Order as Order
 use Rattle.rules.specs.Calls.{Drop, does}
@@ -15,8 +14,8 @@ use Rattle.windows.specs.View.{group, window_at, Rep, Given, Meets, done}
 use Rattle.windows.specs.inner.One.{with_window}
 use Rattle.windows.specs.inner.Sharing.{sharing}
 use Rattle.windows.proofs.laws.Session.{used_at, put_none, put_rep, refuses, gives}
-use Rattle.windows.proofs.laws.One.{accepts, not_used, same_place}
-use Rattle.windows.proofs.laws.Hidden.{hidden_already}
+use Rattle.windows.proofs.laws.One.{accepts, not_used}
+use Rattle.windows.proofs.laws.Asked.{passed, failed}
 use Rattle.windows.proofs.inner.one.drop.Goals as goal
 
 abbrev freed : Window → Window
@@ -37,26 +36,17 @@ module _ (s : Session) (id : ℕ) where
   unfolding does Order.drop_window
   no_window h u = refuses (Drop id) s 2 h (rw u)
 
-pub returns-in-At : goal.returns-in-At
-returns-in-At c =
-    let r = c.hide_shown-shared in
+pub returns-then-not-in_use : goal.returns-then-not-in_use
+returns-then-not-in_use c =
     let id = c.args.id.0 in
-    accepts (λ s at w k. Meets (Drop id) s (done (with_window at (freed w) r.result s) 0))
-    (sym c.in_use.ensures ∙ c.if-in_use.true)
+    not_used (λ s t. Meets (Drop id) s (done t 3)) (failed c.in_use.ensures (ap not c.if-not-in_use.true)) (λ s h u. no_window s id h u)
+
+pub returns : goal.returns
+returns c =
+    let r = c.leave_order in
+    let id = c.args.id.0 in
+    accepts (λ s at w k. Meets (Drop id) s (done (with_window at (freed w) r.new.shared s) 0))
+    (passed c.in_use.ensures (ap not c.if-not-in_use.false))
     (λ s q.
-    drops s id (freed (window_at s id)) r.result q.given q.used refl (freed_rep q.rep)
+    drops s id (freed (window_at s id)) r.new.shared q.given q.used refl (freed_rep q.rep)
     (r.ensures s q.given q.shared))
-
-pub returns-in_default : goal.returns-in_default
-returns-in_default c =
-    let id = c.args.id.0 in
-    let nowhere = sym (ap idx_of c.in_default.is) ∙ c.get_render_idx-idx.ensures in
-    accepts (λ s at w k. Meets (Drop id) s (done (with_window at (freed w) k s) 0)) (sym c.in_use.ensures ∙ c.if-in_use.true)
-    (λ s q.
-    drops s id (freed (window_at s id)) s.shared q.given q.used refl (freed_rep q.rep)
-    (hidden_already s q.given id (same_place _ _ q.shared nowhere)))
-
-pub returns-else-in_use : goal.returns-else-in_use
-returns-else-in_use c =
-    let id = c.args.id.0 in
-    not_used (λ s t. Meets (Drop id) s (done t 3)) (sym c.in_use.ensures ∙ c.if-in_use.false) (λ s h u. no_window s id h u)

@@ -47,8 +47,7 @@ mark_no s id h u = record { meets = refuses (Mark id) s 2 h (rw u); whole = λ z
 pub returns-then-not-in_use : goal.returns-then-not-in_use
 returns-then-not-in_use c =
     let id = c.args.id.0 in
-    rw c.refused.ensures
-    (not_used (λ s t. MeetsMark id s (done t 3)) (failed c.in_use.ensures (ap not c.if-not-in_use.true)) (λ s h c. mark_no s id h c))
+    not_used (λ s t. MeetsMark id s (done t 3)) (failed c.in_use.ensures (ap not c.if-not-in_use.true)) (λ s h c. mark_no s id h c)
 
 pub returns : goal.returns
 returns c =

@@ -61,34 +61,32 @@ no_window s id x y h u = refuses (Move id x y) s 2 h (rw u)
 pub returns-then-not-in_use : goal.returns-then-not-in_use
 returns-then-not-in_use c =
     let a = c.args in
-    rw c.refused.ensures
-    (not_used (λ s t. Meets (Move a.id.0 a.x a.y) s (done t 3)) (failed c.in_use.ensures (ap not c.if-not-in_use.true))
-    (λ s h c. no_window s a.id.0 a.x a.y h c))
+    not_used (λ s t. Meets (Move a.id.0 a.pos.x a.pos.y) s (done t 3)) (failed c.in_use.ensures (ap not c.if-not-in_use.true))
+    (λ s h c. no_window s a.id.0 a.pos.x a.pos.y h c)
 
 pub returns-then-not-small_point : goal.returns-then-not-small_point
 returns-then-not-small_point c =
-    let in_use : let a = c.args in ltb a.id.0 16 && a.win.used ≡ true = passed c.in_use.ensures (ap not c.if-not-in_use.false) in
+    let in_use : let a = c.args in ltb a.id.0 16 && a.win.now.used ≡ true = passed c.in_use.ensures (ap not c.if-not-in_use.false) in
     let a = c.args in
     let id = a.id.0 in
-    rw c.refused-then-not-small_point.ensures
-    (accepts (λ s at w k. Meets (Move id a.x a.y) s (done (with_window at w k s) 5)) in_use
-    (λ s q. shares (λ t. Meets (Move id a.x a.y) s (done t 5)) s id s.shared
-    (too_far s id a.x a.y q.given q.used (failed c.small_point.ensures (ap not c.if-not-small_point.true)))))
+    accepts (λ s at w k. Meets (Move id a.pos.x a.pos.y) s (done (with_window at w k s) 5)) in_use
+    (λ s q. shares (λ t. Meets (Move id a.pos.x a.pos.y) s (done t 5)) s id s.shared
+    (too_far s id a.pos.x a.pos.y q.given q.used (failed c.small_point.ensures (ap not c.if-not-small_point.true))))
 
 pub returns : goal.returns
 returns c =
-    let in_use : let a = c.args in ltb a.id.0 16 && a.win.used ≡ true = passed c.in_use.ensures (ap not c.if-not-in_use.false) in
-    let near : let a = c.args in small a.x && small a.y ≡ true = passed c.small_point.ensures (ap not c.if-not-small_point.false) in
-    let low : let a = c.args in (a.x ≤ 32767) × (a.y ≤ 32767) =
+    let in_use : let a = c.args in ltb a.id.0 16 && a.win.now.used ≡ true = passed c.in_use.ensures (ap not c.if-not-in_use.false) in
+    let near : let a = c.args in small a.pos.x && small a.pos.y ≡ true = passed c.small_point.ensures (ap not c.if-not-small_point.false) in
+    let low : let a = c.args in (a.pos.x ≤ 32767) × (a.pos.y ≤ 32767) =
     let a = c.args in
-    (leb-true a.x 32767 (fst (small a.x) (small a.y) near), leb-true a.y 32767 (snd (small a.x) (small a.y) near))
+    (leb-true a.pos.x 32767 (fst (small a.pos.x) (small a.pos.y) near), leb-true a.pos.y 32767 (snd (small a.pos.x) (small a.pos.y) near))
     in
     let a = c.args in
     let id = a.id.0 in
-    rw (c.owing-shared.ensures, c.set_maximised-shared.ensures)
-    (accepts (λ s at w k. Meets (Move id a.x a.y) s (done (with_window at (moved a.x a.y w) (indebted (with_maximised id false k)) s) 0))
+    rw c.owe.ensures
+    (accepts (λ s at w k. Meets (Move id a.pos.x a.pos.y) s (done (with_window at (moved a.pos.x a.pos.y w) (indebted (with_maximised id false k)) s) 0))
     in_use
     (λ s q.
     let r = q.rep in
-    move_yes s id a.x a.y q.given q.used near
+    move_yes s id a.pos.x a.pos.y q.given q.used near
     (record { at = record { left≤ = low.0; top≤ = low.1; width≤ = r.at.width≤; height≤ = r.at.height≤ }; damage = r.damage; queue = r.queue; cursor = r.cursor })))

@@ -40,26 +40,24 @@ returns-then-not-in_use c =
     let a = c.args in
     let id = a.id.0 in
     let l = a.layer in
-    rw c.refused.ensures
-    (not_used (λ s t. Meets (SetLayer id l) s (done t 3)) (failed c.in_use.ensures (ap not c.if-not-in_use.true)) (λ s h c. no_window s id l h c))
+    not_used (λ s t. Meets (SetLayer id l) s (done t 3)) (failed c.in_use.ensures (ap not c.if-not-in_use.true)) (λ s h c. no_window s id l h c)
 
 pub returns-then-layer-gt1 : goal.returns-then-layer-gt1
 returns-then-layer-gt1 c =
-    let in_use : let a = c.args in ltb a.id.0 16 && a.win.used ≡ true = passed c.in_use.ensures (ap not c.if-not-in_use.false) in
+    let in_use : let a = c.args in ltb a.id.0 16 && a.win.now.used ≡ true = passed c.in_use.ensures (ap not c.if-not-in_use.false) in
     let a = c.args in
     let id = a.id.0 in
     let l = a.layer in
-    rw c.refused-then-layer-gt1.ensures
-    (accepts (λ s at w k. Meets (SetLayer id l) s (done (with_window at w k s) 17)) in_use
-    (λ s q. shares (λ t. Meets (SetLayer id l) s (done t 17)) s id s.shared (too_high s id l q.given q.used c.if-layer-gt1.true)))
+    accepts (λ s at w k. Meets (SetLayer id l) s (done (with_window at w k s) 17)) in_use
+    (λ s q. shares (λ t. Meets (SetLayer id l) s (done t 17)) s id s.shared (too_high s id l q.given q.used c.if-layer-gt1.true))
 
 pub returns : goal.returns
 returns c =
-    let in_use : let a = c.args in ltb a.id.0 16 && a.win.used ≡ true = passed c.in_use.ensures (ap not c.if-not-in_use.false) in
+    let in_use : let a = c.args in ltb a.id.0 16 && a.win.now.used ≡ true = passed c.in_use.ensures (ap not c.if-not-in_use.false) in
     let a = c.args in
     let id = a.id.0 in
     let l = a.layer in
-    let r = c.layered in
-    accepts (λ s at w k. Meets (SetLayer id l) s (done (with_window at w r.result s) 0)) in_use
-    (λ s q. shares (λ t. Meets (SetLayer id l) s (done t 0)) s id r.result
+    let r = c.put_on in
+    accepts (λ s at w k. Meets (SetLayer id l) s (done (with_window at w r.new.shared s) 0)) in_use
+    (λ s q. shares (λ t. Meets (SetLayer id l) s (done t 0)) s id r.new.shared
     (sets s id l _ q.given q.used c.if-layer-gt1.false (r.ensures s q.given q.shared)))

@@ -11,5 +11,5 @@ use Rattle.windows.proofs.inner.portion.begin.Goals as goal
 pub returns : goal.returns
 returns c s h same =
     let forced = c.args.forced in
-    rw c.begin-due.ensures
+    rw c.begin.ensures
     (subst (λ (k : Shared). Meets (Begin forced) s (done (sharing (noted (begun forced k.due k.shown) k) s) 0)) same (begins s h forced))
