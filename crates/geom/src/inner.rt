@@ -54,7 +54,20 @@ pub fn contains(r: Rect, x: u32, y: u32) -> bool
     requires { Fits r }
     ensures { result ≡ rule.contains r x y }
 {
-    r.pos.x <= x && (x < right(r) && (r.pos.y <= y && y < bottom(r)))
+    // side by side: one expression is compiled without branches, and a press would ask all four of each window it misses
+    if x < r.pos.x {
+        return false;
+    }
+    if right(r) <= x {
+        return false;
+    }
+    if y < r.pos.y {
+        return false;
+    }
+    if bottom(r) <= y {
+        return false;
+    }
+    true
 }
 
 pub fn contains_rect(a: Rect, b: Rect) -> bool
