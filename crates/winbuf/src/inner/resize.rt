@@ -3,6 +3,7 @@ ghost use Rattle.std.specs.Prelude.{◌≡◌, ◌++◌, ◌+◌, ◌-◌, ◌*�
 ghost use Rattle.scanline.specs.Pixels.{write_rows, part, resized_at};
 ghost use Rattle.winbuf.specs.inner.Rows.{resized};
 
+use scanline::row::fill_part;
 use scanline::shift::{move_down, move_up};
 
 // n rows of w0 pixels become rows of w1, no more than w0: of each row the first w1.
@@ -24,7 +25,7 @@ pub fn widen(px: &mut [u32], w0: u16, w1: u16, n: usize)
     for r in (0..n).rev() {
         let at = r * w1 as usize;
         move_up(px, at, r * w0 as usize, w0);
-        px[at + w0 as usize..at + w1 as usize].fill(0);
+        fill_part(px, at + w0 as usize, w1 - w0, 0);
     }
 }
 

@@ -1,9 +1,15 @@
--- The part that was lent comes back as a run of stores.
-use Rattle.std.proofs.Common.{arith, ◌∙◌}
-use Rattle.scanline.proofs.rows.Runs.{full_part, part_is, put_is}
+-- What is left to be copied, from here, gives the same.
+use Rattle.std.proofs.Common.{◌≡◌, refl, ◌∙◌, ◌+◌, arith, add-zero}
+use native.Mathlib.Nat.{sub-zero}
+use lib.ListN.{length-set}
+use Rattle.scanline.proofs.rows.Columns.{copy_turn}
 use Rattle.scanline.proofs.row.copy_part.Goals as goal
 
-pub returns : goal.returns
-returns c =
+pub loop-i-init : goal.loop-i-init
+loop-i-init c = (rw (sub-zero, add-zero, add-zero) refl, refl)
+
+pub loop-i-preserved : goal.loop-i-preserved
+loop-i-preserved c =
+    let l = c.loop-i in
     let a = c.args in
-    put_is a.px.now _ _ a.at a.n (c.copy_from_slice.ensures.after ∙ part_is a.src.now a.from a.n) (full_part a.src.now a.from a.n (omega arith)) (omega arith)
+    (copy_turn l.px a.src.now a.at a.from a.n l.i (omega arith) (omega arith) ∙ l.invariant.0, rw length-set l.invariant.1)

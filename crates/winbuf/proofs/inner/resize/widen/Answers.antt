@@ -1,9 +1,6 @@
 -- The rows that are left, written from here, give the same.
-use Rattle.std.proofs.Common.{◌≡◌, ◌+◌, ◌-◌, ◌*◌, ◌≤◌, ℕ, suc, length, replicate, ap, ◌∙◌, arith}
-use Rattle.std.proofs.Math.Seq.{length-sets}
+use Rattle.std.proofs.Common.{◌≡◌, ◌+◌, ◌-◌, ◌*◌, ℕ, suc, ap, ◌∙◌, arith}
 use Rattle.scanline.specs.Pixels.{write_rows}
-use Rattle.scanline.proofs.rows.Rows.{row_end}
-use Rattle.scanline.proofs.rows.Runs.{cleared}
 use Rattle.scanline.proofs.rows.Written.{rows_none}
 use Rattle.winbuf.proofs.rows.Widths.{wide, widen_step}
 use Rattle.winbuf.proofs.inner.resize.widen.Goals as goal
@@ -13,15 +10,13 @@ loop-r-preserved c =
     let a = c.args in
     let l = c.loop-r in
     let m = c.move_up in
+    let f = c.fill_part in
     let r = l.r - 1 in
-    let e : suc r ≡ l.r = omega arith in
-    let room : r * a.w1 + a.w1 ≤ length m.new.px = omega (arith, m.auto.px, l.invariant.1, row_end a.w1 a.n r (omega arith)) in
-    let f = cleared m.new.px c.fill.new.self (r * a.w1 + a.w0) (r * a.w1 + a.w1) (a.w1 - a.w0) (omega arith) room (c.fill.ensures.after (λ y k. k)) in (
-      widen_step l.px m.new.px _ a.w0 a.w1 a.n r (omega arith) (omega arith) (omega arith) m.ensures
-          f
+    let e : suc r ≡ l.r = omega arith in (
+      widen_step l.px m.new.px f.new.px a.w0 a.w1 a.n r (omega arith) (omega arith) (omega arith) m.ensures f.ensures.pixels
           ∙ ap (λ (j : ℕ). write_rows j (λ k. k * a.w1) (wide a.w0 a.w1 l.px) l.px) e
           ∙ l.invariant.0,
-      ap length f ∙ length-sets m.new.px (r * a.w1 + a.w0) (replicate (a.w1 - a.w0) 0) ∙ m.auto.px ∙ l.invariant.1,
+      f.auto.px ∙ m.auto.px ∙ l.invariant.1,
     )
 
 pub returns : goal.returns
