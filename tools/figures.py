@@ -208,7 +208,12 @@ FIGURES = (
         r"compare/README\.md\) has {} more",
         "{} more commands:",
     ),
-    Figure("functions that call themselves", lambda tree: len(stack.DEPTHS), "{} functions call themselves"),
+    Figure(
+        "functions that call themselves",
+        lambda tree: len(stack.DEPTHS),
+        "{} functions call themselves",
+        "{} function calls itself",
+    ),
     Figure("public calls", lambda tree: len(all_calls(tree)), "{} public calls"),
     Figure("exported calls", lambda tree: sum(call.exported for call in all_calls(tree)), "{} exported calls"),
     Figure("crates", lambda tree: len(tree.crates), "all {} crates", "{} crates of the library"),

@@ -34,9 +34,6 @@ WINDOWS_ABOVE = 15
 SEARCH = "one turn for each of the at most 15 windows above, and the last"
 DEPTHS = {
     "visible::walk::walk": (WINDOWS_ABOVE + 1, SEARCH),
-    # The kit's sort, by which crate bands sorts the rectangles above a window. Of twenty or fewer it calls neither.
-    "core::slice::sort::unstable::quicksort": (7, "each of which hands on a limit that falls from twice the logarithm of 15"),
-    "core::slice::sort::pivot::median_of_medians": (1, "since of fewer than 64 elements it is not called"),
 }
 # The functions of the driver that measures.
 DRIVER = "run_"
