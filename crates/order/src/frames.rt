@@ -1,5 +1,5 @@
 // Where the windows are by their numbers, and which numbers are in use.
-ghost use Rattle.order.specs.inner.Frames.{FirstFreeIn};
+ghost use Rattle.order.specs.inner.Frames.{FirstFree, FirstFreeIn};
 
 use geom::inner::rect16::Rect16;
 
@@ -10,9 +10,19 @@ pub struct Frames {
     pub used: [bool; 16],
 }
 
-// The smallest number that is not in use.
-pub fn first_free(used: &[bool; 16]) -> Option<usize>
+// The smallest number that is not in use, if there is one.
+pub fn free_number(used: &[bool; 16]) -> Option<usize>
     ensures { FirstFreeIn used.now result }
 {
     used.iter().position(|u| !*u)
+}
+
+// The same, or 0 where all are.
+pub fn first_free(used: &[bool; 16]) -> usize
+    ensures { FirstFree used.now result }
+{
+    match free_number(used) {
+        Some(at) => at,
+        None => 0,
+    }
 }

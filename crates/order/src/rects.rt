@@ -47,7 +47,7 @@ impl Rects {
     }
 
     // One more, behind the others.
-    fn push(&mut self, area: Rect16)
+    pub fn push(&mut self, area: Rect16)
         requires { self.old.len < 16 }
         ensures { (rs : List Rect) → Holds self.old rs → Holds self.new (rs ++ (rect_of area ∷ [])) }
     {

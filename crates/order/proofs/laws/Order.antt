@@ -1,6 +1,6 @@
 -- The render order in its array: the search for a window's place, and the gap that a hidden window leaves.
 use Rattle.std.specs.Prelude as Std
-use Rattle.std.proofs.Common.{ℕ, zero, suc, ◌+◌, ◌-◌, ◌≤◌, ◌<◌, ◌≡◌, refl, sym, ap, ◌∙◌, Bool, true, false, cond, Some, None, List, [], ◌∷◌, ◌++◌, map, eqb, ltb, ltb-true, ltb-false, length, get_or, take, drop, option_map, arith, add-one, length-drop, drop_of_length-le, drop-cons, get_or-take, length-take-le, take-take, take-suc, take_all, ⊎_elim, not-suc-le-zero}
+use Rattle.std.proofs.Common.{ℕ, zero, suc, ◌+◌, ◌-◌, ◌≤◌, ◌<◌, ◌≡◌, refl, sym, ap, ◌∙◌, Bool, true, false, cond, Some, None, List, [], ◌∷◌, ◌++◌, map, eqb, eq-eqb, ltb, ltb-true, ltb-false, length, get_or, take, drop, option_map, arith, add-one, length-drop, drop_of_length-le, drop-cons, get_or-take, length-take-le, take-take, take-suc, take_all, ⊎_elim, not-suc-le-zero}
 use Rattle.std.proofs.lemmas.List.{map-append}
 use Rattle.std.proofs.Math.ListN.{length-map, get_or-map}
 use Rattle.std.proofs.Math.Option.{none, some}
@@ -107,6 +107,20 @@ module _ {l : List WinId} {t : ℕ → Bool} {i : ℕ} (q : Seeking l t i) where
       let z : drop i (nums l) ≡ [] = drop_of_length-le (nums l) {i = i} (omega (arith, length-map l num)) in
       let y : first_of t (drop i (nums l)) ≡ 0 = ap (first_of t) z in
       omega (arith, q.so_far, q.within)
+
+-- a window's place is that of the first id that is its own
+place_first : (id : ℕ) (o : List ℕ) → place_of id o ≡ first_of (λ j. eqb j id) o
+place_first id [] = refl
+place_first id (x ∷ o) = ap (λ (p : ℕ). cond (eqb x id) 0 (suc p)) (place_first id o)
+
+module _ {l : List WinId} {i : ℕ} (id : ℕ) (q : Seeking l (λ j. eqb j id) i) where
+  pub place_hit : i < length l → (get_or l i no_id).0 ≡ id → some i ≡ render_idx id (nums l)
+  place_hit h e =
+      let p : i ≡ place_of id (nums l) = seek_hit q h (eq-eqb (get_or l i no_id).0 id e) ∙ sym (place_first id (nums l)) in
+      rw (shown_place id (nums l) (omega (arith, length-map l num))) (ap some p)
+
+  pub place_end : length l ≤ i → none ≡ render_idx id (nums l)
+  place_end h = rw (hidden_place id (nums l) (omega (arith, seek_end q h, place_first id (nums l), length-map l num)))
 
 -- the place that a search gives
 pub place_found : (id : ℕ) (l : List WinId) (r : Std.Option ℕ)

@@ -1,5 +1,5 @@
 -- The table of the rectangles above a window: one that a part of the window does not meet can be left out.
-use Rattle.std.proofs.Common.{ℕ, zero, suc, ◌<◌, ◌≡◌, refl, ap, sym, ◌∙◌, Bool, true, false, cond, List, [], ◌∷◌, length, get_or, filter, arith}
+use Rattle.std.proofs.Common.{ℕ, zero, suc, ◌<◌, ◌≡◌, refl, ap, sym, ◌∙◌, Bool, true, false, cond, List, [], ◌∷◌, ◌++◌, length, get_or, filter, arith}
 use Rattle.geom.specs.declared.Rect.{Rect}
 use Rattle.geom.specs.Geom.{rect, is_empty, meets, pieces}
 use Rattle.geom.specs.inner.Fits.{Fits, Within}
@@ -41,6 +41,16 @@ outside_met a ps (b ∷ bs) h =
 -- they leave of a what all of them leave
 pub met_same : (a : Rect) (bs : List Rect) → outside_all (a ∷ []) (met a bs) ≡ outside_all (a ∷ []) bs
 met_same a bs = outside_met a (a ∷ []) bs (within_refl a, tt)
+
+-- one that a does not meet can be left out
+met_out : (a b : Rect) (xs ys : List Rect) → meets a b ≡ false → met a (xs ++ (b ∷ ys)) ≡ met a (xs ++ ys)
+met_out a b [] ys m = rw m refl
+met_out a b (x ∷ xs) ys m = ap (λ (rs : List Rect). cond (meets a x) (x ∷ rs) rs) (met_out a b xs ys m)
+
+pub left_out : (a b : Rect) (xs ys : List Rect) → meets a b ≡ false
+    → outside_all (a ∷ []) (xs ++ (b ∷ ys)) ≡ outside_all (a ∷ []) (xs ++ ys)
+left_out a b xs ys m =
+    sym (met_same a (xs ++ (b ∷ ys))) ∙ ap (outside_all (a ∷ [])) (met_out a b xs ys m) ∙ met_same a (xs ++ ys)
 
 -- two that meet have pixels
 met_some : (a b : Rect) → meets a b ≡ true → (is_empty a ≡ false) × (is_empty b ≡ false)
