@@ -91,8 +91,8 @@ module _ (dim : Bool) (at : Rect) (s : Small at) (bs : List Rect) (base : ℕ) (
   dirty_drawn false (d ∷ ds) = refl
 
 -- what the code lends to `draw` gives the screen that the rule says
-pub lent_drawn : (dim : Bool) (w : Window) (full : Bool) (base : ℕ) (bs : List Rect) (store : List ℕ) (sw sh : ℕ) (screen : List ℕ) (r : Rect) (ds : List Rect) (screen' : List ℕ)
-    → Small (rect_of w.at) → full || w.marked ≡ true → r ≡ rect_of w.at → ds ≡ dirty_of full (rects w.damage)
+pub lent_painted : (dim : Bool) (w : Window) (full : Bool) (base : ℕ) (bs : List Rect) (store : List ℕ) (sw sh : ℕ) (screen : List ℕ) (r : Rect) (ds : List Rect) (screen' : List ℕ)
+    → Small (rect_of w.at) → r ≡ rect_of w.at → ds ≡ dirty_of full (rects w.damage)
     → screen' ≡ draw_regions dim r base store sw sh (list_intersect (map (relative r) (outside_all (r ∷ []) bs)) ds) screen
-    → screen' ≡ cond (full || w.marked) (painted dim w full base bs store sw sh screen) screen
-lent_drawn dim w full base bs store sw sh screen r ds screen' s m e k q = q ∙ rw (e, k, m) (dirty_drawn dim (rect_of w.at) s bs base store sw sh screen full (rects w.damage))
+    → screen' ≡ painted dim w full base bs store sw sh screen
+lent_painted dim w full base bs store sw sh screen r ds screen' s e k q = q ∙ rw (e, k) (dirty_drawn dim (rect_of w.at) s bs base store sw sh screen full (rects w.damage))

@@ -17,7 +17,7 @@ use Rattle.look.specs.declared.Sizes.{Sizes}
 use Rattle.look.specs.View.{view}
 use Rattle.look.specs.inner.Steps as Steps
 use Rattle.window.specs.Window.{Win}
-use Rattle.rules.specs.Group.{win}
+use Rattle.rules.specs.Group.{used, win}
 use Rattle.rules.specs.Look.{sizes_of, look}
 use Rattle.look.specs.Floats.{allowed}
 use Rattle.look.specs.View.{target_fits}
@@ -25,10 +25,20 @@ use Rattle.windows.specs.declared.Session.{Session}
 use Rattle.windows.specs.View.{group, window_at, Given, Looks}
 use Rattle.windows.specs.inner.One.{At}
 use Rattle.windows.specs.inner.Lent.{questions, Begins}
-use Rattle.windows.proofs.laws.Session.{win_at_lem}
+use Rattle.windows.proofs.laws.Session.{win_at_lem, is_whole, isnt_whole}
 use Rattle.windows.proofs.laws.Refused.{before}
 use Rattle.windows.proofs.laws.One.{asks_used, own}
 use Rattle.windows.proofs.laws.Store.{there, in_use}
+
+-- The first two questions, of the session as it is
+module _ (s : Session) (id : ℕ) (l : Look) (store target : List ℕ) (tw th : ℕ) where
+  pub not_whole : (length store ≡ 16 * s.shared.c → ⊥) → Looks (group s) id l store target tw th 1 target
+  unfolding look
+  not_whole n = record { answer = rw (isnt_whole s store n); target = rw (isnt_whole s store n) }
+
+  pub not_used : length store ≡ 16 * s.shared.c → used (group s) id ≡ false → Looks (group s) id l store target tw th 3 target
+  unfolding look
+  not_used e u = record { answer = rw (is_whole s store e, u); target = rw (is_whole s store e, u) }
 
 module _ {s : Session} {id at : ℕ} (h : Given s) (p : At id at) (l : Look) (store target : List ℕ) (tw th : ℕ) where
   -- question 1 or 3 is answered no

@@ -1,24 +1,29 @@
 -- A law of the window that lies at an id's place, in every session that holds it.
 use Prim.Native.Nat.{ℕ, ◌<◌}
 use mathlib.Core.Path.{◌≡◌, refl, sym, ap, subst, ◌∙◌}
-use mathlib.Core.Bool.{true, false, ◌&&◌}
+use mathlib.Core.Bool.{Bool, true, false, ◌&&◌}
 use mathlib.Core.List.{List}
 use mathlib.Core.Logic.{⊎_elim}
 use mathlib.Core.Option.{Option}
 use lib.Dec.{ltb}
 use lib.Seq.{set-get_or}
 use borrow.Author.Tests.{ltb-true, lt-ltb, le-ltb}
+use Rattle.std.specs.Prelude.{Result}
+use Rattle.geom.specs.declared.inner.rect16.Rect16.{Rect16}
+use Rattle.geom.specs.declared.refusal.Refusal.{Refusal}
 use Rattle.geom.proofs.basics.Tests.{fst, snd, lt_or_le}
 use Rattle.window.specs.declared.Window.{Window}
+use Rattle.window.specs.declared.damage.Damage.{Damage}
 use Rattle.window.specs.Represents.{win_of, RepWindow}
 use Rattle.order.specs.Ids.{ids}
 use Rattle.order.specs.inner.Order.{render_idx}
 use Rattle.rules.specs.Group.{used}
+use Rattle.rules.specs.Calls.{Call}
 use Rattle.rules.specs.Panels.{Write}
 use Rattle.windows.specs.declared.Shared.{Shared}
 use Rattle.windows.specs.declared.Session.{Session}
-use Rattle.windows.specs.View.{blank, group, window_at, holding, ruled, rewritten, Given}
-use Rattle.windows.specs.inner.One.{At, Holds, Held, with_window}
+use Rattle.windows.specs.View.{Done, Written, blank, group, window_at, holding, ruled, rewritten, done, written, Given, Meets, MeetsStore, MeetsAltered, MeetsMark}
+use Rattle.windows.specs.inner.One.{At, Holds, Held, Changed, with_window, MeetsAt, MeetsMarkAt}
 use Rattle.windows.proofs.laws.Session.{used_at, used_past}
 
 -- Parts of a session ---------------------------------------------------------------------------------------------------
@@ -37,6 +42,17 @@ put_back s at {w} {k} is same =
 -- a place that was found in what is shared is the session's
 pub same_place : (id : ℕ) (o : Option ℕ) {k m : Shared} → m ≡ k → o ≡ render_idx id (ids k.shown k.order) → o ≡ render_idx id (ids m.shown m.order)
 same_place id o same = subst (λ (j : Shared). o ≡ render_idx id (ids j.shown j.order)) (sym same)
+
+-- Fields of a window --------------------------------------------------------------------------------------------------
+
+-- the window with another use, place and damage
+abbrev pub fields : Bool → Rect16 → Damage → Window → Window
+fields u a d w = record { queue = w.queue; damage = d; at = a; cursor = w.cursor; used = u; marked = w.marked }
+
+-- what holds of it holds of a window that has them
+pub by_fields : (P : Window → Type 0) {u : Bool} {a : Rect16} {d : Damage} (w : Window) → w.used ≡ u → w.at ≡ a
+    → w.damage ≡ d → P (fields u a d w) → P w
+by_fields P w u a d = subst P (λ i. fields (sym u i) (sym a i) (sym d i) w)
 
 -- Sessions that hold a window -----------------------------------------------------------------------------------------
 
@@ -107,9 +123,37 @@ module _ {id : ℕ} {w : Window} {k : Shared} where
 
 -- The window of a session at hand -------------------------------------------------------------------------------------
 
+-- `MeetsAt` of a call that is lent the store, which it leaves as `store`
+abbrev pub MeetsStoreAt : Call → ℕ → Window → Shared → Changed → List ℕ → Type 0
+MeetsStoreAt call id w k r store =
+    (s : Session) (at : ℕ) → Holds id w k s at → MeetsStore call s (done (with_window at r.window r.shared s) r.answer) store
+
+-- the same of a fill or a blit, which makes the window v and shares what was shared
+abbrev pub MeetsAlteredAt : ℕ → Write → List ℕ → Window → Shared → Window → Result ℕ Refusal → List ℕ → Type 0
+MeetsAlteredAt id u p w k v r store =
+    (s : Session) (at : ℕ) → Holds id w k s at → MeetsAltered id u p s (written (with_window at v k s) r) store
+
 module _ {id at : ℕ} {s : Session} (h : Given s) (p : At id at) where
   pub own : Holds id (window_at s at) s.shared s at
   own = record { given = h; place = p; window = refl; shared = refl }
 
   pub held : Held id (window_at s at) s.shared
   held = record { session = s; at = at; holds = own }
+
+  -- what the function of one window made of it is put in its place
+  pub by_meets : {call : Call} {r : Done} (d : Changed) → MeetsAt call id (window_at s at) s.shared d
+      → r ≡ done (with_window at d.window d.shared s) d.answer → Meets call s r
+  by_meets {call} d m e = subst (Meets call s) (sym e) (m s at own)
+
+  pub by_store : {call : Call} {t : List ℕ} {r : Done} (d : Changed) → MeetsStoreAt call id (window_at s at) s.shared d t
+      → r ≡ done (with_window at d.window d.shared s) d.answer → MeetsStore call s r t
+  by_store {call} {t} d m e = subst (λ (r : Done). MeetsStore call s r t) (sym e) (m s at own)
+
+  pub by_altered : {u : Write} {p t : List ℕ} {r : Written} (v : Window) (a : Result ℕ Refusal)
+      → MeetsAlteredAt id u p (window_at s at) s.shared v a t → r ≡ written (with_window at v s.shared s) a
+      → MeetsAltered id u p s r t
+  by_altered {u} {p} {t} v a m e = subst (λ (r : Written). MeetsAltered id u p s r t) (sym e) (m s at own)
+
+  pub by_mark : {r : Done} (d : Changed) → MeetsMarkAt id (window_at s at) s.shared d → r ≡ done (with_window at d.window d.shared s) d.answer
+      → MeetsMark id s r
+  by_mark d m e = subst (MeetsMark id s) (sym e) (m s at own)

@@ -9,10 +9,11 @@ use native.Mathlib.Omega.{arith}
 use lib.Dec.{ltb, eqb, eqb-suc-zero}
 use lib.ListN.{length, set}
 use lib.Seq.{set-get_or}
-use borrow.Author.Tests.{leb-true, ltb-true, lt-ltb, eq-eqb}
-use Rattle.std.specs.Prelude.{Ok, Err}
+use borrow.Author.Tests.{leb-true, ltb-true, lt-ltb, eq-eqb, ne_eqb}
+use Rattle.std.specs.Prelude.{Result, Ok, Err}
 use Rattle.geom.specs.declared.Rect.{Rect}
 use Rattle.geom.specs.declared.refusal.Refusal.{Refusal}
+use Rattle.geom.specs.declared.refusal.Refusal.TheVariants.{StoreLength, UnknownId}
 use Rattle.geom.specs.Refusals.{number}
 use Rattle.geom.specs.Questions.{Question, ◌is◌, asked, small}
 use Rattle.geom.specs.Geom.{small_rect}
@@ -34,7 +35,7 @@ use Rattle.rules.proofs.group.Refused.{refused_store}
 use Rattle.rules.proofs.group.Invariant.{WinOk}
 use Rattle.windows.specs.declared.Shared.{Shared}
 use Rattle.windows.specs.declared.Session.{Session}
-use Rattle.windows.specs.View.{group, window_at, ruled, Given, MeetsStore, MeetsAltered, done, written}
+use Rattle.windows.specs.View.{group, window_at, holding, ruled, Given, MeetsStore, MeetsAltered, done, written}
 use Rattle.windows.specs.inner.One.{At, with_window}
 use Rattle.windows.specs.inner.Lent.{questions, Begins}
 use Rattle.windows.specs.inner.Sharing.{with_maximised, indebted}
@@ -143,6 +144,17 @@ module _ {s : Session} {id at : ℕ} (h : Given s) (p : At id at) (store : List 
         → MeetsStore call s (done s (number refusal)) store
     not_begun refusal e = refused refusal (e (rest (group s)))
 
+    -- question 1 is
+    pub not_whole : (length store ≡ 16 * s.shared.c → ⊥) → MeetsStore call s (done s 1) store
+    not_whole n = not_begun StoreLength (λ others. rw (ne_eqb (length store) (16 * s.shared.c) n))
+
+    -- question 3 is, as the code asks it
+    pub not_used : {b : Bool} → length store ≡ 16 * s.shared.c → b ≡ ltb id 16 && (window_at s at).used → b ≡ false
+        → MeetsStore call s (done s 3) store
+    not_used e u t =
+        let n : ltb id 16 && (window_at s at).used ≡ false = sym u ∙ t in
+        not_begun UnknownId (λ others. rw (eq-eqb (length store) (16 * s.shared.c) e, n))
+
     module _ {base : ℕ} (b : Begins id (window_at s at).used s.shared.c (length store) base) where
       -- a later one is
       pub no : (refusal : Refusal) → asked (rest (group s)) ≡ number refusal → MeetsStore call s (done s (number refusal)) store
@@ -199,7 +211,21 @@ module _ {s : Session} {id at : ℕ} (h : Given s) (p : At id at) (u : Write) (s
         whole = λ z. absurd (omega (arith, sym n.1 ∙ z));
       }
 
+  -- the same of an answer that is that refusal
+  pub refused_as : (refusal : Refusal) {r : Result ℕ Refusal} → r ≡ Err refusal
+      → MeetsStore (call_of id u store) s (done s (number refusal)) store → MeetsAltered id u store s (written s r) store
+  refused_as refusal e meets =
+      subst (λ (r : Result ℕ Refusal). MeetsAltered id u store s (written s r) store) (sym e) (refused_one refusal meets)
+
   -- of an accepted one: its window becomes what the rule says, and all else stays
+  pub accepted_one : {base : ℕ} {r : Window} {t : List ℕ} {n : ℕ} → Begins id (window_at s at).used s.shared.c (length store) base
+      → r ≡ holding (ruled u (win_of (window_at s at))) (window_at s at)
+      → MeetsStore (call_of id u store) s (done (with_window at r s.shared s) 0) t
+      → n ≡ altered store t → MeetsAltered id u store s (written (with_window at r s.shared s) (Ok n)) t
+  accepted_one b v meets e =
+      record { meets = meets; altered = counted meets e; whole = λ _. rewrites u (low h p store b) v s at (own h p) }
+
+  -- the same by its rule
   pub painted : (F : ℕ → Win → List ℕ) {rest : Group → List Question} {base : ℕ} {r : Window} {t : List ℕ} {n : ℕ}
       → Rule (call_of id u store) id store rest (λ _. ruled u) (λ g. F (id * g.c)) (λ g. g)
       → Begins id (window_at s at).used s.shared.c (length store) base → asked (rest (group s)) ≡ 0
@@ -207,12 +233,18 @@ module _ {s : Session} {id at : ℕ} (h : Given s) (p : At id at) (u : Write) (s
       → MeetsAltered id u store s (written (with_window at r s.shared s) (Ok n)) t
   unfolding group
   painted F rule b e q =
-      let meets = yes h p store rule b same_shared e q.window (q.counted.pixels ∙ ap (λ (j : ℕ). F j (win_of (window_at s at))) b.begins) in
-      record {
-        meets = meets;
-        altered = counted meets q.counted.altered;
-        whole = λ _. rewrites u (low h p store b) q.whole s at (own h p);
-      }
+      accepted_one b q.whole
+      (yes h p store rule b same_shared e q.window (q.counted.pixels ∙ ap (λ (j : ℕ). F j (win_of (window_at s at))) b.begins))
+      q.counted.altered
+
+  -- where that is said of every window with its place and its damage
+  pub accepted_as : (F : ℕ → Win → List ℕ) {rest : Group → List Question} {base : ℕ} {r : Window → Window} {t : List ℕ} {n : ℕ}
+      → Rule (call_of id u store) id store rest (λ _. ruled u) (λ g. F (id * g.c)) (λ g. g)
+      → Begins id (window_at s at).used s.shared.c (length store) base → asked (rest (group s)) ≡ 0
+      → ((w : Window) → RepWindow w → w.at ≡ (window_at s at).at → w.damage ≡ (window_at s at).damage
+      → Paints w (ruled u (win_of w)) (F base (win_of w)) store (r w) t n)
+      → MeetsAltered id u store s (written (with_window at (r (window_at s at)) s.shared s) (Ok n)) t
+  accepted_as F rule b e q = painted F rule b e (q (window_at s at) (rep h p store b) refl refl)
 
 -- A window put back --------------------------------------------------------------------------------------------------
 

@@ -8,7 +8,6 @@ ghost use Rattle.windows.specs.inner.Frames.{Framed};
 use crate::Session;
 use geom::inner::rect16::Rect16;
 use order::frames::Frames;
-use order::rects;
 use order::rects::Rects;
 use window::ids::Place;
 
@@ -32,10 +31,16 @@ pub fn frames(s: &Session) -> Frames
     frames
 }
 
-// The rectangles of the shown windows from a place on, lowest first.
+// The rectangles of the shown windows from a place on, lowest first. Each is read where its window lies: of the others
+// nothing is copied.
 pub fn rects_from(s: &Session, p: Place) -> Rects
     requires { Given s.now × (p.0 ≤ s.now.shared.shown) }
     ensures { Holds result (map (λ i. (win (group s.now) i).at) (drop p.0 (group s.now).order)) }
 {
-    rects::from(&frames(s).areas, s.shared.in_order(), p)
+    let mut list = Rects::none();
+    let above = &s.shared.in_order()[p.0..];
+    for id in above {
+        list.push(s.windows[id.0 as usize].at);
+    }
+    list
 }

@@ -8,7 +8,7 @@ ghost use Rattle.windows.specs.inner.One.{MeetsShared};
 ghost use Rattle.windows.specs.inner.Sharing.{indebted, cleaned_if};
 
 use crate::inner::frames::rects_from;
-use crate::inner::redraw::{draw_window, is_drawn};
+use crate::inner::redraw::{draw_at, is_drawn};
 use crate::{Session, Shared};
 use geom::inner::lent::{pixels_fit, store_fits};
 use geom::refusal::Refusal;
@@ -64,7 +64,7 @@ impl Session {
         }
         let at = self.shared.order[walk.next.0].0 as usize;
         let above = rects_from(self, walk.next.next());
-        draw_window(
+        draw_at(
             self,
             at,
             above.as_slice(),

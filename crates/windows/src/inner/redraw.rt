@@ -1,8 +1,10 @@
 // The call redraw: document 01, "Redraw, lowest window first".
-ghost use Rattle.std.specs.Prelude.{◌≡◌, cond, ◌||◌, ◌*◌, ◌≤◌, length};
+ghost use Rattle.std.specs.Prelude.{◌≡◌, cond, ◌||◌, ◌+◌, ◌*◌, ◌≤◌, length};
 ghost use Rattle.geom.specs.Refusals.{answer_of};
 ghost use Rattle.rules.specs.Redraw.{draw_all, clean_all};
 ghost use Rattle.rules.specs.Calls.{Call};
+ghost use Rattle.window.specs.Represents.{RepWindow};
+ghost use Rattle.rules.specs.inner.Lent.{AllFit};
 ghost use Rattle.windows.specs.View.{done, group, window_at, Rep, Given, MeetsScreen};
 ghost use Rattle.windows.specs.inner.Drawing.{Drawable, Painting, painted};
 
@@ -25,8 +27,56 @@ pub fn is_drawn(w: &Window, full: bool) -> bool
     full || w.marked
 }
 
-// Draws the window of a number under others, if it is to be drawn, as dimming is on or off.
+// Draws a window under others, as dimming is on or off. Its pixels begin at `base` of the store.
+fn paint_window(
+    win: &Window,
+    base: usize,
+    above: &[Rect],
+    full: bool,
+    dim: bool,
+    sw: u32,
+    sh: u32,
+    store: &[u32],
+    screen: &mut [u32],
+)
+    requires lent { RepWindow win.now × (base + win.now.at.w * win.now.at.h ≤ length store.now) × AllFit above.now × (length above.now ≤ 16) }
+    requires sw_bound { (sw ≤ 32767) × (sh ≤ 32767) × (length screen.old ≡ sw * sh) }
+    ensures { screen.new ≡ painted dim win.now full base above.now store.now sw sh screen.old }
+{
+    let dirty = dirty_of(full, &win.damage);
+    let view = View {
+        at: win.at.rect(),
+        base,
+        sw,
+        sh,
+        dim,
+    };
+    draw(view, above, dirty.as_slice(), store, screen);
+}
+
+// The same, if the window is to be drawn. The test stands apart, so that it is compiled into the loop over the windows.
 pub fn draw_window(
+    win: &Window,
+    base: usize,
+    above: &[Rect],
+    full: bool,
+    dim: bool,
+    sw: u32,
+    sh: u32,
+    store: &[u32],
+    screen: &mut [u32],
+)
+    requires lent { RepWindow win.now × (base + win.now.at.w * win.now.at.h ≤ length store.now) × AllFit above.now × (length above.now ≤ 16) }
+    requires sw_bound { (sw ≤ 32767) × (sh ≤ 32767) × (length screen.old ≡ sw * sh) }
+    ensures { screen.new ≡ cond (full || win.now.marked) (painted dim win.now full base above.now store.now sw sh screen.old) screen.old }
+{
+    if is_drawn(win, full) {
+        paint_window(win, base, above, full, dim, sw, sh, store, screen);
+    }
+}
+
+// The same of the window of a number in a session.
+pub fn draw_at(
     s: &Session,
     at: usize,
     above: &[Rect],
@@ -40,18 +90,19 @@ pub fn draw_window(
     requires sw_bound { (sw ≤ 32767) × (sh ≤ 32767) × (length screen.old ≡ sw * sh) }
     ensures { screen.new ≡ cond (full || (window_at s.now at).marked) (painted s.now.shared.dimmed (window_at s.now at) full (at * s.now.shared.c) above.now store.now sw sh screen.old) screen.old }
 {
-    let w = &s.windows[at];
-    if is_drawn(w, full) {
-        let dirty = dirty_of(full, &w.damage);
-        let view = View {
-            at: w.at.rect(),
-            base: at * s.shared.c as usize,
-            sw,
-            sh,
-            dim: s.shared.dimmed,
-        };
-        draw(view, above, dirty.as_slice(), store, screen);
-    }
+    let base = at * s.shared.c as usize;
+    let dim = s.shared.dimmed;
+    draw_window(
+        &s.windows[at],
+        base,
+        above,
+        full,
+        dim,
+        sw,
+        sh,
+        store,
+        screen,
+    );
 }
 
 // Draws every window, lowest first.
@@ -64,7 +115,7 @@ fn draw_all(s: &Session, full: bool, sw: u32, sh: u32, store: &[u32], screen: &m
     for p in 0..n {
         let at = s.shared.order[p].0 as usize;
         let above = &all.rects[p + 1..n];
-        draw_window(s, at, above, full, sw, sh, store, screen);
+        draw_at(s, at, above, full, sw, sh, store, screen);
     }
 }
 

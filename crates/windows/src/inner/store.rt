@@ -13,9 +13,9 @@ ghost use Rattle.windows.specs.inner.Lent.{BeginsAt};
 ghost use Rattle.windows.specs.inner.Pixels.{Becomes, RowsIn, PartIn, Paints, Resizable};
 
 use geom::Rect;
+use geom::inner::is_empty;
 use geom::inner::lent::store_fits;
 use geom::inner::rect16::Rect16;
-use geom::inner::{common, is_empty, meets};
 use geom::refusal::Refusal;
 use winbuf::inner::area::{blit_area, fill_area};
 use winbuf::inner::resize::resize_store;
@@ -42,10 +42,11 @@ fn part_in(at: Rect16, area: Rect) -> Option<Rect>
     ensures { PartIn (rect 0 0 at.w at.h) area result }
 {
     let all = Rect::new(0, 0, at.w as u32, at.h as u32);
-    if !meets(area, all) {
-        return None;
+    match area.intersect(all) {
+        Ok(part) => part,
+        // never: question 14 holds of both
+        Err(_) => None,
     }
-    Some(common(area, all))
 }
 
 // The area is added to the damage of the window.

@@ -40,8 +40,8 @@ next-requires c = omega (arith, place_low _ c.requires (not-false _ c.if-not-wal
 pub rects_from-above-requires : goal.rects_from-above-requires
 rects_from-above-requires c = (c.requires, omega (arith, c.next.ensures, place_low _ c.requires (not-false _ c.if-not-walk.false)))
 
-pub draw_window-requires-clause-lent : goal.draw_window-requires-clause-lent
-draw_window-requires-clause-lent c =
+pub draw_at-requires-clause-lent : goal.draw_at-requires-clause-lent
+draw_at-requires-clause-lent c =
     rw c.as_slice.ensures
     (paints _ c.requires (not-false _ c.if-not-walk.false) c.args.store.now (Lent.fits _ _ c.store_fits.ensures (ap not c.if-not-store_fits.false)) _ c.rects_from-above.ensures)
 
@@ -59,4 +59,4 @@ returns c =
     rw (c.clean.ensures, c.advance.ensures)
     (treats _ c.requires on a.width a.height a.store.now a.screen.now
     (Lent.fits _ _ c.store_fits.ensures (ap not c.if-not-store_fits.false)) (passed c.pixels_fit.ensures (ap not c.if-not-pixels_fit.false))
-    _ above _ c.draw_window.ensures)
+    _ above _ c.draw_at.ensures)

@@ -1,3 +1,4 @@
+-- The windows so far are where the frames say, and in use as they say.
 use Prim.Native.Nat.{◌≤◌}
 use Rattle.windows.specs.inner.Frames.{Framed}
 use Rattle.windows.proofs.inner.frames.frames.Given as goal
