@@ -24,7 +24,7 @@ fn main() {
     // A window takes the smallest unused id, here 0.
     let panel = WinId(0);
     check::expect(session.create().is_ok());
-    let size = Dims { w: 2, h: 2 };
+    let size = Dims::new(2, 2);
     check::expect(session.resize(panel, size, &mut store).is_ok());
     check::expect(session.show(panel).is_ok());
 

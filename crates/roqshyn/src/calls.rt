@@ -77,7 +77,7 @@ pub extern "C" fn roq_move(s: &mut Session, id: WinId, x: u32, y: u32) -> u32
     requires { Given s.old }
     ensures { Meets (Call.Move id.0 x y) s.old (done s.new result) }
 {
-    code(s.move_window(id, Pos { x, y }))
+    code(s.move_window(id, Pos::new(x, y)))
 }
 
 #[unsafe(no_mangle)]
@@ -85,7 +85,7 @@ pub extern "C" fn roq_drag(s: &mut Session, id: WinId, x: u32, y: u32) -> u32
     requires { Given s.old }
     ensures { Meets (Call.Drag id.0 x y) s.old (done s.new result) }
 {
-    code(s.drag(id, Pos { x, y }))
+    code(s.drag(id, Pos::new(x, y)))
 }
 
 #[unsafe(no_mangle)]
@@ -101,7 +101,7 @@ pub extern "C" fn roq_resize(s: &mut Session, id: WinId, w: u32, h: u32, store: 
     requires { Given s.old }
     ensures { MeetsStore (Call.Resize id.0 w h store.old) s.old (done s.new result) store.new }
 {
-    code(s.resize(id, Dims { w, h }, store))
+    code(s.resize(id, Dims::new(w, h), store))
 }
 
 #[unsafe(no_mangle)]

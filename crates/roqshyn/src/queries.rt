@@ -68,7 +68,7 @@ pub extern "C" fn roq_display_at(s: &Session, x: u32, y: u32) -> RoqDisplay
     requires { Given s.now }
     ensures { result ≡ displayed (display_at (group s.now) x y) }
 {
-    s.get_display_for_pos(Pos { x, y }).into()
+    s.get_display_for_pos(Pos::new(x, y)).into()
 }
 
 #[unsafe(no_mangle)]

@@ -4,7 +4,7 @@ ghost use Rattle.geom.specs.Bare.{bare_contains, bare_contains_rect, bare_within
 ghost use Rattle.roqshyn.specs.Rects.{as_tested, as_united, as_not_intersect, common};
 
 use crate::answers::code;
-use crate::values::NO_RECT;
+use crate::values::no_rect;
 use geom::refusal::Refusal;
 use geom::{Pieces, Pos, Rect};
 
@@ -51,7 +51,7 @@ impl From<Result<Option<Rect>, Refusal>> for RoqIntersection {
         RoqIntersection {
             answer,
             meets: common.is_some(),
-            rect: common.unwrap_or(NO_RECT),
+            rect: common.unwrap_or(no_rect()),
         }
     }
 }
@@ -73,7 +73,7 @@ impl From<Result<Rect, Refusal>> for RoqUnited {
     fn from(united: Result<Rect, Refusal>) -> RoqUnited {
         RoqUnited {
             answer: code(united),
-            rect: united.unwrap_or(NO_RECT),
+            rect: united.unwrap_or(no_rect()),
         }
     }
 }
@@ -95,7 +95,7 @@ impl From<Result<Pieces, Refusal>> for RoqNotIntersect {
     fn from(found: Result<Pieces, Refusal>) -> RoqNotIntersect {
         let none = Pieces {
             count: 0,
-            rects: [NO_RECT; 4],
+            rects: [no_rect(); 4],
         };
         RoqNotIntersect {
             answer: code(found),

@@ -1,20 +1,23 @@
 // What C gets of the calls of a session beside their answers. Where a call was refused each number is 0, and each
 // rectangle (0,0,0,0); only an id is then 4,294,967,295, which is no window's.
-ghost use Rattle.std.specs.Prelude.{◌≡◌};
+ghost use Rattle.std.specs.Prelude.{◌≡◌, false};
+ghost use Rattle.geom.specs.Geom.{rect};
 
 use crate::answers::code;
 use display::Located;
+use geom::Rect;
 use geom::refusal::Refusal;
-use geom::{Dims, Pos, Rect};
 use window::ids::WinId;
 use windows::{InView, WindowState};
 
 pub const NO_ID: WinId = WinId(4294967295);
 
-pub const NO_RECT: Rect = Rect {
-    pos: Pos { x: 0, y: 0 },
-    dims: Dims { w: 0, h: 0 },
-};
+// What a refused call has in place of a rectangle.
+pub fn no_rect() -> Rect
+    ensures { result ≡ rect 0 0 0 0 }
+{
+    Rect::new(0, 0, 0, 0)
+}
 
 #[repr(C)]
 #[derive(Clone, Copy)]
@@ -56,7 +59,7 @@ impl From<Result<Located, Refusal>> for RoqDisplay {
 
     fn from(found: Result<Located, Refusal>) -> RoqDisplay {
         let answer = code(found);
-        match found.unwrap_or(Located::Closest(NO_RECT)) {
+        match found.unwrap_or(Located::Closest(no_rect())) {
             Located::On(rect) => RoqDisplay {
                 answer,
                 on: true,
@@ -116,7 +119,7 @@ impl From<Result<Rect, Refusal>> for RoqPlaced {
     fn from(found: Result<Rect, Refusal>) -> RoqPlaced {
         RoqPlaced {
             answer: code(found),
-            rect: found.unwrap_or(NO_RECT),
+            rect: found.unwrap_or(no_rect()),
         }
     }
 }
@@ -141,7 +144,7 @@ impl From<Result<Option<Rect>, Refusal>> for RoqStale {
         RoqStale {
             answer: code(stale),
             due: rect.is_some(),
-            rect: rect.unwrap_or(NO_RECT),
+            rect: rect.unwrap_or(no_rect()),
         }
     }
 }
@@ -161,16 +164,20 @@ pub struct RoqWindow {
     pub moved: bool,
 }
 
-const NO_WINDOW: WindowState = WindowState {
-    rect: NO_RECT,
-    shown: false,
-    place: 0,
-    layer: 0,
-    maximised: false,
-    marked: false,
-    queued: 0,
-    moved: false,
-};
+fn no_window() -> WindowState
+    ensures { result ≡ record { rect = rect 0 0 0 0; shown = false; place = 0; layer = 0; maximised = false; marked = false; queued = 0; moved = false } }
+{
+    WindowState {
+        rect: no_rect(),
+        shown: false,
+        place: 0,
+        layer: 0,
+        maximised: false,
+        marked: false,
+        queued: 0,
+        moved: false,
+    }
+}
 
 impl From<Result<WindowState, Refusal>> for RoqWindow {
     ghost use Rattle.windows.specs.View.{window_in};
@@ -179,7 +186,7 @@ impl From<Result<WindowState, Refusal>> for RoqWindow {
     ghost from_gives = { λ found r. as_window r ≡ window_in found };
 
     fn from(found: Result<WindowState, Refusal>) -> RoqWindow {
-        let w = found.unwrap_or(NO_WINDOW);
+        let w = found.unwrap_or(no_window());
         RoqWindow {
             answer: code(found),
             rect: w.rect,
