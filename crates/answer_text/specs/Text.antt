@@ -1,5 +1,5 @@
 -- How answers are written. A byte is a number: a newline is 10, a space 32, `!` 33, `-` 45, the digits are 48 to 57, `?` is 63.
-use Rattle.std.specs.Prelude.{ℕ, zero, suc, ◌+◌, ◌/◌, ◌%◌, Bool, cond, List, [], ◌∷◌, ◌++◌, map, ltb, eqb, ℤ, pos, negsuc}
+use Rattle.std.specs.Prelude.{ℕ, zero, suc, ◌+◌, ◌/◌, ◌%◌, Bool, cond, List, [], ◌∷◌, ◌++◌, map, ltb, eqb, ℤ, pos, negsuc, Result, Ok, Err}
 use Rattle.geom.specs.declared.Rect.{Rect}
 use Rattle.geom.specs.Geom.{left, top, width, height}
 
@@ -51,6 +51,11 @@ line a ps = first a ∷ (ps ++ (end ∷ []))
 -- "on a refused call the line is `ANSWER` alone"
 abbrev pub answered : ℕ → List Piece → List Piece
 answered a ps = cond (eqb a 0) (line 0 ps) (line a [])
+
+-- the answer of a call: 0, or the number that `of` reads in what it was refused with
+abbrev pub answer_by : {A E : Type 0} → (E → ℕ) → Result A E → ℕ
+answer_by of (Ok _) = 0
+answer_by of (Err refused) = of refused
 
 -- "are answered by `!`"
 abbrev pub beyond : List Piece

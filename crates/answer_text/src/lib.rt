@@ -3,7 +3,7 @@
 
 ghost use Rattle.std.specs.Prelude.{◌≡◌, ℕ, [], ◌∷◌, ◌++◌, ◌+◌, ◌≤◌, length, cond, map};
 ghost use Rattle.arrayvec.specs.ArrayVec.{array_vec_len};
-ghost use Rattle.geom.specs.Refusals.{answer_of};
+ghost use Rattle.geom.specs.Refusals.{answer_of, number};
 ghost use Rattle.answer_text.specs.Text as Text;
 ghost use Rattle.answer_text.specs.Text.{decimal};
 ghost use Rattle.answer_text.specs.Added.{handed_over, waits, Says};
@@ -61,6 +61,26 @@ impl Number for usize {
 
     fn wide(self) -> u64 {
         self as u64
+    }
+}
+
+impl Number for Refusal {
+    ghost value = { λ refusal. number refusal };
+
+    fn wide(self) -> u64 {
+        u64::from(self.number())
+    }
+}
+
+// An answer: 0, or the number that a call was refused with.
+impl Number for Result<(), Refusal> {
+    ghost value = { λ answer. answer_of answer };
+
+    fn wide(self) -> u64 {
+        match self {
+            Ok(()) => 0,
+            Err(refusal) => refusal.wide(),
+        }
     }
 }
 
@@ -173,14 +193,10 @@ impl Output {
     }
 
     // A line of an answer alone.
-    pub fn answer(&mut self, answer: Result<(), Refusal>)
-        ensures { Says (Text.line (answer_of answer) []) self.old self.new }
+    pub fn answer<N: Number>(&mut self, answer: N)
+        ensures { Says (Text.line (N.value answer) []) self.old self.new }
     {
-        let number = match answer {
-            Ok(()) => 0,
-            Err(refusal) => refusal.number(),
-        };
-        self.number(u64::from(number));
+        self.number(answer.wide());
         self.end();
     }
 
@@ -217,7 +233,6 @@ fn put_number(block: &mut ArrayVec<u8, 65536>, n: u64)
 {
     let mut digits = [0u8; 20];
     let k = io::decimal(n, &mut digits);
-    for &digit in &digits[..k] {
-        block.push(digit);
-    }
+    // never refused, since there is room for twenty
+    let _ = block.try_extend_from_slice(&digits[..k]);
 }

@@ -1,5 +1,6 @@
 -- What the lines write whose calls need no session: the table of CALL-SCRIPT.md, "Bare geometry and bare pixels".
-use Rattle.std.specs.Prelude.{ℕ, ◌+◌, ◌-◌, cond, List, [], ◌∷◌, eqb, length, take, drop}
+use Rattle.std.specs.Prelude.{ℕ, ◌+◌, ◌-◌, cond, List, [], ◌∷◌, eqb, length, take, drop, Result, Ok, Err}
+use Rattle.std.specs.Borrow.{Bor}
 use Rattle.std.proofs.Math.Option.{Option, none, some}
 use Rattle.geom.specs.declared.Rect.{Rect}
 use Rattle.geom.specs.Bare.{Tested, United, Met, answer14, both_fit, bare_contains, bare_contains_rect, bare_within, bare_union, bare_intersect, bare_pieces}
@@ -47,6 +48,11 @@ rect_line k ns =
 -- "`ANSWER` and the numbers of the part"; "`ANSWER` and the numbers of the region's slice"
 abbrev pub part_line : ℕ → List ℕ → List Piece
 part_line a part = answered a (numbers part)
+
+-- the numbers of a part that was handed back: none where the call was refused
+abbrev pub part_of : {E : Type 0} → Result (Bor (List ℕ)) E → List ℕ
+part_of (Ok part) = part.now
+part_of (Err _) = []
 
 abbrev pub handed_line : Part → List Piece
 handed_line p = part_line p.answer p.pixels

@@ -2,7 +2,6 @@
 ghost use Rattle.std.specs.Prelude.{◌≡◌, ◌≤◌, ◌∷◌, take};
 ghost use Rattle.geom.specs.Bare.{BareNotIntersect, Tested, tested_of, united_of, met, not_intersect_of, bare_union, bare_intersect, bare_pieces, answer14, both_fit};
 ghost use Rattle.geom.specs.Refusals.{option_of};
-ghost use Rattle.script.specs.Kind.{code_of};
 ghost use Rattle.answer_text.specs.Text.{number, rectangle, rectangles};
 ghost use Rattle.answer_text.specs.Added.{Says};
 ghost use Rattle.bare_lines.specs.Told.{rectangle_or, met_line, united_line, pieces_line, tested_line, rect_line};
@@ -12,21 +11,30 @@ use crate::numbers::Numbers;
 use answer_text::Output;
 use geom::refusal::Refusal;
 use geom::{Pieces, Rect};
-use script::kind::Kind;
+use script::kind::{Kind, Numbered, is};
 
-pub fn rect_line(k: Kind, ns: &Numbers, out: &mut Output)
-    ensures { Says (rect_line (code_of k) ns.now) out.old out.new }
+// A number that is none of the five kinds is taken for the last, `within`.
+pub fn rect_line<K: Numbered>(k: K, ns: &Numbers, out: &mut Output)
+    ensures { Says (rect_line (K.code k) ns.now) out.old out.new }
 {
     let a = numbers::rect(ns, 0);
     let b = numbers::rect(ns, 4);
-    match k {
-        Kind::Intersect => found(a.intersect(b), out),
-        Kind::Pieces => pieces(a, b, out),
-        Kind::Union => united(a.union(b), out),
-        Kind::Contains => tested(a.contains(numbers::pos(ns, 4)), out),
-        Kind::ContainsRect => tested(a.contains_rect(b), out),
-        _ => tested(a.within(ns[4], ns[5]), out),
+    if is(k, Kind::Intersect) {
+        return found(a.intersect(b), out);
     }
+    if is(k, Kind::Pieces) {
+        return pieces(a, b, out);
+    }
+    if is(k, Kind::Union) {
+        return united(a.union(b), out);
+    }
+    if is(k, Kind::Contains) {
+        return tested(a.contains(numbers::pos(ns, 4)), out);
+    }
+    if is(k, Kind::ContainsRect) {
+        return tested(a.contains_rect(b), out);
+    }
+    tested(a.within(ns[4], ns[5]), out);
 }
 
 pub fn write_rect(r: Rect, out: &mut Output)
@@ -57,7 +65,7 @@ pub fn found(found: Result<Option<Rect>, Refusal>, out: &mut Output)
             write_rect_or_none(rect, out);
             out.end();
         }
-        Err(refusal) => out.answer(Err(refusal)),
+        Err(refusal) => out.answer(refusal),
     }
 }
 
@@ -70,7 +78,7 @@ fn united(united: Result<Rect, Refusal>, out: &mut Output)
             write_rect(rect, out);
             out.end();
         }
-        Err(refusal) => out.answer(Err(refusal)),
+        Err(refusal) => out.answer(refusal),
     }
 }
 
@@ -83,7 +91,7 @@ fn pieces(a: Rect, b: Rect, out: &mut Output)
             write_pieces(pieces, out);
             out.end();
         }
-        Err(refusal) => out.answer(Err(refusal)),
+        Err(refusal) => out.answer(refusal),
     }
 }
 
@@ -113,6 +121,6 @@ fn tested(yes: Result<bool, Refusal>, out: &mut Output)
             out.more(yes);
             out.end();
         }
-        Err(refusal) => out.answer(Err(refusal)),
+        Err(refusal) => out.answer(refusal),
     }
 }

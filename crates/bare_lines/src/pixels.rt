@@ -1,15 +1,15 @@
 // The lines of bare pixels. The pixels are numbers of the line.
 ghost use Rattle.std.specs.Prelude.{◌≡◌, ◌+◌, ◌≤◌, length};
-ghost use Rattle.winbuf.specs.Bare.{pixels_of};
 ghost use Rattle.geom.specs.Refusals.{answer_of, value_or};
+ghost use Rattle.answer_text.specs.Text.{answer_by};
 ghost use Rattle.answer_text.specs.Added.{Says};
-ghost use Rattle.bare_lines.specs.Told.{part_line, altered_line, scanline_line, fill_line, set_line, region_line, pixel_line};
+ghost use Rattle.bare_lines.specs.Told.{part_line, part_of, altered_line, scanline_line, fill_line, set_line, region_line, pixel_line};
 ghost use Rattle.script.specs.Kind as Code;
 ghost use Rattle.script.specs.Kind.{code_of};
 ghost use Rattle.bare_lines.specs.Numbers.{num, Sound};
 
 use crate::numbers::Numbers;
-use answer_text::Output;
+use answer_text::{Number, Output};
 use geom::refusal::Refusal;
 use script::Line;
 use script::kind::Kind;
@@ -27,9 +27,9 @@ pub fn pixel_line(line: Line, ns: &mut Numbers, out: &mut Output)
     }
 }
 
-// The numbers of a part.
-pub fn write_part(part: Result<&[u32], Refusal>, out: &mut Output)
-    ensures { Says (part_line (answer_of part.entry) (pixels_of part.entry)) out.old out.new }
+// The numbers of a part, or the number that it was refused with.
+pub fn write_part<N: Number>(part: Result<&[u32], N>, out: &mut Output)
+    ensures { Says (part_line (answer_by N.value part.entry) (part_of part.entry)) out.old out.new }
 {
     match part {
         Ok(pixels) => {
@@ -37,7 +37,7 @@ pub fn write_part(part: Result<&[u32], Refusal>, out: &mut Output)
             out.all(pixels);
             out.end();
         }
-        Err(refusal) => out.answer(Err(refusal)),
+        Err(number) => out.answer(number),
     }
 }
 
@@ -52,7 +52,7 @@ fn write_altered(altered: Result<usize, Refusal>, pixels: &[u32], out: &mut Outp
             out.all(pixels);
             out.end();
         }
-        Err(refusal) => out.answer(Err(refusal)),
+        Err(refusal) => out.answer(refusal),
     }
 }
 

@@ -16,7 +16,7 @@ const BLIT: usize = 384000;
 const TIMES: usize = 4200;
 
 // With each word the kind, how many numbers a line has at least, and how many may follow these.
-const ROWS: [(&[u8], Kind, usize, usize); 63] = [
+pub const ROWS: [(&[u8], Kind, usize, usize); 63] = [
     (b"start", Kind::Start, 1, 0),
     (b"create", Kind::Create, 0, 0),
     (b"show", Kind::Show, 1, 0),
