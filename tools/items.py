@@ -3,7 +3,7 @@ import dataclasses
 import re
 
 # The attributes that an item here may have.
-ATTRIBUTES = ("repr", "no_mangle", "unsafe", "derive", "tactic")
+ATTRIBUTES = ("repr", "no_mangle", "unsafe", "derive", "inline", "tactic")
 # The public modules of a crate that has calls: what our own crates need, and why a call is refused.
 PUBLIC = ("inner", "refusal")
 WORD = re.compile(r"\s+|//[^\n]*|/\*|b?\"(?:\\.|[^\"\\])*\"|b'(?:\\.|[^'\\])'|'\w+|«\w+»|::|->|--|\w[\w·]*|.", re.S)

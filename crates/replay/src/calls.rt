@@ -124,7 +124,7 @@ fn write_created(made: Result<WinId, Refusal>, out: &mut Output)
             out.more(id.0);
             out.end();
         }
-        Err(refusal) => out.answer(Err(refusal)),
+        Err(refusal) => out.answer(refusal),
     }
 }
 
@@ -145,7 +145,7 @@ fn write_popped(popped: Result<Event, Refusal>, out: &mut Output)
             events::write_event(event, out);
             out.end();
         }
-        Err(refusal) => out.answer(Err(refusal)),
+        Err(refusal) => out.answer(refusal),
     }
 }
 

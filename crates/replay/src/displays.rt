@@ -42,7 +42,7 @@ fn write_for_pos(found: Result<Located, Refusal>, out: &mut Output)
             write_located(located, out);
             out.end();
         }
-        Err(refusal) => out.answer(Err(refusal)),
+        Err(refusal) => out.answer(refusal),
     }
 }
 

@@ -36,7 +36,7 @@ fn write_hits(answer: Result<(), Refusal>, n: usize, list: &[u32; 7812], out: &m
             out.all(&list[..n]);
             out.end();
         }
-        Err(refusal) => out.answer(Err(refusal)),
+        Err(refusal) => out.answer(refusal),
     }
 }
 

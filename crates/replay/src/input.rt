@@ -4,7 +4,7 @@ ghost use Rattle.script.specs.Machine.{Reads};
 ghost use Rattle.replay.specs.Ready.{Ready};
 ghost use Rattle.replay.specs.Played.{pixels};
 ghost use Rattle.replay.specs.Run.{Finished};
-ghost use Rattle.replay.specs.inner.Run.{HearsOut, RunsTo};
+ghost use Rattle.replay.specs.inner.Run.{Ends, HearsOut, RunsTo};
 
 use crate::player::Player;
 use bare_lines::numbers::Numbers;
@@ -50,10 +50,28 @@ pub fn play<R: Files>(
             name,
         );
     }
-    // The last line may lack its newline.
     sized(name);
-    ended(files, &mut p, reading, store, screen, list, ns, word, name);
-    p.out.flush();
+    finish(files, &mut p, reading, store, screen, list, ns, word, name);
+}
+
+// Plays the line that was read last, which may lack its newline, and hands over all that waits.
+fn finish<R: Files>(
+    files: &R,
+    p: &mut Player,
+    reading: Reading,
+    store: &mut [u32; 6144000],
+    screen: &mut [u32; 3072000],
+    list: &mut [u32; 7812],
+    ns: &mut Numbers,
+    word: &[u8; 16],
+    name: &[u8; 64],
+)
+    requires { Ready p.old }
+    ensures { (bs : List ℕ) → length name.now ≡ 64 → Reads bs reading word.now ns.old name.now
+        → Ends bs p.old (pixels store.old screen.old) p.new (pixels store.new screen.new) }
+{
+    ended(files, p, reading, store, screen, list, ns, word, name);
+    p.out.flush(); // none waits any more
 }
 
 // Does nothing. It says how long the name is, to a caller that lent it to be written.

@@ -87,7 +87,7 @@ fn write_altered(altered: Result<usize, Refusal>, counts: bool, out: &mut Output
     match altered {
         Ok(n) if counts => out.counted(n),
         Ok(_) => out.answer(Ok(())),
-        Err(refusal) => out.answer(Err(refusal)),
+        Err(refusal) => out.answer(refusal),
     }
 }
 
@@ -203,7 +203,7 @@ pub fn write_rects(count: Result<usize, Refusal>, list: &[u32; 7812], out: &mut 
             out.all(&list[..4 * count]);
             out.end();
         }
-        Err(refusal) => out.answer(Err(refusal)),
+        Err(refusal) => out.answer(refusal),
     }
 }
 

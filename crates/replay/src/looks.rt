@@ -96,11 +96,13 @@ fn write_target(answer: Result<(), Refusal>, target: &[u32], out: &mut Output)
     ensures { Says (part_line (answer_of answer) target.now) out.old out.new }
 {
     match answer {
-        Ok(()) => pixels::write_part(Ok(target), out),
-        Err(refusal) => out.answer(Err(refusal)),
+        Ok(()) => pixels::write_part::<Refusal>(Ok(target), out),
+        Err(refusal) => out.answer(refusal),
     }
 }
 
+// It stands apart when it is compiled too: other lines need no stack for a target.
+#[inline(never)]
 fn looked(p: &mut Player, k: Kind, ns: &Numbers, store: &[u32; 6144000], len: usize)
     requires { Ready p.old × (len ≤ 65536) }
     ensures { Next (part_line (asks (group p.old.session) (code_of k) ns.now (take p.old.lent store.now) (replicate len 4294967295)).answer (asks (group p.old.session) (code_of k) ns.now (take p.old.lent store.now) (replicate len 4294967295)).target) (untargeted p.old) p.old.session p.new }

@@ -25,7 +25,7 @@ fn write_share(found: Result<InView, Refusal>, out: &mut Output)
             out.more(share.remainder);
             out.end();
         }
-        Err(refusal) => out.answer(Err(refusal)),
+        Err(refusal) => out.answer(refusal),
     }
 }
 

@@ -91,7 +91,7 @@ fn write_sheet(count: Result<usize, Refusal>, bytes: &[u8], out: &mut Output)
             out.all(&bytes[..count]);
             out.end();
         }
-        Err(refusal) => out.answer(Err(refusal)),
+        Err(refusal) => out.answer(refusal),
     }
 }
 

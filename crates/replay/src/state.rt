@@ -39,7 +39,7 @@ fn write_window(state: Result<WindowState, Refusal>, out: &mut Output)
             write_rest(state, out);
             out.end();
         }
-        Err(refusal) => out.answer(Err(refusal)),
+        Err(refusal) => out.answer(refusal),
     }
 }
 

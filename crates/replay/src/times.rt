@@ -23,7 +23,7 @@ fn write_second(second: Result<Second, Refusal>, out: &mut Output)
             out.more(second.place);
             out.end();
         }
-        Err(refusal) => out.answer(Err(refusal)),
+        Err(refusal) => out.answer(refusal),
     }
 }
 

@@ -76,7 +76,7 @@ fn write_routed(routed: Result<Option<Taken>, Refusal>, out: &mut Output)
             write_taker(taker, out);
             out.end();
         }
-        Err(refusal) => out.answer(Err(refusal)),
+        Err(refusal) => out.answer(refusal),
     }
 }
 

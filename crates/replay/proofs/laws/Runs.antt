@@ -18,7 +18,7 @@ use Rattle.replay.specs.declared.player.Player.{Player}
 use Rattle.replay.specs.Ready.{Ready, Next, with_output, counted}
 use Rattle.replay.specs.Played.{Pixels, Plays, Writes, Hears, passes, spoils, exceeds, starts, creates, plain, stores, pops, redraws, lists, asks_hits, asks_focus, lends, lends_screen, lends_list, asks_busiest, asks_share, asks_display, asks_look, lends_target, reads_sheet, asks_sheet, lends_sheet, asks_stale, asks_waiting, asks_window, asks_session, asks_who, shows_screen, shows_pixels, shows_picture, shows_rect, shows_part}
 use Rattle.replay.specs.Run.{Fresh, Stage, OneLine, Runs, pends, ends, hands, Finished}
-use Rattle.replay.specs.inner.Run.{HearsOut, RunsTo}
+use Rattle.replay.specs.inner.Run.{Ends, HearsOut, RunsTo}
 
 -- A line --------------------------------------------------------------------------------------------------------------
 
@@ -245,13 +245,14 @@ module _ {a : Pixels} {p : Player} {b : Pixels} {reading : Reading} {w ns name :
         run = record { text = q.run.text ++ m.text; line = m.line; runs = runs_then q.run.runs m.runs; reads = m.reads };
       }
 
-  pub finished : {r : Player} {c : Pixels} → ((bs : List ℕ) → Reads bs reading w ns name → HearsOut bs p b r c) → Finished a
+  pub finished : {r : Player} {c : Pixels} → ((bs : List ℕ) → Reads bs reading w ns name → Ends bs p b r c) → Finished a
   finished {r} {c} f =
       let last : Stage = record { player = p; pixels = b; line = q.run.line } in
-      let heard = f q.run.line q.run.reads in
+      let ending = f q.run.line q.run.reads in
+      let heard = ending.hears in
       let text = q.run.text ++ heard.text in
       let ran = runs_adds q.fresh.ready.at q.fresh.ready.sent q.run.runs in
-      let adds : Says text q.first.out r.out = then ran (left_of heard.hears.plays).adds in
+      let adds : Says text q.first.out ending.end.out = then ran (left_of heard.hears.plays).adds in
       record {
         first = q.first;
         fresh = q.fresh;
@@ -260,7 +261,7 @@ module _ {a : Pixels} {p : Player} {b : Pixels} {reading : Reading} {w ns name :
         last = last;
         runs = q.run.runs;
         tail = heard.text;
-        end = r;
+        end = ending.end;
         pixels = c;
         hears = heard.hears;
         count = length (said text);

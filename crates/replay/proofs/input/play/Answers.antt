@@ -24,4 +24,4 @@ returns g c =
       | then-loop-turn-test+then-n-eq0 w ↦
           subst (λ (p : Player). SoFar first p (pixels l.store l.screen) l.reading l.word l.ns l.name) (sym w.p-is) (flushed_run l.invariant.1 w.flush.ensures)
     ] in
-    finished q (λ bs r. c.ended.ensures.by_index bs c.sized-2.ensures r)
+    finished q (λ bs r. c.finish.ensures bs c.sized-2.ensures r)
