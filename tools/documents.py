@@ -1,12 +1,12 @@
 """documents.py [--write | --test]: sees that what the documents name and count is there.
 
-The documents are all pages in Markdown but docs/PORT.md and docs/DESIGN-PASS.md, which set older names beside today's,
-NOTICE, and the comments of the header, of the Rust bindings and of the examples. Of docs/CHANGES.md only the newest
-entry is held to it. Checked are the names in backticks (named.py), the name of a thing beside the file that has it, the exported calls,
-commands and code of indented blocks, links and their anchors, numbers of decisions, questions, duties and entries,
-counts and sizes (figures.py), lists (listed.py), and how wide lines are. A line says what is wrong, and the status is
-then 1. With --write paragraphs that are too wide are wrapped first. With --test it also makes edits that it has to
-refuse (documents_test.py).
+The documents are all pages in Markdown but docs/PORT.md, docs/DESIGN-PASS.md and docs/LOOK-BACK.md, which set older
+names beside today's, NOTICE, and the comments of the header, of the Rust bindings and of the examples. Of
+docs/CHANGES.md only the newest entry is held to it. Checked are the names in backticks (named.py), the name of a thing
+beside the file that has it, the exported calls, commands and code of indented blocks, links and their anchors, numbers
+of decisions, questions, duties and entries, counts and sizes (figures.py), lists (listed.py), and how wide lines are. A
+line says what is wrong, and the status is then 1. With --write paragraphs that are too wide are wrapped first. With
+--test it also makes edits that it has to refuse (documents_test.py).
 
 The original is in the folder ROQSHYN_ORIGINAL, or else in ../shared/docs/src beside the repository. Where it is not at
 hand, names that only it has are left out.
@@ -37,7 +37,7 @@ PLAIN = re.compile(
 # tools/trace sees to the rows of the first, and the rows of the second are calls that are still to come, too.
 WITHOUT_ROWS = ("docs/TRACE.md", "docs/ADDITIONS.md")
 # Names and texts as they were stand there.
-OLDER = ("docs/PORT.md", "docs/DESIGN-PASS.md")
+OLDER = ("docs/PORT.md", "docs/DESIGN-PASS.md", "docs/LOOK-BACK.md")
 # Written by bench/run.
 MADE = ("docs/speed-table.md",)
 # The words of a licence are kept as they were published.
@@ -48,7 +48,7 @@ QUOTING = ("docs/PROVING.md", "docs/PROMISES.md")
 EXCEPTIONS = {
     "docs/ADDING-A-CALL.md": ("probe",),  # a word that was added to try it
     "docs/CALL-SCRIPT.md": ("read-sheet BYTE…",),  # a stand-in for numbers
-    "docs/SAFETY-MANUAL.md": (".bss", "quicksort", "median_of_medians"),  # a section that an archive does not have, and functions of the kit
+    "docs/SAFETY-MANUAL.md": (".bss",),  # a section that an archive does not have
     "docs/TRACE.md": ("N5.2", "File.name", "crate/File.name", "crate::path::function"),  # forms of names
 }
 WIDTHS = {"README.md": 100}
