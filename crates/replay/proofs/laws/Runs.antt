@@ -245,14 +245,13 @@ module _ {a : Pixels} {p : Player} {b : Pixels} {reading : Reading} {w ns name :
         run = record { text = q.run.text ++ m.text; line = m.line; runs = runs_then q.run.runs m.runs; reads = m.reads };
       }
 
-  pub finished : {r : Player} {c : Pixels} → ((bs : List ℕ) → Reads bs reading w ns name → Ends bs p b r c) → Finished a
-  finished {r} {c} f =
+  -- the last line was played; what waits then is handed over
+  finished_line : {r : Player} {c : Pixels} → HearsOut q.run.line p b r c → Finished a
+  finished_line {r} {c} heard =
       let last : Stage = record { player = p; pixels = b; line = q.run.line } in
-      let ending = f q.run.line q.run.reads in
-      let heard = ending.hears in
       let text = q.run.text ++ heard.text in
       let ran = runs_adds q.fresh.ready.at q.fresh.ready.sent q.run.runs in
-      let adds : Says text q.first.out ending.end.out = then ran (left_of heard.hears.plays).adds in
+      let adds : Says text q.first.out r.out = then ran (left_of heard.hears.plays).adds in
       record {
         first = q.first;
         fresh = q.fresh;
@@ -261,10 +260,17 @@ module _ {a : Pixels} {p : Player} {b : Pixels} {reading : Reading} {w ns name :
         last = last;
         runs = q.run.runs;
         tail = heard.text;
-        end = ending.end;
+        end = r;
         pixels = c;
         hears = heard.hears;
         count = length (said text);
         is = all_handed q.fresh.out adds;
         all = refl;
       }
+
+  pub finished : {r : Player} {c : Pixels} → ((bs : List ℕ) → Reads bs reading w ns name → HearsOut bs p b r c) → Finished a
+  finished f = finished_line (f q.run.line q.run.reads)
+
+  -- the same where it was handed over too
+  pub finished_handed : {r : Player} {c : Pixels} → ((bs : List ℕ) → Reads bs reading w ns name → Ends bs p b r c) → Finished a
+  finished_handed f = finished_line (f q.run.line q.run.reads).hears

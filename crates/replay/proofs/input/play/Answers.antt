@@ -3,7 +3,7 @@ use Rattle.std.proofs.Common.{sym, subst}
 use Rattle.replay.specs.declared.player.Player.{Player}
 use Rattle.replay.specs.Played.{pixels}
 use Rattle.replay.proofs.input.play.Goals.{else-loop-turn-test, then-loop-turn-test+then-n-eq0}
-use Rattle.replay.proofs.laws.Runs.{SoFar, none_read, flushed_run, block_run, finished}
+use Rattle.replay.proofs.laws.Runs.{SoFar, none_read, flushed_run, block_run, finished_handed}
 use Rattle.replay.proofs.input.play.Goals as goal
 
 pub loop-turn-init : goal.loop-turn-init
@@ -24,4 +24,4 @@ returns g c =
       | then-loop-turn-test+then-n-eq0 w ↦
           subst (λ (p : Player). SoFar first p (pixels l.store l.screen) l.reading l.word l.ns l.name) (sym w.p-is) (flushed_run l.invariant.1 w.flush.ensures)
     ] in
-    finished q (λ bs r. c.finish.ensures bs c.sized-2.ensures r)
+    finished_handed q (λ bs r. c.finish.ensures bs c.sized-2.ensures r)
