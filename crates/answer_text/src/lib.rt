@@ -226,8 +226,8 @@ impl Output {
     }
 }
 
-fn put_number(block: &mut ArrayVec<u8, 65536>, n: u64)
-    requires { array_vec_len block.old + 20 ≤ 65536 }
+fn put_number<const N: usize>(block: &mut ArrayVec<u8, N>, n: u64)
+    requires { array_vec_len block.old + 20 ≤ N }
     ensures put { block.new.items ≡ block.old.items ++ decimal n }
     ensures len { array_vec_len block.new ≤ array_vec_len block.old + 20 }
 {

@@ -45,7 +45,8 @@ fn part<W: Write>(file: &mut W, pixels: &[u32], block: &mut [u8; 65536]) -> io::
     file.write_all(&block[..3 * pixels.len()])
 }
 
-fn header(w: u32, h: u32, block: &mut ArrayVec<u8, 65536>)
+// The block has room for six bytes and three numbers of twenty digits.
+fn header(w: u32, h: u32, block: &mut ArrayVec<u8, 66>)
     requires { block.old.items ≡ [] }
     ensures { block.new.items ≡ Picture.header w h }
 {
