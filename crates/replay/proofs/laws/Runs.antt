@@ -271,6 +271,6 @@ module _ {a : Pixels} {p : Player} {b : Pixels} {reading : Reading} {w ns name :
   pub finished : {r : Player} {c : Pixels} → ((bs : List ℕ) → Reads bs reading w ns name → HearsOut bs p b r c) → Finished a
   finished f = finished_line (f q.run.line q.run.reads)
 
-  -- the same where it was, as `finish` says
+  -- the same where that was handed over, as `finish` does
   pub finished_handed : {r : Player} {c : Pixels} → ((bs : List ℕ) → Reads bs reading w ns name → Ends bs p b r c) → Finished a
   finished_handed f = finished_line (f q.run.line q.run.reads).hears

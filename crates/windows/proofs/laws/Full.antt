@@ -97,7 +97,7 @@ pub lent_painted : (dim : Bool) (w : Window) (full : Bool) (base : ℕ) (bs : Li
     → screen' ≡ painted dim w full base bs store sw sh screen
 lent_painted dim w full base bs store sw sh screen r ds screen' s e k q = q ∙ rw (e, k) (dirty_drawn dim (rect_of w.at) s bs base store sw sh screen full (rects w.damage))
 
--- the same of a window that is to be drawn, as a test says
+-- the same with the test whether the window is drawn, which it is
 pub lent_drawn : (dim : Bool) (w : Window) (full : Bool) (base : ℕ) (bs : List Rect) (store : List ℕ) (sw sh : ℕ) (screen : List ℕ) (r : Rect) (ds : List Rect) (screen' : List ℕ)
     → Small (rect_of w.at) → full || w.marked ≡ true → r ≡ rect_of w.at → ds ≡ dirty_of full (rects w.damage)
     → screen' ≡ draw_regions dim r base store sw sh (list_intersect (map (relative r) (outside_all (r ∷ []) bs)) ds) screen
